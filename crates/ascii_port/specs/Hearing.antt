@@ -24,13 +24,13 @@ pub record HasDigits (stream bytes rest : List ℕ) : Type 0 where
   pub values : byte_values digits ≡ bytes
 
 -- What a stage says of the stream.
-abbrev pub StandsAt : Stage → List ℕ → List ℕ → Type 0
-StandsAt Outside bytes stream = IsClosed stream
-StandsAt Pairs bytes stream = HasDigits stream bytes []
-StandsAt (High high) bytes stream =
+abbrev pub HasCome : Stage → List ℕ → List ℕ → Type 0
+HasCome Outside bytes stream = IsClosed stream
+HasCome Pairs bytes stream = HasDigits stream bytes []
+HasCome (High high) bytes stream =
     (digit : ℕ) × (frame_digit digit ≡ Some high.value) × HasDigits stream bytes (digit ∷ [])
-StandsAt Return bytes stream = HasDigits stream bytes (13 ∷ [])
-StandsAt Whole bytes stream = IsClosed stream
+HasCome Return bytes stream = HasDigits stream bytes (13 ∷ [])
+HasCome Whole bytes stream = IsClosed stream
 
 -- The frame that ends with the last byte, where a stage says so.
 abbrev pub ended : Stage → List ℕ → List AsciiFrame
@@ -39,12 +39,12 @@ ended _ bytes = []
 
 -- What a stage says of the stream with one more byte, and the frame that the byte ended.
 pub record StandsBehind (stage : Stage) (bytes stream : List ℕ) (byte : ℕ) : Type 0 where
-  pub stands : StandsAt stage bytes (stream ++ byte ∷ [])
+  pub stands : HasCome stage bytes (stream ++ byte ∷ [])
   pub grows : frames (stream ++ byte ∷ []) ≡ frames stream ++ ended stage bytes
 
 -- The bytes that a port has taken are this stream.
 abbrev pub HasHeard : Port → List ℕ → Type 0
-HasHeard port stream = StandsAt port.stage port.bytes stream
+HasHeard port stream = HasCome port.stage port.bytes stream
 
 -- The last byte that a port has taken ended a frame.
 pub record HasFrame (port : Port) : Type 0 where
@@ -52,12 +52,12 @@ pub record HasFrame (port : Port) : Type 0 where
   pub fits : 3 ≤ length port.bytes
 
 -- The frame that a port answers with, if it does.
-abbrev pub answered : Port → Fed → List AsciiFrame
-answered port More = []
-answered port Frame = frame_of port.bytes ∷ []
+abbrev pub frame_told : Port → Fed → List AsciiFrame
+frame_told port More = []
+frame_told port Frame = frame_of port.bytes ∷ []
 
 -- A port takes the next byte of a stream: the stream gets the frame that the port answers with,
 -- and none where it answers More.
 pub record HearsByte (port : Port) (stream : List ℕ) (byte : ℕ) (fed : Fed) : Type 0 where
   pub heard : HasHeard port (stream ++ byte ∷ [])
-  pub grows : frames (stream ++ byte ∷ []) ≡ frames stream ++ answered port fed
+  pub grows : frames (stream ++ byte ∷ []) ≡ frames stream ++ frame_told port fed

@@ -2,7 +2,7 @@
 ghost use Rattle.std.specs.Prelude.{◌≡◌, ◌≤◌, ℕ, List, [], ◌↔◌, length};
 ghost use Rattle.plant_types.specs.Words.{IsPduLength};
 ghost use Rattle.ascii_port.specs.Frames.{frame_of};
-ghost use Rattle.ascii_port.specs.Hearing.{HasFrame, HasHeard, HearsByte, StandsAt, StandsBehind};
+ghost use Rattle.ascii_port.specs.Hearing.{HasFrame, HasHeard, HearsByte, HasCome, StandsBehind};
 ghost use Rattle.ascii_port.specs.declared.port.Fed.TheVariants.{Frame as FrameCame};
 ghost use Rattle.ascii_port.specs.declared.port.Stage.TheVariants.{Whole};
 
@@ -34,7 +34,7 @@ enum Stage {
 /// The stage behind one more byte.
 fn stage_after(stage: Stage, bytes: &mut Gathered, byte: u8) -> Stage
     ensures fits { result ≡ Whole → 3 ≤ length bytes.new }
-    ensures stands { (stream : List ℕ) → StandsAt stage bytes.old stream →
+    ensures stands { (stream : List ℕ) → HasCome stage bytes.old stream →
         StandsBehind result bytes.new stream byte }
 {
     if byte == b':' {

@@ -1,9 +1,10 @@
 -- What is counted is how much is read.
 use Rattle.std.proofs.Common.{◌≡◌, ℕ, ◌+◌, ◌==◌, Bool, true, false, List, [], ◌∷◌, length, map}
-use Rattle.std.proofs.Common.{Option, Some, None, refl, ◌∙◌, arith, if◌then◌else◌}
+use Rattle.std.proofs.Common.{◌++◌, Option, Some, None, refl, sym, ap, ◌∙◌, arith, append_assoc}
+use Rattle.std.proofs.Common.{if◌then◌else◌, append-nil}
 use Rattle.std.specs.Prelude.{filter_map}
 use Rattle.std.specs.List.{flat_map, cons_option}
-use Rattle.std.proofs.lemmas.List.{length-append}
+use Rattle.std.proofs.lemmas.List.{length-append, map-append}
 use Rattle.controller_core.specs.declared.call.Call.{Call}
 use Rattle.controller_core.specs.declared.call.CallKind.{CallKind}
 use Rattle.controller_core.specs.declared.call.CallKind.TheVariants as call_kinds
@@ -20,8 +21,12 @@ use Rattle.ring_core.specs.declared.entry.LocalOp.{LocalOp}
 use Rattle.mstr_block.specs.declared.call.MstrResult.{MstrResult}
 use Rattle.ring_core.specs.declared.entry.RingEntry.{RingEntry}
 use Rattle.ring_core.specs.declared.entry.RingEntry.TheVariants.{Post, Send, Take, Local, GiveUp}
-use Rattle.ring_core.specs.declared.entry.RingEntry.TheVariants.{Pass, Leave}
-use Rattle.tied_lists.specs.Items.{Asked, Answered, Item, Plain, ForStats, AController, net_ask}
+use Rattle.ring_core.specs.declared.entry.RingEntry.TheVariants.{Pass, Leave, Join}
+use Rattle.ring_core.specs.declared.entry.LeaveCause.{LeaveCause}
+use Rattle.ring_core.specs.declared.entry.LeaveCause.TheVariants.{Ended, Spent, Down}
+use Rattle.tied_lists.specs.Items.{Asked, Answered, Item, Taken, Plain, ForStats, AController}
+use Rattle.tied_lists.specs.Items.{net_ask, taken_of, taken_by}
+use Rattle.joint_history.specs.Effects.{has_reply}
 use Rattle.tied_lists.specs.Items.{asked_of, asked_in, taken_in, plain_items, stats_items}
 use Rattle.tied_lists.specs.Items.{request_of, reply_of, answered_for, replied_in, replied_of}
 use Rattle.tied_lists.specs.Items.{ended_in, ended_at_home, LocalCall, Came}
@@ -29,7 +34,7 @@ use Rattle.joint_history.specs.Reading.{called_of, sort_of}
 use Rattle.one_order.specs.Merges.{tally}
 use Rattle.entry_causes.specs.Causes.{StationEntry, ByController, ByHost, Noted, Done, noted_next}
 use Rattle.entry_causes.specs.Causes.{done_next, asking, asking_of, posting, taking, working, note}
-use Rattle.entry_causes.specs.Causes.{deed}
+use Rattle.entry_causes.specs.Causes.{deed, leaving}
 use Rattle.call_order.specs.Named.{asks_in, answers_in, ends_in, takes_in, port_takes_in}
 use Rattle.call_order.specs.Named.{port_answers_in, overs_in, end_id}
 
@@ -96,7 +101,7 @@ note-served s (ByController Fail) = omega arith
 note-served s (ByController Dark) = omega arith
 note-served s (ByController (Collect calls)) = let a = (calls-served s calls).0 in omega (arith, a)
 note-served s (ByController (Peer id request reply)) = refl
-note-served s (ByController (Off id request)) = omega arith
+note-served s (ByController (Off id request)) = refl
 note-served s (ByController (Finish id result)) = omega arith
 note-served s (ByHost (hosts.Ask id to pdu)) = omega arith
 note-served s (ByHost (hosts.Served id request reply)) = refl
@@ -229,7 +234,7 @@ work-answered : (d : Done) (n : ℕ) (id : CallId) (op : LocalOp) (result : Mstr
     → (tally done_next d (working (id.node == n))).answered_port
     ≡ d.answered_port + length (cons_option (answered_for n id op result) [])
 work-answered d n id op result =
-    work-answered-at d (record { id = id; request = request_of op; reply = reply_of result })
+    work-answered-at d (record { id = id; request = request_of op; reply = Some (reply_of result) })
     (id.node == n)
 
 take-over-at : (d : Done) (stats : Bool)
@@ -261,6 +266,32 @@ work-over d n id op result = at (id.node == n)
     at true = refl
     at false = omega arith
 
+-- a Leave adds to none of these counts
+record Beside (d q : Done) : Type 0 where
+  posted : q.posted ≡ d.posted
+  taken : q.taken ≡ d.taken
+  taken_port : q.taken_port ≡ d.taken_port
+  requests : q.requests ≡ d.requests
+  answered_port : q.answered_port ≡ d.answered_port
+  replies : q.replies ≡ d.replies
+  over : q.over ≡ d.over
+
+beside : (d q : Done) → q ≡ record d { down = q.down } → Beside d q
+beside d q is = record {
+  posted = ap (λ (x : Done). x.posted) is;
+  taken = ap (λ (x : Done). x.taken) is;
+  taken_port = ap (λ (x : Done). x.taken_port) is;
+  requests = ap (λ (x : Done). x.requests) is;
+  answered_port = ap (λ (x : Done). x.answered_port) is;
+  replies = ap (λ (x : Done). x.replies) is;
+  over = ap (λ (x : Done). x.over) is;
+}
+
+leave-beside : (d : Done) (cause : LeaveCause) → Beside d (tally done_next d (leaving cause))
+leave-beside d Ended = beside d d refl
+leave-beside d Spent = beside d d refl
+leave-beside d (Down number) = beside d (record d { down = number }) refl
+
 deed-posted : (d : Done) (r : RingEntry) → (deed d r).posted ≡ d.posted + length (posts_in r)
 deed-posted d (Post n f) = post-posted d f.kind f
 deed-posted d (Take n f) = let a = take-posted d f.kind (is_stats f.pdu) in omega (arith, a)
@@ -268,7 +299,8 @@ deed-posted d (Local n id op result) = let a = (work-other d (id.node == n)).0 i
 deed-posted d (GiveUp id word) = omega arith
 deed-posted d (Send n heard) = omega arith
 deed-posted d (Pass n done words) = omega arith
-deed-posted d (Leave n cause) = omega arith
+deed-posted d (Leave n cause) = let a = (leave-beside d cause).posted in omega (arith, a)
+deed-posted d (Join n) = omega arith
 
 deed-taken : (d : Done) (r : RingEntry) → (deed d r).taken ≡ d.taken + length (takes_in r)
 deed-taken d (Post n f) = let a = (post-other d f.kind).0 in omega (arith, a)
@@ -277,7 +309,8 @@ deed-taken d (Local n id op result) = let a = (work-other d (id.node == n)).1 in
 deed-taken d (GiveUp id word) = omega arith
 deed-taken d (Send n heard) = omega arith
 deed-taken d (Pass n done words) = omega arith
-deed-taken d (Leave n cause) = omega arith
+deed-taken d (Leave n cause) = let a = (leave-beside d cause).taken in omega (arith, a)
+deed-taken d (Join n) = omega arith
 
 deed-over : (d : Done) (r : RingEntry) → (deed d r).over ≡ d.over + length (overs_in r)
 deed-over d (Post n f) = let a = (post-other d f.kind).1 in omega (arith, a)
@@ -286,7 +319,8 @@ deed-over d (Local n id op result) = work-over d n id op result
 deed-over d (GiveUp id word) = refl
 deed-over d (Send n heard) = omega arith
 deed-over d (Pass n done words) = omega arith
-deed-over d (Leave n cause) = omega arith
+deed-over d (Leave n cause) = let a = (leave-beside d cause).over in omega (arith, a)
+deed-over d (Join n) = omega arith
 
 abbrev pub replies_posted_in : RingEntry → List Item
 replies_posted_in r = cons_option (replied_of r) []
@@ -300,7 +334,8 @@ deed-taken-port d (Local n id op result) =
 deed-taken-port d (GiveUp id word) = omega arith
 deed-taken-port d (Send n heard) = omega arith
 deed-taken-port d (Pass n done words) = omega arith
-deed-taken-port d (Leave n cause) = omega arith
+deed-taken-port d (Leave n cause) = let a = (leave-beside d cause).taken_port in omega (arith, a)
+deed-taken-port d (Join n) = omega arith
 
 deed-answered : (d : Done) (r : RingEntry)
     → (deed d r).answered_port ≡ d.answered_port + length (port_answers_in r)
@@ -310,7 +345,8 @@ deed-answered d (Local n id op result) = work-answered d n id op result
 deed-answered d (GiveUp id word) = omega arith
 deed-answered d (Send n heard) = omega arith
 deed-answered d (Pass n done words) = omega arith
-deed-answered d (Leave n cause) = omega arith
+deed-answered d (Leave n cause) = let a = (leave-beside d cause).answered_port in omega (arith, a)
+deed-answered d (Join n) = omega arith
 
 deed-replies : (d : Done) (r : RingEntry)
     → (deed d r).replies ≡ d.replies + length (replies_posted_in r)
@@ -320,7 +356,8 @@ deed-replies d (Local n id op result) = let a = (work-port d (id.node == n)).0 i
 deed-replies d (GiveUp id word) = omega arith
 deed-replies d (Send n heard) = omega arith
 deed-replies d (Pass n done words) = omega arith
-deed-replies d (Leave n cause) = omega arith
+deed-replies d (Leave n cause) = let a = (leave-beside d cause).replies in omega (arith, a)
+deed-replies d (Join n) = omega arith
 
 pub all-taken-port : (d : Done) (rs : List RingEntry)
     → (tally deed d rs).taken_port ≡ d.taken_port + length (flat_map port_takes_in rs)
@@ -375,3 +412,99 @@ all-over d (r ∷ rs) =
     let b = deed-over d r in
     let c = length-append (overs_in r) (flat_map overs_in rs) in
     omega (arith, a, b, c)
+
+-- the sorts of the Requests taken, and the answers with a reply, in order
+abbrev pub for-station : Taken → Bool
+for-station (Plain id pdu) = true
+for-station (ForStats id pdu) = false
+
+abbrev pub with-reply : Answered → Bool
+with-reply answer = has_reply answer.reply
+
+abbrev sorts_in : Option Taken → List Bool
+sorts_in o = map for-station (cons_option o [])
+
+sort-taken : (d : Done) (f : Frame) (stats : Bool)
+    → (tally done_next d (taking Request stats ∷ [])).requests
+    ≡ d.requests ++ sorts_in (Some (if stats then ForStats f.id f.pdu else Plain f.id f.pdu))
+sort-taken d f true = refl
+sort-taken d f false = refl
+
+take-sort : (d : Done) (f : Frame) (kind : FrameKind)
+    → (tally done_next d (taking kind (is_stats f.pdu) ∷ [])).requests
+    ≡ d.requests ++ sorts_in (taken_in kind f)
+take-sort d f Request = sort-taken d f (is_stats f.pdu)
+take-sort d f Reply = sym (append-nil d.requests)
+
+post-sort : (d : Done) (kind : FrameKind)
+    → (tally done_next d (posting kind ∷ [])).requests ≡ d.requests ++ []
+post-sort d Request = sym (append-nil d.requests)
+post-sort d Reply = sym (append-nil d.requests)
+
+work-sort : (d : Done) (own : Bool)
+    → (tally done_next d (working own)).requests ≡ d.requests ++ []
+work-sort d true = sym (append-nil d.requests)
+work-sort d false = sym (append-nil d.requests)
+
+deed-sort : (d : Done) (r : RingEntry)
+    → (deed d r).requests ≡ d.requests ++ sorts_in (taken_of r)
+deed-sort d (Post n f) = post-sort d f.kind
+deed-sort d (Take n f) = take-sort d f f.kind
+deed-sort d (Local n id op result) = work-sort d (id.node == n)
+deed-sort d (GiveUp id word) = sym (append-nil d.requests)
+deed-sort d (Send n heard) = sym (append-nil d.requests)
+deed-sort d (Pass n done words) = sym (append-nil d.requests)
+deed-sort d (Leave n cause) = (leave-beside d cause).requests ∙ sym (append-nil d.requests)
+deed-sort d (Join n) = sym (append-nil d.requests)
+
+sorts-one : (o : Option Taken) (ts : List Taken)
+    → map for-station (cons_option o ts) ≡ sorts_in o ++ map for-station ts
+sorts-one None ts = refl
+sorts-one (Some t) ts = refl
+
+pub all-sorts : (d : Done) (rs : List RingEntry)
+    → (tally deed d rs).requests ≡ d.requests ++ map for-station (taken_by rs)
+all-sorts d [] = sym (append-nil d.requests)
+all-sorts d (r ∷ rs) =
+    all-sorts (deed d r) rs
+    ∙ (ap (λ (l : List Bool). l ++ map for-station (taken_by rs)) (deed-sort d r)
+    ∙ (append_assoc d.requests (sorts_in (taken_of r)) (map for-station (taken_by rs))
+    ∙ ap (λ (l : List Bool). d.requests ++ l) (sym (sorts-one (taken_of r) (taken_by rs)))))
+
+calls-answer : (s : Noted) (calls : List Call)
+    → (tally noted_next s (map asking_of calls)).answers ≡ s.answers
+calls-answer s [] = refl
+calls-answer s (c ∷ calls) =
+    calls-answer (noted_next s (asking_of c)) calls ∙ one s c.kind
+  where
+    one : (t : Noted) (kind : CallKind) → (noted_next t (asking kind)).answers ≡ t.answers
+    one t (call_kinds.Net to pdu) = refl
+    one t (call_kinds.Local op) = refl
+
+note-answers : (s : Noted) (e : StationEntry)
+    → (note s e).answers ≡ s.answers ++ map with-reply (answers_in e)
+note-answers s (ByController Begin) = sym (append-nil s.answers)
+note-answers s (ByController (Input row)) = sym (append-nil s.answers)
+note-answers s (ByController (Solve row)) = sym (append-nil s.answers)
+note-answers s (ByController (Output row words)) = sym (append-nil s.answers)
+note-answers s (ByController End) = sym (append-nil s.answers)
+note-answers s (ByController Fail) = sym (append-nil s.answers)
+note-answers s (ByController Dark) = sym (append-nil s.answers)
+note-answers s (ByController (Collect calls)) = calls-answer s calls ∙ sym (append-nil s.answers)
+note-answers s (ByController (Peer id request reply)) = refl
+note-answers s (ByController (Off id request)) = refl
+note-answers s (ByController (Finish id result)) = sym (append-nil s.answers)
+note-answers s (ByHost (hosts.Ask id to pdu)) = sym (append-nil s.answers)
+note-answers s (ByHost (hosts.Served id request reply)) = refl
+note-answers s (ByHost (hosts.Answer id result)) = sym (append-nil s.answers)
+
+pub all-answers : (s : Noted) (es : List StationEntry)
+    → (tally note s es).answers ≡ s.answers ++ map with-reply (flat_map answers_in es)
+all-answers s [] = sym (append-nil s.answers)
+all-answers s (e ∷ es) =
+    all-answers (note s e) es
+    ∙ (ap (λ (l : List Bool). l ++ map with-reply (flat_map answers_in es)) (note-answers s e)
+    ∙ (append_assoc s.answers (map with-reply (answers_in e))
+    (map with-reply (flat_map answers_in es))
+    ∙ ap (λ (l : List Bool). s.answers ++ l)
+    (sym (map-append with-reply (answers_in e) (flat_map answers_in es)))))

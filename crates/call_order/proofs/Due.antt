@@ -1,152 +1,167 @@
--- The answer that a Reply carries, by the place of its Request among those that were taken.
-use Rattle.std.proofs.Common.{◌≡◌, ℕ, ◌+◌, List, [], ◌∷◌, ◌++◌, length, map, Some, refl, sym, ap}
-use Rattle.std.proofs.Common.{◌∙◌, arith}
+-- Where a Reply may be posted its Request was taken, and it carries the answer to that.
+use Rattle.std.proofs.Common.{◌≡◌, ℕ, ◌+◌, ◌≤◌, ◌⊎◌, true, false, List, [], ◌∷◌, ◌++◌, length}
+use Rattle.std.proofs.Common.{map, Option, Some, None, sym, ap, inl, inr, ⊎_elim, ◌∙◌, arith}
+use Rattle.std.specs.List.{Contains, cons_option, AllByRecursion as Each}
 use Rattle.mstr_block.specs.declared.call.CallId.{CallId}
 use Rattle.tied_lists.specs.Items.{Answered, Item, Taken, Plain, ForStats, item_of, plain_items}
-use Rattle.tied_lists.specs.Items.{stats_items, due_replies, replies_in, first_reply, rest_of}
-use Rattle.effect_laws.proofs.Sources.{name_of}
+use Rattle.tied_lists.specs.Items.{stats_items, due_reply, due_replies, replies_in}
+use Rattle.joint_history.specs.Effects.{has_reply}
+use Rattle.entry_causes.specs.Causes.{ready}
+use Rattle.effect_laws.proofs.Sources.{name_of, behind, here}
+use Rattle.call_order.proofs.Counts.{for-station, with-reply}
 
--- the answer at a place is to this call, with these bytes
-pub record AnswersAt (answers : List Answered) (place : ℕ) (id : CallId) (pdu : List ℕ) : Type 0
-  where
-    pub front : List Answered
-    pub answer : Answered
-    pub rest : List Answered
-    pub is : answers ≡ front ++ answer ∷ rest
-    pub place_is : length front ≡ place
-    pub call : answer.id ≡ id
-    pub reply : answer.reply ≡ pdu
+-- a Request of this call was taken, and was answered with these bytes
+pub record Told (taken : List Taken) (peers locals : List Answered) (id : CallId) (pdu : List ℕ)
+    : Type 0 where
+  pub request : Taken
+  pub among : Contains taken request
+  pub name : name_of request ≡ id
+  pub answer : Answered
+  pub given : Contains peers answer ⊎ Contains locals answer
+  pub call : answer.id ≡ id
+  pub reply : answer.reply ≡ Some pdu
 
--- of a Request behind these
-abbrev pub AnsweredAs : Taken → List Taken → List Answered → List Answered → CallId → List ℕ
-    → Type 0
-AnsweredAs (Plain i request) first peers locals id pdu =
-    AnswersAt peers (length (plain_items first)) id pdu
-AnsweredAs (ForStats i request) first peers locals id pdu =
-    AnswersAt locals (length (stats_items first)) id pdu
-
-one-more : (a : Answered) (answers : List Answered) (place : ℕ) (id : CallId) (pdu : List ℕ)
-    → AnswersAt answers place id pdu → AnswersAt (a ∷ answers) (place + 1) id pdu
-one-more a answers place id pdu x = record {
-  front = a ∷ x.front;
-  answer = x.answer;
-  rest = x.rest;
-  is = ap (λ (l : List Answered). a ∷ l) x.is;
-  place_is = let h = x.place_is in omega (arith, h);
-  call = x.call;
-  reply = x.reply;
-}
-
-at-place : (answers : List Answered) (place other : ℕ) (id : CallId) (pdu : List ℕ) → place ≡ other
-    → AnswersAt answers place id pdu → AnswersAt answers other id pdu
-at-place answers place other id pdu q x =
-    record {
-      front = x.front;
-      answer = x.answer;
-      rest = x.rest;
-      is = x.is;
-      place_is = x.place_is
-          ∙ q;
-      call = x.call;
-      reply = x.reply;
-    }
-
-here-at : (a : Answered) (answers : List Answered) (i id : CallId) (pdu : List ℕ) → a.id ≡ i
-    → id ≡ i → Some pdu ≡ Some a.reply → AnswersAt (a ∷ answers) 0 id pdu
-here-at a answers i id pdu q ids replies =
-    record {
-      front = [];
-      answer = a;
-      rest = answers;
-      is = refl;
-      place_is = refl;
-      call = q
-          ∙ sym ids;
-      reply = cc;
-    }
-
-behind-plain : (t : Taken) (i : CallId) (request : List ℕ) (first : List Taken) (a : Answered)
-    (peers locals : List Answered) (id : CallId) (pdu : List ℕ)
-    → AnsweredAs t first peers locals id pdu
-    → AnsweredAs t (Plain i request ∷ first) (a ∷ peers) locals id pdu
-behind-plain (Plain j q) i request first a peers locals id pdu x =
-    at-place (a ∷ peers) (length (plain_items first) + 1) _ id pdu (omega arith)
-    (one-more a peers (length (plain_items first)) id pdu x)
-behind-plain (ForStats j q) i request first a peers locals id pdu x = x
-
-behind-stats : (t : Taken) (i : CallId) (request : List ℕ) (first : List Taken) (a : Answered)
-    (peers locals : List Answered) (id : CallId) (pdu : List ℕ)
-    → AnsweredAs t first peers locals id pdu
-    → AnsweredAs t (ForStats i request ∷ first) peers (a ∷ locals) id pdu
-behind-stats (Plain j q) i request first a peers locals id pdu x = x
-behind-stats (ForStats j q) i request first a peers locals id pdu x =
-    at-place (a ∷ locals) (length (stats_items first) + 1) _ id pdu (omega arith)
-    (one-more a locals (length (stats_items first)) id pdu x)
+abbrev pub HasReply : Answered → Type 0
+HasReply answer = with-reply answer ≡ true
 
 head-of : {X : Type 0} (x y : X) (xs ys : List X) → x ∷ xs ≡ y ∷ ys → (x ≡ y) × (xs ≡ ys)
 head-of x y xs ys q = (cc, cc)
 
--- The Reply at the place of a Request carries the answer to it.
-pub due-at : (first : List Taken) (t : Taken) (later : List Taken) (peers locals : List Answered)
-    (before after : List Item) (id : CallId) (pdu : List ℕ)
-    → map item_of peers ≡ plain_items (first ++ t ∷ later)
-    → map item_of locals ≡ stats_items (first ++ t ∷ later)
-    → before ++ (id, Some pdu) ∷ after
-    ≡ due_replies (first ++ t ∷ later) (replies_in peers) (replies_in locals)
-    → length before ≡ length first
-    → AnsweredAs t first peers locals id pdu
-due-at [] t later peers locals (x ∷ before) after id pdu p l q n = absurd (omega (arith, n))
-due-at (u ∷ first) t later peers locals [] after id pdu p l q n = absurd (omega (arith, n))
-due-at [] (Plain i request) later [] locals [] after id pdu p l q n = absurd (cc)
-due-at [] (Plain i request) later (a ∷ peers) locals [] after id pdu p l q n =
-    let item = head-of {X = Item} (item_of a) (i, Some request) (map item_of peers)
-    (plain_items later) p in
-    let told = head-of {X = Item} (id, Some pdu) (i, Some a.reply) after _ q in
-    here-at a peers i id pdu (ap (λ (x : Item). x.0) item.0) (ap (λ (x : Item). x.0) told.0)
-    (ap (λ (x : Item). x.1) told.0)
-due-at [] (ForStats i request) later peers [] [] after id pdu p l q n = absurd (cc)
-due-at [] (ForStats i request) later peers (a ∷ locals) [] after id pdu p l q n =
-    let item = head-of {X = Item} (item_of a) (i, Some request) (map item_of locals)
-    (stats_items later) l in
-    let told = head-of {X = Item} (id, Some pdu) (i, Some a.reply) after _ q in
-    here-at a locals i id pdu (ap (λ (x : Item). x.0) item.0) (ap (λ (x : Item). x.0) told.0)
-    (ap (λ (x : Item). x.1) told.0)
-due-at (Plain i request ∷ first) t later [] locals (x ∷ before) after id pdu p l q n = absurd (cc)
-due-at (Plain i request ∷ first) t later (a ∷ peers) locals (x ∷ before) after id pdu p l q n =
-    behind-plain t i request first a peers locals id pdu
-    (due-at first t later peers locals before after id pdu
-    (head-of {X = Item} (item_of a) (i, Some request) (map item_of peers)
-    (plain_items (first ++ t ∷ later)) p).1 l
-    (head-of {X = Item} x (i, Some a.reply) (before ++ (id, Some pdu) ∷ after) _ q).1
-    (omega (arith, n)))
-due-at (ForStats i request ∷ first) t later peers [] (x ∷ before) after id pdu p l q n =
-    absurd (cc)
-due-at (ForStats i request ∷ first) t later peers (a ∷ locals) (x ∷ before) after id pdu p l q n =
-    behind-stats t i request first a peers locals id pdu
-    (due-at first t later peers locals before after id pdu p
-    (head-of {X = Item} (item_of a) (i, Some request) (map item_of locals)
-    (stats_items (first ++ t ∷ later)) l).1
-    (head-of {X = Item} x (i, Some a.reply) (before ++ (id, Some pdu) ∷ after) _ q).1
-    (omega (arith, n)))
+none-empty : {X : Type 0} (x : X) (xs : List X) → [] ≡ x ∷ xs → ⊥
+none-empty x xs q = cc
 
--- It is of the call of that Request.
-pub due-name : (first : List Taken) (t : Taken) (later : List Taken) (peers locals : List (List ℕ))
-    (before after : List Item) (id : CallId) (pdu : List ℕ)
-    → before ++ (id, Some pdu) ∷ after ≡ due_replies (first ++ t ∷ later) peers locals
-    → length before ≡ length first → name_of t ≡ id
-due-name [] t later peers locals (x ∷ before) after id pdu q n = absurd (omega (arith, n))
-due-name (u ∷ first) t later peers locals [] after id pdu q n = absurd (omega (arith, n))
-due-name [] (Plain i request) later peers locals [] after id pdu q n =
-    ap (λ (x : Item). x.0) (sym (head-of {X = Item} (id, Some pdu) (i, first_reply peers) after _
-    q).0)
-due-name [] (ForStats i request) later peers locals [] after id pdu q n =
-    ap (λ (x : Item). x.0) (sym (head-of {X = Item} (id, Some pdu) (i, first_reply locals) after _
-    q).0)
-due-name (Plain i request ∷ first) t later peers locals (x ∷ before) after id pdu q n =
-    due-name first t later (rest_of peers) locals before after id pdu
-    (head-of {X = Item} x (i, first_reply peers) (before ++ (id, Some pdu) ∷ after) _ q).1
-    (omega (arith, n))
-due-name (ForStats i request ∷ first) t later peers locals (x ∷ before) after id pdu q n =
-    due-name first t later peers (rest_of locals) before after id pdu
-    (head-of {X = Item} x (i, first_reply locals) (before ++ (id, Some pdu) ∷ after) _ q).1
-    (omega (arith, n))
+-- the first Request and its answer
+module _ (id : CallId) (pdu : List ℕ) (after : List Item) where
+  -- the Reply in question is to it, or to a later one
+  this-or-later : (i : CallId) (reply : List ℕ) (before rest : List Item) (more : ℕ)
+      → before ++ (id, Some pdu) ∷ after ≡ (i, Some reply) ∷ rest → length before + 1 ≤ 1 + more
+      → ((i ≡ id) × (Some reply ≡ Some pdu))
+      ⊎ ((later : List Item) × (later ++ (id, Some pdu) ∷ after ≡ rest)
+      × (length later + 1 ≤ more))
+  this-or-later i reply [] rest more q h =
+      let two = head-of {X = Item} (id, Some pdu) (i, Some reply) after rest q in
+      inl (ap (λ (x : Item). x.0) (sym two.0), ap (λ (x : Item). x.1) (sym two.0))
+  this-or-later i reply (x ∷ before) rest more q h =
+      let two = head-of {X = Item} x (i, Some reply) (before ++ (id, Some pdu) ∷ after) rest q in
+      inr (before, two.1, omega (arith, h))
+
+later-plain : (u : Taken) (a : Answered) (ts : List Taken) (ps ls : List Answered) (id : CallId)
+    (pdu : List ℕ) → Told ts ps ls id pdu → Told (u ∷ ts) (a ∷ ps) ls id pdu
+later-plain u a ts ps ls id pdu t = record {
+  request = t.request;
+  among = behind u ts t.request t.among;
+  name = t.name;
+  answer = t.answer;
+  given = ⊎_elim (λ (p : Contains ps t.answer). inl (behind a ps t.answer p))
+      (λ (l : Contains ls t.answer). inr l) t.given;
+  call = t.call;
+  reply = t.reply;
+}
+
+later-stats : (u : Taken) (a : Answered) (ts : List Taken) (ps ls : List Answered) (id : CallId)
+    (pdu : List ℕ) → Told ts ps ls id pdu → Told (u ∷ ts) ps (a ∷ ls) id pdu
+later-stats u a ts ps ls id pdu t = record {
+  request = t.request;
+  among = behind u ts t.request t.among;
+  name = t.name;
+  answer = t.answer;
+  given = ⊎_elim (λ (p : Contains ps t.answer). inl p)
+      (λ (l : Contains ls t.answer). inr (behind a ls t.answer l)) t.given;
+  call = t.call;
+  reply = t.reply;
+}
+
+-- the first Replies that are due are ready as the answers have come
+abbrev pub AreTold : List Taken → List Answered → List Answered → Type 0
+AreTold ts ps ls =
+    (later : List Taken) (peers locals : List Answered) (before after : List Item) (id : CallId)
+    (pdu : List ℕ) → map item_of (ps ++ peers) ≡ plain_items (ts ++ later)
+    → map item_of (ls ++ locals) ≡ stats_items (ts ++ later)
+    → before ++ (id, Some pdu) ∷ after
+    ≡ due_replies (ts ++ later) (replies_in (ps ++ peers)) (replies_in (ls ++ locals))
+    → length before + 1 ≤ ready (map for-station ts) (map with-reply ps) (length ls)
+    → Told ts ps ls id pdu
+
+plain-told : (j : CallId) (q : List ℕ) (ts : List Taken) (a : Answered) (ps ls : List Answered)
+    → AreTold ts ps ls → AreTold (Plain j q ∷ ts) (a ∷ ps) ls
+plain-told j q ts a ps ls rest later peers locals before after id pdu p l due h =
+    at a.reply (λ x. x) due h
+  where
+    item : (item_of a ≡ (j, Some q)) × (map item_of (ps ++ peers) ≡ plain_items (ts ++ later))
+    item = head-of {X = Item} (item_of a) (j, Some q) (map item_of (ps ++ peers))
+        (plain_items (ts ++ later)) p
+
+    others : List Item
+    others = due_replies (ts ++ later) (replies_in (ps ++ peers)) (replies_in (ls ++ locals))
+
+    more : ℕ
+    more = ready (map for-station ts) (map with-reply ps) (length ls)
+
+    at : (o : Option (List ℕ)) → (o ≡ Some pdu → a.reply ≡ Some pdu)
+        → before ++ (id, Some pdu) ∷ after ≡ cons_option (due_reply j (Some o)) others
+        → length before + 1 ≤ ready (true ∷ map for-station ts)
+        (has_reply o ∷ map with-reply ps) (length ls)
+        → Told (Plain j q ∷ ts) (a ∷ ps) ls id pdu
+    at None is due' h' = later-plain (Plain j q) a ts ps ls id pdu
+        (rest later peers locals before after id pdu item.1 l due' h')
+    at (Some reply) is due' h' = ⊎_elim
+        (λ (this : (j ≡ id) × (Some reply ≡ Some pdu)). record {
+          request = Plain j q;
+          among = here (Plain j q) ts;
+          name = this.0;
+          answer = a;
+          given = inl (here a ps);
+          call = ap (λ (x : Item). x.0) item.0 ∙ this.0;
+          reply = is this.1;
+        })
+        (λ (t : (b : List Item) × (b ++ (id, Some pdu) ∷ after ≡ others)
+        × (length b + 1 ≤ more)).
+        later-plain (Plain j q) a ts ps ls id pdu
+        (rest later peers locals t.0 after id pdu item.1 l t.1 t.2))
+        (this-or-later id pdu after j reply before others more due' h')
+
+stats-told : (j : CallId) (q : List ℕ) (ts : List Taken) (a : Answered) (ps ls : List Answered)
+    → HasReply a → AreTold ts ps ls → AreTold (ForStats j q ∷ ts) ps (a ∷ ls)
+stats-told j q ts a ps ls has rest later peers locals before after id pdu p l due h =
+    at a.reply (λ x. x) has due
+  where
+    item : (item_of a ≡ (j, Some q)) × (map item_of (ls ++ locals) ≡ stats_items (ts ++ later))
+    item = head-of {X = Item} (item_of a) (j, Some q) (map item_of (ls ++ locals))
+        (stats_items (ts ++ later)) l
+
+    others : List Item
+    others = due_replies (ts ++ later) (replies_in (ps ++ peers)) (replies_in (ls ++ locals))
+
+    more : ℕ
+    more = ready (map for-station ts) (map with-reply ps) (length ls)
+
+    at : (o : Option (List ℕ)) → (o ≡ Some pdu → a.reply ≡ Some pdu) → has_reply o ≡ true
+        → before ++ (id, Some pdu) ∷ after ≡ cons_option (due_reply j (Some o)) others
+        → Told (ForStats j q ∷ ts) ps (a ∷ ls) id pdu
+    at None is has' due' = absurd (let no' : false ≡ true = has' in cc)
+    at (Some reply) is has' due' = ⊎_elim
+        (λ (this : (j ≡ id) × (Some reply ≡ Some pdu)). record {
+          request = ForStats j q;
+          among = here (ForStats j q) ts;
+          name = this.0;
+          answer = a;
+          given = inr (here a ls);
+          call = ap (λ (x : Item). x.0) item.0 ∙ this.0;
+          reply = is this.1;
+        })
+        (λ (t : (b : List Item) × (b ++ (id, Some pdu) ∷ after ≡ others)
+        × (length b + 1 ≤ more)).
+        later-stats (ForStats j q) a ts ps ls id pdu
+        (rest later peers locals t.0 after id pdu p item.1 t.1 t.2))
+        (this-or-later id pdu after j reply before others more due' h)
+
+pub due-told : (ts : List Taken) (ps ls : List Answered) → Each HasReply ls → AreTold ts ps ls
+due-told [] ps ls has = λ later peers locals before after id pdu p l due h.
+    absurd (omega (arith, h))
+due-told (Plain j q ∷ ts) [] ls has = λ later peers locals before after id pdu p l due h.
+    absurd (omega (arith, h))
+due-told (Plain j q ∷ ts) (a ∷ ps) ls has = plain-told j q ts a ps ls (due-told ts ps ls has)
+due-told (ForStats j q ∷ ts) ps [] has = λ later peers locals before after id pdu p l due h.
+    absurd (omega (arith, h))
+due-told (ForStats j q ∷ ts) ps (a ∷ ls) has =
+    stats-told j q ts a ps ls has.0 (due-told ts ps ls has.1)

@@ -2,7 +2,6 @@ pub mod Behind
 pub mod Counts
 pub mod Readings
 pub mod Ties
-pub mod Queues
 pub mod Due
 pub mod Names
 pub mod Targets

@@ -1,12 +1,11 @@
 -- Names stand in order.
 use Rattle.std.proofs.Common.{◌≡◌, ℕ, ◌+◌, ◌≤◌, ◌==◌, ◌⊎◌, Bool, true, false, cond, List, [], ◌∷◌}
-use Rattle.std.proofs.Common.{◌++◌, length, map, Some, refl, sym, ap, subst, ◌∙◌, ⊎_elim, inl, inr}
+use Rattle.std.proofs.Common.{◌++◌, length, map, Some, None, refl, sym, ap, subst, ◌∙◌, ⊎_elim, inl, inr}
 use Rattle.std.proofs.Common.{arith, append_assoc}
 use Rattle.std.specs.List.{cons_option, flat_map, Contains, AllByRecursion as Each}
 use Rattle.std.proofs.lemmas.Grind.{flat_map-append}
-use Rattle.std.proofs.lemmas.List.{length-append, length-map}
+use Rattle.std.proofs.lemmas.List.{length-map}
 use Rattle.std.proofs.lemmas.List.Elements.{filter_map-append, Contains-push, Contains-push_cases}
-use Rattle.std.proofs.lemmas.List.Elements.{Contains-append_right}
 use Rattle.plant_types.specs.declared.net.NetPlan.{NetPlan}
 use Rattle.ring_core.specs.Words.{maker}
 use Rattle.ring_core.specs.Legal.{IsRun, IsLegalRing}
@@ -15,39 +14,41 @@ use Rattle.ring_core.specs.declared.frame.FrameKind.{FrameKind}
 use Rattle.ring_core.specs.declared.frame.FrameKind.TheVariants.{Request, Reply}
 use Rattle.ring_core.specs.declared.entry.RingEntry.{RingEntry}
 use Rattle.ring_core.specs.declared.entry.RingEntry.TheVariants.{Post, Send, Take, Local, GiveUp}
-use Rattle.ring_core.specs.declared.entry.RingEntry.TheVariants.{Pass, Leave}
+use Rattle.ring_core.specs.declared.entry.RingEntry.TheVariants.{Pass, Leave, Join}
+use Rattle.ring_core.specs.declared.entry.LocalOp.{LocalOp}
+use Rattle.mstr_block.specs.declared.call.MstrResult.{MstrResult}
 use Rattle.mstr_block.specs.declared.call.CallId.{CallId}
 use Rattle.ring_laws.specs.Once.{IsRingHistory, OnlyItsTarget, ReplyToItsCaller, TookCall}
-use Rattle.tied_lists.specs.Items.{Answered, Item, Taken, Plain, ForStats, asked_in, item_of}
+use Rattle.tied_lists.specs.Items.{Answered, Item, Taken, asked_in, item_of}
 use Rattle.tied_lists.specs.Items.{taken_of, taken_by, plain_items, stats_items, port_answers}
 use Rattle.tied_lists.specs.Items.{replied_in, replied_of, replied_by, due_replies, replies_in}
+use Rattle.tied_lists.specs.Items.{answered_of, answered_for, request_of, reply_of}
 use Rattle.joint_history.specs.declared.joint.Joint.{Joint}
 use Rattle.joint_history.specs.JointLaws.{IsJoint}
 use Rattle.one_order.specs.Merges.{tally}
-use Rattle.one_order.specs.Orders.{Event, AtStation, AtRing, Log, on_ring, if_on_ring, at_station}
+use Rattle.one_order.specs.Orders.{AtRing, Log, on_ring, if_on_ring, at_station}
 use Rattle.one_order.specs.Orders.{if_at_station, own_of}
 use Rattle.one_order.proofs.Merges.{tally-append}
 use Rattle.one_order.proofs.Fronts.{own-append}
 use Rattle.entry_causes.specs.Causes.{StationEntry, Done, PostsReply, no_notes, no_deeds, note}
-use Rattle.entry_causes.specs.Causes.{deed, done_next, posting, replies_for_station}
-use Rattle.entry_causes.specs.Causes.{replies_for_port, AreCaused}
+use Rattle.entry_causes.specs.Causes.{deed, done_next, posting, ready, AreCaused}
 use Rattle.entry_causes.specs.Joint.{logs_of, IsInOneOrder}
 use Rattle.call_order.specs.Named.{Order, own_in, asks_in, answers_in, ends_in, takes_in}
 use Rattle.call_order.specs.Named.{port_takes_in, port_answers_in, overs_in, PostsFollowAsks}
 use Rattle.call_order.specs.Named.{AnswersFollowTakes, PortAnswersFollowTakes, Carries}
 use Rattle.call_order.specs.Named.{ReplyPostsFollowAnswers, ReplyPostsFollowTakes, EndsFollowOvers}
 use Rattle.call_order.specs.Named.{TakesFollowPosts, ReplyTakesFollowPosts, NamesStandInOrder}
-use Rattle.call_order.proofs.Behind.{stands-in, ring-behind, station-behind, own-behind, ring-own}
+use Rattle.call_order.proofs.Behind.{ring-behind, station-behind, own-behind, ring-own}
 use Rattle.call_order.proofs.Behind.{ring-station}
 use Rattle.call_order.proofs.Counts.{posts_in, replies_posted_in, all-asked, all-served, all-ended}
 use Rattle.call_order.proofs.Counts.{all-posted, all-taken, all-taken-port, all-answered}
-use Rattle.call_order.proofs.Counts.{all-replies, all-over}
+use Rattle.call_order.proofs.Counts.{all-replies, all-over, all-sorts, all-answers, for-station}
+use Rattle.call_order.proofs.Counts.{with-reply}
 use Rattle.call_order.proofs.Readings.{cons-one, takes-read, port-takes-read, port-answers-read}
 use Rattle.call_order.proofs.Readings.{replies-read, items-read}
 use Rattle.call_order.proofs.Ties.{Ties, all-tie}
-use Rattle.call_order.proofs.Queues.{Queued, HaveRequests, for-station, all-queued, none-without}
-use Rattle.call_order.proofs.Due.{AnswersAt, AnsweredAs, due-at, due-name}
-use Rattle.effect_laws.proofs.Sources.{name_of, of-map, of-own, take-of, here}
+use Rattle.call_order.proofs.Due.{Told, HasReply, due-told}
+use Rattle.effect_laws.proofs.Sources.{name_of, of-map, of-own, take-of}
 
 -- ---- One station.
 
@@ -180,6 +181,7 @@ takes-none (GiveUp id word) answer q = absurd (cc)
 takes-none (Send n heard) answer q = absurd (cc)
 takes-none (Pass n done words) answer q = absurd (cc)
 takes-none (Leave n cause) answer q = absurd (cc)
+takes-none (Join n) answer q = absurd (cc)
 
 port-answers-follow : (n : ℕ) (order : Order) → TiedIn n order → Caused n order
     → PortAnswersFollowTakes n order
@@ -197,112 +199,10 @@ ends-follow n order t c before after e id is one =
 
 -- ---- A Reply.
 
--- a front of a node's entries is those of a front of the order
-record FrontOf (n : ℕ) (v : Order) (c : List RingEntry) : Type 0 where
-  front : Order
-  rest : Order
-  is : v ≡ front ++ rest
-  own_is : own_in n front ≡ c
-
-front-on : (n : ℕ) (x : Event StationEntry RingEntry) (v : Order) (c d : List RingEntry)
-    → ((w : Order) → own_in n w ≡ c → own_in n (x ∷ w) ≡ d) → FrontOf n v c → FrontOf n (x ∷ v) d
-front-on n x v c d go f =
-    record {
-      front = x ∷ f.front;
-      rest = f.rest;
-      is = ap (λ (w : Order). x ∷ w) f.is;
-      own_is = go f.front f.own_is;
-    }
-
-own-front : (n : ℕ) (v : Order) (c rest : List RingEntry) → own_in n v ≡ c ++ rest → FrontOf n v c
-own-front n v [] rest q = record { front = []; rest = v; is = refl; own_is = refl }
-own-front n [] (r ∷ c) rest q = absurd (cc)
-own-front n (AtStation m e ∷ v) (r ∷ c) rest q =
-    front-on n (AtStation m e) v (r ∷ c) (r ∷ c) (λ w is. is) (own-front n v (r ∷ c) rest q)
-own-front n (AtRing s ∷ v) (r ∷ c) rest q =
-    at (maker s == n) refl q (own-front n v c rest) (own-front n v (r ∷ c) rest)
-  where
-    mine : (b : Bool) (t l : List RingEntry) → b ≡ true → s ≡ r → t ≡ l → cond b (s ∷ t) t ≡ r ∷ l
-    mine true t l m same is = λ i. same i ∷ is i
-    mine false t l m same is = absurd (cc)
-
-    other : (b : Bool) (t l : List RingEntry) → b ≡ false → t ≡ l → cond b (s ∷ t) t ≡ l
-    other true t l m is = absurd (cc)
-    other false t l m is = is
-
-    at : (b : Bool) → (maker s == n) ≡ b → cond b (s ∷ own_in n v) (own_in n v) ≡ r ∷ (c ++ rest)
-        → (own_in n v ≡ c ++ rest → FrontOf n v c)
-        → (own_in n v ≡ r ∷ (c ++ rest) → FrontOf n v (r ∷ c)) → FrontOf n (AtRing s ∷ v) (r ∷ c)
-    at true m e go on =
-        let same : s ≡ r = cc in
-        front-on n (AtRing s) v c (r ∷ c) (λ w is. mine (maker s == n) (own_in n w) c m same is)
-        (go (cc))
-    at false m e go on =
-        front-on n (AtRing s) v (r ∷ c) (r ∷ c)
-        (λ w is. other (maker s == n) (own_in n w) (r ∷ c) m is) (on e)
-
-queued-at : (n : ℕ) (order : Order) → Caused n order → (v rest : Order) → order ≡ v ++ rest
-    → Queued (tally deed no_deeds (own_in n v)) (taken_by (own_in n v))
-queued-at n order c v rest q = all-queued (own_in n v)
-    (λ front later is.
-    let f = own-front n v front later is in
-    subst (λ (l : List RingEntry). HaveRequests (tally deed no_deeds l)) f.own_is
-    (c f.front (f.rest ++ rest) (q
-    ∙ (ap (λ (w : Order). w ++ rest) f.is ∙ append_assoc f.front f.rest rest))).requests)
-
--- an answer whose place is within those that were noted
-carried : (f : Frame) (whole seen rest : List Answered) (place : ℕ)
-    → AnswersAt whole place f.id f.pdu → whole ≡ seen ++ rest → place + 1 ≤ length seen
-    → Carries f seen
-carried f whole seen rest place x q h = record {
-  answer = x.answer;
-  among =
-      let split : (x.front ++ x.answer ∷ []) ++ x.rest ≡ seen
-      ++ rest = append_assoc x.front (x.answer ∷ []) x.rest ∙ (sym x.is ∙ q) in
-      let size : length (x.front ++ x.answer ∷ [])
-      ≡ length x.front + 1 = length-append x.front (x.answer ∷ []) in
-      let at = x.place_is in
-      stands-in (x.front ++ x.answer ∷ []) seen x.rest rest x.front x.answer split
-      (omega (arith, size, at, h)) refl;
-  call = x.call;
-  reply = x.reply;
-}
-
 abbrev Tells : ℕ → Order → Frame → Type 0
 Tells n before f =
     Carries f (flat_map answers_in (at_station n before))
     ⊎ Carries f (flat_map port_answers_in (own_in n before))
-
--- where this Request waits first
-told-by : (n : ℕ) (order before : Order) (more : List StationEntry) (rest : List RingEntry)
-    (f : Frame) (d : Done) (first later : List Taken) (u : Taken)
-    → at_station n order ≡ at_station n before ++ more → own_in n order ≡ own_in n before ++ rest
-    → d.waiting ≡ map for-station (u ∷ later) → d.replied ≡ length (plain_items first)
-    → d.replied_port ≡ length (stats_items first)
-    → d.replied + replies_for_station d.waiting ≤ length
-    (flat_map answers_in (at_station n before))
-    → d.replied_port + replies_for_port d.waiting ≤ length
-    (flat_map port_answers_in (own_in n before))
-    → AnsweredAs u first (flat_map answers_in (at_station n order)) (port_answers (own_in n order))
-    f.id f.pdu → Tells n before f
-told-by n order before more rest f d first later (Plain i request) es rs w p q h k x =
-    let station : flat_map answers_in (at_station n order)
-    ≡ flat_map answers_in (at_station n before) ++ flat_map answers_in more
-    = ap (flat_map answers_in) es ∙ flat_map-append answers_in (at_station n before) more in
-    let one : replies_for_station d.waiting ≡ 1 = ap replies_for_station w in
-    inl (carried f (flat_map answers_in (at_station n order))
-    (flat_map answers_in (at_station n before)) (flat_map answers_in more)
-    (length (plain_items first)) x station (omega (arith, p, h, one)))
-told-by n order before more rest f d first later (ForStats i request) es rs w p q h k x =
-    let port : port_answers (own_in n order) ≡ flat_map port_answers_in (own_in n before)
-    ++ flat_map port_answers_in rest
-    = port-answers-read (own_in n order)
-    ∙ (ap (flat_map port_answers_in) rs
-    ∙ flat_map-append port_answers_in (own_in n before) rest) in
-    let one : replies_for_port d.waiting ≡ 1 = ap replies_for_port w in
-    inr (carried f (port_answers (own_in n order)) (flat_map port_answers_in (own_in n before))
-    (flat_map port_answers_in rest) (length (stats_items first)) x port
-    (omega (arith, q, k, one)))
 
 posting-reply : (d : Done) (n : ℕ) (f : Frame) → f.kind ≡ Reply
     → deed d (Post n f) ≡ done_next d PostsReply
@@ -313,41 +213,47 @@ reply-posts : (n : ℕ) (f : Frame) → f.kind ≡ Reply
 reply-posts n f k = ap (λ (kind : FrameKind). cons_option (replied_in kind f) []) k
 
 -- what is counted, and read, where a Reply is posted
-record Posting (n : ℕ) (order before after : Order) (f : Frame) (d : Done) : Type 0 where
-  requests : d.replies + 1 ≤ d.taken + d.taken_port
-  station : d.replied + replies_for_station d.waiting ≤ length
-      (flat_map answers_in (at_station n before))
-  port : d.replied_port + replies_for_port d.waiting ≤ length
-      (flat_map port_answers_in (own_in n before))
+record Posting (n : ℕ) (order before after : Order) (f : Frame) : Type 0 where
+  is_ready : length (replied_by (own_in n before)) + 1
+      ≤ ready (map for-station (taken_by (own_in n before)))
+      (map with-reply (flat_map answers_in (at_station n before)))
+      (length (port_answers (own_in n before)))
   notes : at_station n order ≡ at_station n before ++ at_station n after
   deeds : own_in n order ≡ own_in n before ++ (Post n f ∷ own_in n after)
-  replies : d.replies ≡ length (flat_map replies_posted_in (own_in n before))
 
 posting-at : (n : ℕ) (order before after : Order) (f : Frame) → Caused n order
     → order ≡ before ++ AtRing (Post n f) ∷ after → f.kind ≡ Reply
-    → Posting n order before after f (tally deed no_deeds (own_in n before))
+    → Posting n order before after f
 posting-at n order before after f c is k =
     let v : Order = before ++ AtRing (Post n f) ∷ [] in
-    let d : Done = tally deed no_deeds (own_in n before) in
+    let b : List RingEntry = own_in n before in
+    let es : List StationEntry = at_station n before in
     let whole : order ≡ v ++ after = is
     ∙ sym (append_assoc before (AtRing (Post n f) ∷ []) after) in
-    let own_is : own_in n v ≡ own_in n before
-    ++ Post n f ∷ [] = ring-own maker n before (Post n f) refl in
-    let done : tally deed no_deeds (own_in n v) ≡ done_next d PostsReply
+    let own_is : own_in n v ≡ b ++ Post n f ∷ [] = ring-own maker n before (Post n f) refl in
+    let done : tally deed no_deeds (own_in n v) ≡ done_next (tally deed no_deeds b) PostsReply
     = ap (tally deed no_deeds) own_is
-    ∙ (tally-append deed no_deeds (own_in n before) (Post n f ∷ []) ∙ posting-reply d n f k) in
-    let caused : AreCaused (tally note no_notes (at_station n before)) (done_next d PostsReply)
-    = subst (λ (q : Done). AreCaused (tally note no_notes (at_station n before)) q) done
-    (subst (λ (es : List StationEntry). AreCaused (tally note no_notes es)
+    ∙ (tally-append deed no_deeds b (Post n f ∷ [])
+    ∙ posting-reply (tally deed no_deeds b) n f k) in
+    let caused : AreCaused (tally note no_notes es) (done_next (tally deed no_deeds b) PostsReply)
+    = subst (λ (q : Done). AreCaused (tally note no_notes es) q) done
+    (subst (λ (l : List StationEntry). AreCaused (tally note no_notes l)
     (tally deed no_deeds (own_in n v))) (ring-station n before (Post n f))
     (c v after whole)) in
-    let served = all-served no_notes (at_station n before) in
-    let answered = all-answered no_deeds (own_in n before) in
-    let replied = all-replies no_deeds (own_in n before) in
+    let counted = all-replies no_deeds b in
+    let read : length (replied_by b)
+    ≡ length (flat_map replies_posted_in b) = ap length (replies-read b) in
+    let told = all-answered no_deeds b in
+    let port = ap length (port-answers-read b) in
+    let answered : (tally deed no_deeds b).answered_port ≡ length (port_answers b)
+    = omega (arith, told, port) in
+    let may : ready (tally deed no_deeds b).requests (tally note no_notes es).answers
+    (tally deed no_deeds b).answered_port
+    ≡ ready (map for-station (taken_by b)) (map with-reply (flat_map answers_in es))
+    (length (port_answers b))
+    = λ i. ready (all-sorts no_deeds b i) (all-answers no_notes es i) (answered i) in
     record {
-      requests = caused.requests;
-      station = let h = caused.replies in omega (arith, h, served);
-      port = let h = caused.port_replies in omega (arith, h, answered);
+      is_ready = let h = caused.replies in omega (arith, h, counted, read, may);
       notes =
           ap (at_station n) whole ∙ (filter_map-append (if_at_station n) v after
           ∙ ap (λ (l : List StationEntry). l ++ at_station n after)
@@ -356,8 +262,7 @@ posting-at n order before after f c is k =
           ap (own_in n) whole ∙ (ap (own_of maker n) (filter_map-append if_on_ring v after)
           ∙ (own-append maker n (on_ring v) (on_ring after)
           ∙ (ap (λ (l : List RingEntry). l ++ own_in n after) own_is
-          ∙ append_assoc (own_in n before) (Post n f ∷ []) (own_in n after))));
-      replies = omega (arith, replied);
+          ∙ append_assoc b (Post n f ∷ []) (own_in n after))));
     }
 
 -- what was taken, and what was posted, before and behind a Reply
@@ -373,8 +278,31 @@ replied-split b rest n f k =
     (cons-one (replied_of (Post n f)) (replied_by rest)
     ∙ ap (λ (l : List Item). l ++ replied_by rest) (reply-posts n f k))
 
-middle : {X : Type 0} (xs : List X) (x : X) (ys : List X) → Contains (xs ++ x ∷ ys) x
-middle xs x ys = Contains-append_right xs (x ∷ ys) x (here x ys)
+port-split : (b rest : List RingEntry) (n : ℕ) (f : Frame)
+    → port_answers (b ++ (Post n f ∷ rest)) ≡ port_answers b ++ port_answers rest
+port-split b rest n f = filter_map-append answered_of b (Post n f ∷ rest)
+
+-- a port answers with a reply
+port-one : (n : ℕ) (id : CallId) (op : LocalOp) (result : MstrResult) (answers : List Answered)
+    → Each HasReply answers → Each HasReply (cons_option (answered_for n id op result) answers)
+port-one n id op result answers has = at (id.node == n)
+  where
+    at : (own : Bool) → Each HasReply (cons_option (cond own None (Some
+        (record { id = id; request = request_of op; reply = Some (reply_of result) }))) answers)
+    at true = has
+    at false = (refl, has)
+
+port-replies : (b : List RingEntry) → Each HasReply (port_answers b)
+port-replies [] = tt
+port-replies (Post n f ∷ b) = port-replies b
+port-replies (Send n heard ∷ b) = port-replies b
+port-replies (Take n f ∷ b) = port-replies b
+port-replies (Local n id op result ∷ b) =
+    port-one n id op result (port_answers b) (port-replies b)
+port-replies (GiveUp id word ∷ b) = port-replies b
+port-replies (Pass n done words ∷ b) = port-replies b
+port-replies (Leave n cause ∷ b) = port-replies b
+port-replies (Join n ∷ b) = port-replies b
 
 -- the Request stands on the ring
 took : (n : ℕ) (before : Order) (u : Taken) (id : CallId) → Contains (taken_by (own_in n before)) u
@@ -392,63 +320,47 @@ took n before u id there name =
       same = t.id ∙ name;
     }
 
-reply-posts-by : (n : ℕ) (order before after : Order) (f : Frame) → f.kind ≡ Reply → TiedIn n order
-    → Posting n order before after f (tally deed no_deeds (own_in n before))
-    → (x : Queued (tally deed no_deeds (own_in n before)) (taken_by (own_in n before)))
-    → (waits : List Taken) → x.waits ≡ waits
-    → Tells n before f × TookCall (on_ring before) n f.id
-reply-posts-by n order before after f k t p x [] w =
-    absurd (none-without (tally deed no_deeds (own_in n before)) (taken_by (own_in n before)) x
-    p.requests w)
-reply-posts-by n order before after f k t p x (u ∷ later) w =
+reply-told : (n : ℕ) (order before after : Order) (f : Frame) → f.kind ≡ Reply → TiedIn n order
+    → Posting n order before after f
+    → Told (taken_by (own_in n before)) (flat_map answers_in (at_station n before))
+    (port_answers (own_in n before)) f.id f.pdu
+reply-told n order before after f k t p =
     let b : List RingEntry = own_in n before in
     let rest : List RingEntry = own_in n after in
-    let taken : taken_by (own_in n order) ≡ x.first ++ u ∷ (later ++ taken_by rest)
-    = ap taken_by p.deeds ∙ (taken-split b rest n f
-    ∙ (ap (λ (l : List Taken). l ++ taken_by rest)
-    (x.taken_is ∙ ap (λ (l : List Taken). x.first ++ l) w)
-    ∙ append_assoc x.first (u ∷ later) (taken_by rest))) in
-    let replied : replied_by (own_in n order) ≡ replied_by b
-    ++ (f.id, Some f.pdu) ∷ replied_by rest = ap replied_by p.deeds
-    ∙ replied-split b rest n f k in
-    let due : replied_by b ++ (f.id, Some f.pdu) ∷ replied_by rest
-    ≡ due_replies (x.first ++ u ∷ (later ++ taken_by rest))
-    (replies_in (flat_map answers_in (at_station n order)))
-    (replies_in (port_answers (own_in n order)))
-    = sym replied ∙ (t.replies ∙ ap
-    (λ (l : List Taken). due_replies l (replies_in (flat_map answers_in (at_station n order)))
-    (replies_in (port_answers (own_in n order)))) taken) in
-    let read : length (replied_by b)
-    ≡ length (flat_map replies_posted_in b) = ap length (replies-read b) in
-    let one = p.replies in
-    let two = x.replies_is in
-    let size : length (replied_by b) ≡ length x.first = omega (arith, read, one, two) in (
-      told-by n order before (at_station n after) (Post n f ∷ rest) f (tally deed no_deeds b)
-          x.first later u
-          p.notes p.deeds (x.waiting_is ∙ ap (map for-station) w) x.replied_is x.replied_port_is
-          p.station p.port
-          (due-at x.first u (later ++ taken_by rest) (flat_map answers_in (at_station n order))
-          (port_answers (own_in n order)) (replied_by b) (replied_by rest) f.id f.pdu
-          (t.answers ∙ ap plain_items taken) (t.port ∙ ap stats_items taken) due size),
-      took n before u f.id (subst (λ (l : List Taken). Contains l u)
-          (sym (x.taken_is ∙ ap (λ (l : List Taken). x.first ++ l) w)) (middle x.first u later))
-          (due-name x.first u (later ++ taken_by rest) _ _ (replied_by b) (replied_by rest) f.id
-          f.pdu due size),
-    )
+    let taken = ap taken_by p.deeds ∙ taken-split b rest n f in
+    let port = ap port_answers p.deeds ∙ port-split b rest n f in
+    let peers = ap (flat_map answers_in) p.notes
+    ∙ flat_map-append answers_in (at_station n before) (at_station n after) in
+    let replied = ap replied_by p.deeds ∙ replied-split b rest n f k in
+    due-told (taken_by b) (flat_map answers_in (at_station n before)) (port_answers b)
+    (port-replies b) (taken_by rest) (flat_map answers_in (at_station n after))
+    (port_answers rest) (replied_by b) (replied_by rest) f.id f.pdu
+    (ap (map item_of) (sym peers) ∙ (t.answers ∙ ap plain_items taken))
+    (ap (map item_of) (sym port) ∙ (t.port ∙ ap stats_items taken))
+    (sym replied
+    ∙ (t.replies ∙ (λ i. due_replies (taken i) (replies_in (peers i)) (replies_in (port i)))))
+    p.is_ready
 
 reply-posts-follow : (n : ℕ) (order : Order) → TiedIn n order → Caused n order
     → ReplyPostsFollowAnswers n order
 reply-posts-follow n order t c before after f is k =
-    let x = queued-at n order c before (AtRing (Post n f) ∷ after) is in
-    (reply-posts-by n order before after f k t (posting-at n order before after f c is k) x x.waits
-    refl).0
+    let x = reply-told n order before after f k t (posting-at n order before after f c is k) in
+    ⊎_elim
+    (λ (p : Contains (flat_map answers_in (at_station n before)) x.answer).
+    inl (record { answer = x.answer; among = p; call = x.call; reply = x.reply }))
+    (λ (l : Contains (port_answers (own_in n before)) x.answer). inr (record {
+      answer = x.answer;
+      among = subst (λ (q : List Answered). Contains q x.answer)
+          (port-answers-read (own_in n before)) l;
+      call = x.call;
+      reply = x.reply;
+    })) x.given
 
 reply-requests-follow : (n : ℕ) (order : Order) → TiedIn n order → Caused n order
     → ReplyPostsFollowTakes n order
 reply-requests-follow n order t c before after f is k =
-    let x = queued-at n order c before (AtRing (Post n f) ∷ after) is in
-    (reply-posts-by n order before after f k t (posting-at n order before after f c is k) x x.waits
-    refl).1
+    let x = reply-told n order before after f k t (posting-at n order before after f c is k) in
+    took n before x.request f.id x.among x.name
 
 -- ---- All stations.
 

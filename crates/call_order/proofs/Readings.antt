@@ -16,7 +16,7 @@ use Rattle.ring_core.specs.declared.frame.FrameKind.{FrameKind}
 use Rattle.ring_core.specs.declared.frame.FrameKind.TheVariants.{Request, Reply}
 use Rattle.ring_core.specs.declared.entry.RingEntry.{RingEntry}
 use Rattle.ring_core.specs.declared.entry.RingEntry.TheVariants.{Post, Send, Take, Local, GiveUp}
-use Rattle.ring_core.specs.declared.entry.RingEntry.TheVariants.{Pass, Leave}
+use Rattle.ring_core.specs.declared.entry.RingEntry.TheVariants.{Pass, Leave, Join}
 use Rattle.tied_lists.specs.Items.{Asked, Answered, Taken, Plain, ForStats, Ended, Items, no_items}
 use Rattle.tied_lists.specs.Items.{Station, AController, net_ask, item_of, asked_of, asked_by}
 use Rattle.tied_lists.specs.Items.{taken_of, taken_by, plain_items, stats_items, answered_of}
@@ -104,6 +104,7 @@ same-ended station asked (Local n id op result) = refl
 same-ended station asked (GiveUp id word) = refl
 same-ended station asked (Pass n done words) = refl
 same-ended station asked (Leave n cause) = refl
+same-ended station asked (Join n) = refl
 
 pub overs-read : (station : Station) (asked : List Asked) (b : List RingEntry)
     → map end_id (ended_by station asked b) ≡ flat_map overs_in b
@@ -127,7 +128,7 @@ asks-on a (Input row ∷ es) = asks-on a es
 asks-on a (Solve row ∷ es) = asks-on a es
 asks-on a (Output row words ∷ es) = asks-on a es
 asks-on a (End ∷ es) = asks-on a es
-asks-on a (Fail ∷ es) = asks-on a es
+asks-on a (Fail ∷ es) = asks-on (item_next a Fail) es
 asks-on a (Dark ∷ es) = asks-on a es
 asks-on a (Collect calls ∷ es) =
     asks-on (item_next a (Collect calls)) es
@@ -147,14 +148,17 @@ answers-on a (Input row ∷ es) = answers-on a es
 answers-on a (Solve row ∷ es) = answers-on a es
 answers-on a (Output row words ∷ es) = answers-on a es
 answers-on a (End ∷ es) = answers-on a es
-answers-on a (Fail ∷ es) = answers-on a es
+answers-on a (Fail ∷ es) = answers-on (item_next a Fail) es
 answers-on a (Dark ∷ es) = answers-on a es
 answers-on a (Collect calls ∷ es) = answers-on (item_next a (Collect calls)) es
 answers-on a (Peer id request reply ∷ es) =
     answers-on (item_next a (Peer id request reply)) es
-    ∙ append_assoc a.answers (record { id = id; request = Some request; reply = reply } ∷ [])
+    ∙ append_assoc a.answers (record { id = id; request = Some request; reply = Some reply } ∷ [])
     (flat_map answers_in (map ByController es))
-answers-on a (Off id request ∷ es) = answers-on a es
+answers-on a (Off id request ∷ es) =
+    answers-on (item_next a (Off id request)) es
+    ∙ append_assoc a.answers (record { id = id; request = Some request; reply = None } ∷ [])
+    (flat_map answers_in (map ByController es))
 answers-on a (Finish id result ∷ es) = answers-on (item_next a (Finish id result)) es
 
 ends-on : (a : Items) (es : List Entry)
@@ -166,7 +170,7 @@ ends-on a (Input row ∷ es) = ends-on a es
 ends-on a (Solve row ∷ es) = ends-on a es
 ends-on a (Output row words ∷ es) = ends-on a es
 ends-on a (End ∷ es) = ends-on a es
-ends-on a (Fail ∷ es) = ends-on a es
+ends-on a (Fail ∷ es) = ends-on (item_next a Fail) es
 ends-on a (Dark ∷ es) = ends-on a es
 ends-on a (Collect calls ∷ es) = ends-on (item_next a (Collect calls)) es
 ends-on a (Peer id request reply ∷ es) = ends-on (item_next a (Peer id request reply)) es
@@ -213,7 +217,7 @@ host-answers-on a (hosts.Ask id to pdu ∷ es) =
     host-answers-on (host_item_next a (hosts.Ask id to pdu)) es
 host-answers-on a (hosts.Served id request reply ∷ es) =
     host-answers-on (host_item_next a (hosts.Served id request reply)) es
-    ∙ append_assoc a.answers (record { id = id; request = Some request; reply = reply } ∷ [])
+    ∙ append_assoc a.answers (record { id = id; request = Some request; reply = Some reply } ∷ [])
     (flat_map answers_in (map ByHost es))
 host-answers-on a (hosts.Answer id result ∷ es) =
     host-answers-on (host_item_next a (hosts.Answer id result)) es

@@ -35,7 +35,7 @@ abbrev answered : Order
 answered = AtRing (Take 5 request) ∷ AtStation 5 (ByController (Peer call reads tells)) ∷ []
 
 abbrev answer : Answered
-answer = record { id = call; request = Some reads; reply = tells }
+answer = record { id = call; request = Some reads; reply = Some tells }
 
 -- behind it the Reply has its answer
 is-told : Carries reply (flat_map answers_in (at_station 5 answered))

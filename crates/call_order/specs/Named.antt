@@ -1,6 +1,6 @@
 -- What stands behind what on the one order of a joint history, by the names of calls. This
 -- project's own.
-use Rattle.std.specs.Prelude.{◌≡◌, ◌⊎◌, ℕ, List, [], ◌∷◌, ◌++◌, map, filter_map, Some}
+use Rattle.std.specs.Prelude.{◌≡◌, ◌⊎◌, ℕ, List, [], ◌∷◌, ◌++◌, map, filter_map, Some, None}
 use Rattle.std.specs.List.{cons_option, flat_map, Contains, AllByRecursion as Each}
 use Rattle.plant_types.specs.declared.net.NetPlan.{NetPlan}
 use Rattle.plant_types.specs.declared.plan.Plant.{Plant}
@@ -38,15 +38,17 @@ abbrev pub asks_in : StationEntry → List Asked
 asks_in (ByController e) = entry_asks e
 asks_in (ByHost e) = host_asks e
 
--- The request that it answers, with the reply.
+-- The request that it answers, with the reply, or with none where it came without power.
 abbrev pub entry_answers : Entry → List Answered
 entry_answers (entries.Peer id request reply) =
-    record { id = id; request = Some request; reply = reply } ∷ []
+    record { id = id; request = Some request; reply = Some reply } ∷ []
+entry_answers (entries.Off id request) =
+    record { id = id; request = Some request; reply = None } ∷ []
 entry_answers _ = []
 
 abbrev pub host_answers : HostEntry → List Answered
 host_answers (hosts.Served id request reply) =
-    record { id = id; request = Some request; reply = reply } ∷ []
+    record { id = id; request = Some request; reply = Some reply } ∷ []
 host_answers _ = []
 
 abbrev pub answers_in : StationEntry → List Answered
@@ -117,7 +119,7 @@ pub record Carries (f : Frame) (answers : List Answered) : Type 0 where
   pub answer : Answered
   pub among : Contains answers answer
   pub call : answer.id ≡ f.id
-  pub reply : answer.reply ≡ f.pdu
+  pub reply : answer.reply ≡ Some f.pdu
 
 -- Each Reply that the node posted stands behind its answer, by the station or by the port.
 abbrev pub ReplyPostsFollowAnswers : ℕ → Order → Type 0

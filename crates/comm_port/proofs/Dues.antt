@@ -26,10 +26,11 @@ use Rattle.ring_core.specs.declared.refusal.RingNo.TheVariants.{Untaken}
 use Rattle.ring_core.specs.declared.entry.RingEntry.{RingEntry}
 use Rattle.ring_core.specs.declared.entry.RingEntry.TheVariants.{GiveUp}
 use Rattle.ring_core.specs.Words.{asks_for}
-use Rattle.ring_core.specs.Machine.{NodeIs, no_path, path_of, gave_up, ring_node, ring_after}
+use Rattle.ring_core.specs.Machine.{is_here, NodeIs, no_path, path_of, gave_up, ring_node, ring_after}
 use Rattle.ring_core.specs.Refusals.{or_no, free_no, awaited_no, other_no, answer_after}
 use Rattle.tied_lists.specs.Waits.{AwaitsThis, IsFree, Holds, HasLeft}
 use Rattle.tied_lists.proofs.Boxes.{each-filter}
+use Rattle.comm_port.proofs.RingTurns.{not-in}
 use Rattle.comm_port.specs.Giving.{due_by, due_on, is_chosen, chosen_below, given_due, AsksAreOn}
 use Rattle.comm_port.specs.Giving.{IsPathSettled, IsOtherPath, GaveUpBelow, part_no}
 use Rattle.comm_port.specs.HoldTurn.{IsGivenUp, finish_of}
@@ -44,10 +45,10 @@ pub free-none : (net : NetPlan) (ring : List RingEntry) (n : ℕ) → IsFree net
 free-none net ring n free =
     let r = ring_after net ring in
     ⊎_elim
-    (λ (h : Holds net ring n). cond-true (ring_node r n).here _ _ h.here ∙ cond-true (r.holder == n)
+    (λ (h : Holds net ring n). cond-true (is_here (ring_node r n)) _ _ h.here ∙ cond-true (r.holder == n)
     None (Some (NotHolder r.holder))
     (eq-eqb r.holder n h.holder))
-    (λ (l : HasLeft net ring n). cond-false (ring_node r n).here _ _ l) free
+    (λ (l : HasLeft net ring n). cond-false (is_here (ring_node r n)) _ _ (not-in net n ring l)) free
 
 pub record Judged (due : Option CallId) (no : Option RingNo) (id : CallId) : Type 0 where
   pub may : no ≡ None → due ≡ Some id
@@ -114,8 +115,8 @@ pub judged : (net : NetPlan) (n p : ℕ) (c : NodeIs) (f : Frame) (id : CallId)
     → id.node ≡ n → id.path ≡ p → Judged (due_on net n c p) (part_no net c id) id
 judged net n p c f id awaits named own' path' =
     let a = (path_of c p).awaits in
-    let here-is : Judged (due_on net n c p) (cond c.here (answer_after net.answer a) None) id =
-    judge-by net.answer c.here n p a f id awaits
+    let here-is : Judged (due_on net n c p) (cond (is_here c) (answer_after net.answer a) None) id =
+    judge-by net.answer (is_here c) n p a f id awaits
     (λ seq e. (λ i. record {
       node = sym own' i;
       path = sym path' i;
@@ -124,11 +125,11 @@ judged net n p c f id awaits named own' path' =
     let none : awaited_no a id.seq ≡ None = ap (λ (x : CallId). awaited_no a x.seq) (sym named)
     ∙ awaited a f awaits in
     let now : Judged (due_on net n c p)
-    (or_no (awaited_no a id.seq) (cond c.here (answer_after net.answer a) None)) id =
+    (or_no (awaited_no a id.seq) (cond (is_here c) (answer_after net.answer a) None)) id =
     subst (λ (x : Option RingNo). Judged (due_on net n c p)
-    (or_no x (cond c.here (answer_after net.answer a) None)) id) (sym none) here-is in
+    (or_no x (cond (is_here c) (answer_after net.answer a) None)) id) (sym none) here-is in
     subst (λ (q : ℕ). Judged (due_on net n c p)
-    (or_no (awaited_no (path_of c q).awaits id.seq) (cond c.here (answer_after net.answer
+    (or_no (awaited_no (path_of c q).awaits id.seq) (cond (is_here c) (answer_after net.answer
     (path_of c q).awaits) None)) id) (sym path') now
 
 -- a path that waits for nothing
@@ -140,7 +141,7 @@ nothing-waits (Failed seq word) w = absurd w
 
 pub none-due : (net : NetPlan) (n p : ℕ) (c : NodeIs) → (path_of c p).awaits ≡ Nothing
     → due_on net n c p ≡ None
-none-due net n p c is = ap (due_by net.answer c.here n p) is
+none-due net n p c is = ap (due_by net.answer (is_here c) n p) is
 
 -- the name of a call that is due
 some-is : (a b : CallId) → Some a ≡ Some b → a ≡ b
@@ -173,7 +174,7 @@ due-named answer false n p (Failed seq word) id e = named-if n p seq true id e
 
 pub named-by : (net : NetPlan) (n p : ℕ) (c : NodeIs) (id : CallId) → due_on net n c p ≡ Some id
     → NamedBy n p id
-named-by net n p c id e = due-named net.answer c.here n p (path_of c p).awaits id e
+named-by net n p c id e = due-named net.answer (is_here c) n p (path_of c p).awaits id e
 
 -- ---- a node's part after a GiveUp
 

@@ -14,7 +14,7 @@ use Rattle.ring_core.specs.declared.entry.RingEntry.TheVariants.{Send, GiveUp}
 use Rattle.ring_core.specs.Machine.{path_places}
 use Rattle.ring_core.specs.Legal.{IsLegalRing, IsPath}
 use Rattle.tied_lists.specs.Own.{is_of, own, WentOn, Grew}
-use Rattle.tied_lists.specs.Items.{AController, Items, Called, NetCall, Came, with_end}
+use Rattle.tied_lists.specs.Items.{AController, Called, NetCall, Came, with_end}
 use Rattle.tied_lists.specs.Tied.{TiedBut}
 use Rattle.tied_lists.specs.Calls.{IsOutAs}
 use Rattle.tied_lists.specs.Waits.{Holds}
@@ -28,7 +28,7 @@ use Rattle.comm_port.specs.Waiting.{id_of}
 use Rattle.comm_port.specs.Sending.{GaveUp, SentNext, sends_left}
 use Rattle.comm_port.specs.Turns.{IsOwnTurn, KeepsInbox, AreWaiting, Turning}
 use Rattle.comm_port.proofs.RingTurns.{turn-on}
-use Rattle.joint_history.proofs.Items.{items-one}
+use Rattle.comm_port.proofs.Later.{later-one, tied-later, waits-later}
 use Rattle.comm_port.proofs.Served.{waiting-as, waiting-ended}
 
 -- the Request that a path waits for
@@ -98,17 +98,16 @@ given-lead-but {P} {Q} rest alone alone' n p id word ram ram' known known' side 
     (λ (m : ℕ). Grew alone' (is_of m) ring (e ∷ []) ring') k.own_is gave.grew in
     let kept = subst (λ (m : ℕ). KeepsInbox side.net m ring ring') k.own_is gave.kept in
     let own_is = grew-ours alone' (is_of n) ring (e ∷ []) ring' grew in
-    let items_is = items-one alone known (Finish id (Bad word)) known' went in
+    let later = later-one alone known (Finish id (Bad word)) known' went refl in
     let a' = with_end (items_of known) id (Came (Bad word)) in
     subst (λ (s : RamSideIs P). Turning n rest s known' side' ring' (set w p None)) (sym same)
     (record {
       node = t.node;
-      power = t.power;
       own_turn = turn-on side side' ring ring' n same' t.own_turn legal kept;
-      tied = subst (λ (a : Items). TiedBut AController rest a (own n ring')) (sym items_is)
+      tied = tied-later AController rest (own n ring') later
           (subst (TiedBut AController rest a') (sym own_is)
           (tied-given_up AController rest (items_of known) (own n ring) id word k.out.made t.tied));
-      waits = subst (λ (a : Items). AreWaiting n a (own n ring') (set w p None)) (sym items_is)
+      waits = waits-later n (own n ring') (set w p None) later
           (subst (λ (l : List RingEntry).
           AreWaiting n a' l (set w p None)) (sym own_is)
           (waiting-ended n (items_of known) a' (own n ring) (own n ring ++ e ∷ []) w p k.low
@@ -149,7 +148,6 @@ stays-lead {P} {Q} alone n rest ram known side side' ring ring' w same legal kep
     ∙ append-nil (own n ring) in
     record {
       node = t.node;
-      power = t.power;
       own_turn = turn-on side side' ring ring' n same t.own_turn legal kept;
       tied = subst (TiedBut AController rest (items_of known)) (sym own_is) t.tied;
       waits = subst (λ (l : List RingEntry). AreWaiting n (items_of known) l w) (sym own_is)
@@ -179,11 +177,10 @@ sent-lead {P} {Q} alone n heard ram known side side' ring ring' w same legal sen
     let own_is = grew-ours alone (is_of n) ring (e ∷ []) ring' sent.grew in
     record {
       node = t.node;
-      power = t.power;
       own_turn = turn-on side side' ring ring' n same t.own_turn legal sent.kept;
       tied = subst (TiedBut AController [] (items_of known)) (sym own_is)
           (tied-quiet AController [] (items_of known) (own n ring)
-          e refl refl refl refl refl t.tied);
+          e refl refl refl refl refl refl t.tied);
       waits = subst (λ (l : List RingEntry). AreWaiting n (items_of known) l w) (sym own_is)
           (waiting-as n (items_of known) (items_of known) (own n ring) (own n ring ++ e ∷ []) w
           (λ p. waiting-push p (own n ring) e) (λ id out. out) t.waits);

@@ -11,7 +11,7 @@ use Rattle.ring_core.specs.declared.frame.Frame.{Frame}
 use Rattle.ring_core.specs.declared.refusal.RingNo.{RingNo}
 use Rattle.ring_core.specs.declared.entry.RingEntry.{RingEntry}
 use Rattle.ring_core.specs.declared.entry.RingEntry.TheVariants.{Post, Send, Take, Local, GiveUp}
-use Rattle.ring_core.specs.declared.entry.RingEntry.TheVariants.{Pass, Leave}
+use Rattle.ring_core.specs.declared.entry.RingEntry.TheVariants.{Pass, Leave, Join}
 use Rattle.ring_core.specs.declared.path.Await.{Await}
 use Rattle.ring_core.specs.declared.path.Await.TheVariants.{Nothing, Out, Arrived, Failed}
 use Rattle.ring_core.specs.Machine.{NodeIs, path_of}
@@ -20,6 +20,7 @@ use Rattle.tied_lists.specs.Items.{Called}
 use Rattle.tied_lists.specs.Waits.{waiting as waits_on, AwaitsThis, HasLeft}
 use Rattle.tied_lists.proofs.Growth.{grew-one}
 use Rattle.tied_lists.proofs.Histories.{legal-follows}
+use Rattle.comm_port.proofs.RingTurns.{not-in}
 use Rattle.comm_port.specs.Sides.{RingSideIs, RamSideIs}
 use Rattle.comm_port.specs.Giving.{part_at, part_no, due_by, due_on, due_calls, given_due}
 use Rattle.comm_port.specs.Giving.{given_part, is_chosen, chosen_below}
@@ -226,6 +227,7 @@ where-more net n chosen p ring ring' ring'' from on a b = record {
     as-then past (Local m id op result) it = absurd it
     as-then past (Pass m done words) it = absurd it
     as-then past (Leave m cause) it = absurd it
+    as-then past (Join m) it = absurd it
 
 pub given-skip : (alone alone' : Bool) (net : NetPlan) (n : ℕ) (chosen : List Bool) (p : ℕ)
     (known known' : List Entry) (ring ring' : List RingEntry)
@@ -293,7 +295,8 @@ gone-may rest n id ram known side ring w gone k t =
     let some : due_on side.net n c p ≡ None
     → ⊥ = λ e. gone-some side.net.answer n p (path_of c p).awaits k.ask
     (awaits-own n p rest ram known side ring w (Some k.ask) k.slot t)
-    (ap (λ (b : Bool). due_by side.net.answer b n p (path_of c p).awaits) (sym gone) ∙ e) in
+    (ap (λ (b : Bool). due_by side.net.answer b n p (path_of c p).awaits)
+    (sym (not-in side.net n ring gone)) ∙ e) in
     subst (λ (m : ℕ). part_no side.net (part_at side.net m ring) id ≡ None) (sym k.own_is)
     (never-no (due_on side.net n c p) (part_no side.net c id) id
     (judged-on n p id rest ram known side ring w k t) some)

@@ -31,7 +31,7 @@ use Rattle.host_port.proofs.Unanswered.{requests_ask}
 use Rattle.tied_lists.specs.Own.{is_of, own, Grew, WentOn}
 use Rattle.tied_lists.specs.Items.{AHost, Items, Called, OverNet, with_calls, with_end, Lacked}
 use Rattle.tied_lists.specs.Tied.{Tied, TiedBut}
-use Rattle.tied_lists.specs.Waits.{AwaitsThis, HasLeft, Holds, waiting}
+use Rattle.tied_lists.specs.Waits.{has_left, AwaitsThis, HasLeft, Holds, waiting}
 use Rattle.tied_lists.proofs.Growth.{grew-ours}
 use Rattle.tied_lists.proofs.Histories.{legal-follows}
 use Rattle.tied_lists.proofs.Steps.{tied-all, tied-called, tied-given_up, tied-none, tied-posted}
@@ -47,10 +47,10 @@ use Rattle.comm_port.specs.HostTurns.{asks_left, EndsWithPass, HostTies, HostTur
 use Rattle.comm_port.proofs.HostLists.{agree_asked, agree_given_up, agree_still}
 use Rattle.comm_port.proofs.HostLists.{made_net}
 use Rattle.comm_port.proofs.HostTurning.{items-now, legal-with, own-turn, turning-still}
-use Rattle.comm_port.proofs.Leaves.{handed-ends}
+use Rattle.comm_port.proofs.Leaves.{IsQuietCause, handed-on, handed-ends}
 use Rattle.comm_port.proofs.Sends.{kept-found}
 use Rattle.comm_port.proofs.Through.{rest-through}
-use Rattle.comm_port.proofs.RingTurns.{kept-both, kept-post, on-ring, own-moved}
+use Rattle.comm_port.proofs.RingTurns.{kept-both, kept-post, on-still, own-on, own-moved}
 
 -- ---- an Ask
 
@@ -117,7 +117,8 @@ turning-asked alone n f old new side ring ring' t kind w went legal =
     let e : HostEntry = Ask f.id f.to f.pdu in
     let call : Called = record { id = f.id; sort = OverNet f.to f.pdu } in
     let m = own-moved side alone n ring (Post n f) ring' refl t.own_turn legal went in
-    let kept = kept-post side.net n ring ring' f m in
+    let on = own-on side alone n ring (Post n f) ring' t.own_turn legal went in
+    let kept = kept-post side.net n ring ring' f on m in
     let tied = tied-all AHost _ _ (tied-posted AHost [] call _ _ n f kind refl
     (tied-called AHost (call ∷ [])
     (host_items_of old.history) (own n ring) t.tied)) in
@@ -234,15 +235,15 @@ pub looked : {Q : Type 0} (alone : Bool) (n : ℕ) (host : HostIs) (side : RingS
     side.net ring' → WentOn alone (is_of n) ring [] ring'
     → HostTurning n host side ring → Looked alone n host side ring ring'
 looked alone n host side ring ring' legal went t =
-    let found = unmoved side.net n alone ring ring' (on-ring side ring ring' n t.own_turn legal)
-    went t.own_turn.free in
+    let on = on-still side alone ring ring' n t.own_turn legal went in
+    let found = unmoved side.net n alone ring ring' on went t.own_turn.free in
     let same : sends_left side.net ring' n ≡ sends_left side.net ring n = ap sends_of found.part_is
     in
     record {
       turning = turning-still alone n host side ring ring' legal went t;
-      kept = kept-found side.net n ring ring' found;
+      kept = kept-found side.net n ring ring' on found;
       less = omega arith;
-      left = λ gone. ap (λ (c : NodeIs). c.here) found.part_is ∙ gone;
+      left = λ gone. ap (λ (c : NodeIs). has_left c.status) found.part_is ∙ gone;
     }
 
 pub turn-at : {Q : Type 0} (n : ℕ) (side side' : RingSideIs Q) (ring : List RingEntry)
@@ -311,7 +312,7 @@ turning-sent alone n heard host side ring ring' t sent legal =
     (Send n heard ∷ []) ring' sent.grew in
     let tied = tied-all AHost _ _ (tied-quiet AHost [] (host_items_of host.history) (own n ring)
     (Send n heard) refl refl refl
-    refl refl (tied-none AHost _ _ t.tied)) in
+    refl refl refl (tied-none AHost _ _ t.tied)) in
     let paths = agree_still host.history (own n ring) (Send n heard) (λ p now. refl) (λ p now. refl)
     t.paths in
     record {
@@ -325,12 +326,12 @@ turning-sent alone n heard host side ring ring' t sent legal =
 -- ---- the last entry of a turn
 
 last-quiet : (n : ℕ) (done : Bool) (words : List ℕ) (cause : Option LeaveCause) (a : Items)
-    (b : List RingEntry) → TiedBut AHost
+    (b : List RingEntry) → IsQuietCause cause → TiedBut AHost
     [] a b → TiedBut AHost [] a (b ++ last_entry n done words cause ∷ [])
-last-quiet n done words None a b t = tied-quiet AHost [] a b (Pass n done words) refl refl refl refl
-    refl t
-last-quiet n done words (Some cause) a b t = tied-quiet AHost [] a b (Leave n cause) refl refl refl
-    refl refl t
+last-quiet n done words None a b quiet t = tied-quiet AHost [] a b (Pass n done words) refl refl refl
+    refl refl refl t
+last-quiet n done words (Some cause) a b quiet t = tied-quiet AHost [] a b (Leave n cause) refl refl
+    refl refl refl (quiet cause refl) t
 
 last-still : (n : ℕ) (done : Bool) (words : List ℕ) (cause : Option LeaveCause) (h : List HostEntry)
     (b : List RingEntry) →
@@ -343,19 +344,20 @@ last-still n done words (Some cause) h b agree = agree_still h b (Leave n cause)
 pub ties-handed : {Q : Type 0} (alone : Bool) (n : ℕ) (done : Bool) (words : List ℕ)
     (cause : Option LeaveCause) (host : HostIs)
     (side : RingSideIs Q) (ring ring' : List RingEntry) → HostTurning n host side ring
-    → HandedOn alone side.net n done words cause ring ring' → IsLegalRing side.net ring'
-    → 0 < side.net.answer → IsAtRest side.net n ring → HostTies n host side ring'
-ties-handed alone n done words cause host side ring ring' t handed legal wait rest =
+    → HandedOn alone side.net n done words cause ring ring' → IsQuietCause cause
+    → IsLegalRing side.net ring' → 0 < side.net.answer → IsAtRest side.net n ring → HostTies n host side ring'
+ties-handed alone n done words cause host side ring ring' t handed quiet legal wait rest =
     let own_is = grew-ours alone (is_of n) ring (last_entry n done words cause ∷ []) ring'
     handed.grew in
     record {
       node = t.node;
       legal = t.legal;
       serves = t.own_turn.serves;
-      on = on-ring side ring ring' n t.own_turn legal;
+      on = handed-on alone side.net n done words cause ring ring' t.own_turn.on legal handed;
       answer = wait;
       tied = subst (Tied AHost (host_items_of host.history)) (sym own_is)
-          (tied-all AHost _ _ (last-quiet n done words cause _ _ (tied-none AHost _ _ t.tied)));
+          (tied-all AHost _ _ (last-quiet n done words cause _ _ quiet
+          (tied-none AHost _ _ t.tied)));
       paths = subst (PathsAgree host.history) (sym own_is)
           (last-still n done words cause host.history (own n ring) t.paths);
       rest = rest-through alone side.net n ring ring' t.own_turn.on legal

@@ -11,7 +11,7 @@ use Rattle.host_port.specs.declared.entry.HostEntry.{HostEntry}
 use Rattle.ring_core.specs.declared.frame.Frame.{Frame}
 use Rattle.ring_core.specs.declared.entry.RingEntry.{RingEntry}
 use Rattle.ring_core.specs.declared.entry.RingEntry.TheVariants.{Post, Send, Take, Local, GiveUp}
-use Rattle.ring_core.specs.declared.entry.RingEntry.TheVariants.{Pass, Leave}
+use Rattle.ring_core.specs.declared.entry.RingEntry.TheVariants.{Pass, Leave, Join}
 use Rattle.ring_core.specs.Words.{maker, asks_for}
 use Rattle.ring_core.specs.Machine.{NodeIs}
 use Rattle.ring_core.specs.Legal.{IsLegalRing}
@@ -24,6 +24,7 @@ use Rattle.comm_port.specs.HostTurns.{AsksAllDue, GivesUpDue, GivenUp}
 use Rattle.comm_port.specs.HostTurns.{SendsOut, give_up_of}
 use Rattle.comm_port.specs.SendsAll.{IsNextSending}
 use Rattle.comm_port.specs.Order.{IsGivingUp}
+use Rattle.comm_port.proofs.RingTurns.{on-push}
 use Rattle.comm_port.proofs.HostSends.{none-failed-due}
 use Rattle.comm_port.proofs.Parts.{each-added}
 use Rattle.comm_port.proofs.Sends.{sent-one}
@@ -54,8 +55,7 @@ holder-run net n Sort Q keeps past (e ∷ es) on legal sorts h it =
     let legal' : IsLegalRing net ((past ++ e ∷ []) ++ es) = subst (IsLegalRing net)
     (sym join) legal in
     let near = (legal-parts net (past ++ e ∷ []) es legal').0 in
-    let on' : IsOnRing net (past ++ e ∷ []) n = record
-    { members = on.members; legal = near; member = on.member } in
+    let on' : IsOnRing net (past ++ e ∷ []) n = on-push net n past e on near (inl h) in
     subst (λ (l : List RingEntry). Q (part_at net n l)) join
     (⊎_elim
     (λ (mine : is_of n e ≡ true).
@@ -102,6 +102,7 @@ inbox-keeps net n past after' (Take m f) mine move sort h q = absurd sort
 inbox-keeps net n past after' (Local m id op result) mine move sort h q = absurd sort
 inbox-keeps net n past after' (Pass m done words) mine move sort h q = absurd sort
 inbox-keeps net n past after' (Leave m cause) mine move sort h q = absurd sort
+inbox-keeps net n past after' (Join m) mine move sort h q = absurd sort
 
 outbox-keeps : (net : NetPlan) (n : ℕ) → HolderKeeps net n IsGivingUp (λ c. c.outbox ≡ [])
 outbox-keeps net n past after' (GiveUp id word) mine move sort h q =
@@ -113,6 +114,7 @@ outbox-keeps net n past after' (Take m f) mine move sort h q = absurd sort
 outbox-keeps net n past after' (Local m id op result) mine move sort h q = absurd sort
 outbox-keeps net n past after' (Pass m done words) mine move sort h q = absurd sort
 outbox-keeps net n past after' (Leave m cause) mine move sort h q = absurd sort
+outbox-keeps net n past after' (Join m) mine move sort h q = absurd sort
 
 -- ---- what a host's parts add
 
@@ -137,28 +139,25 @@ step-sort net n on past (Take m f) it = absurd it
 step-sort net n on past (Local m id op result) it = absurd it
 step-sort net n on past (Pass m done words) it = absurd it
 step-sort net n on past (Leave m cause) it = absurd it
+step-sort net n on past (Join m) it = absurd it
 
 -- the inbox of a host that served, asked, sent and gave up is empty
 pub inbox-empty : (alone : Bool) (net : NetPlan) (n : ℕ) (plan : HostPlan) (hold : ℕ)
     (asks : List Frame) (on : ℕ → Bool) (paths : List ℕ) (k1 k2 k3 k4 : List HostEntry)
     (served asked sent
-    given : List RingEntry) → IsOnRing net served n → Holds net served n → IsLegalRing net asked
-    → Holds net asked n → IsLegalRing net sent → Holds net sent n → IsLegalRing net given
+    given : List RingEntry) → IsOnRing net served n → Holds net served n → IsOnRing net asked n
+    → Holds net asked n → IsOnRing net sent n → Holds net sent n → IsLegalRing net given
     → (part_at net n served).inbox ≡ [] → AsksAllDue alone n plan hold asks k1 k2 served asked
     → SendsOut alone net n on k2 k3 asked sent → GivesUpDue alone net n paths k3 k4 sent given
     → (part_at net n given).inbox ≡ []
-inbox-empty alone net n plan hold asks on paths k1 k2 k3 k4 served asked sent given ring h1 legal2
-    h2 legal3 h3 legal4 empty a s u =
-    let on2 : IsOnRing net asked n = record
-    { members = ring.members; legal = legal2; member = ring.member } in
-    let on3 : IsOnRing net sent n = record
-    { members = ring.members; legal = legal3; member = ring.member } in
+inbox-empty alone net n plan hold asks on paths k1 k2 k3 k4 served asked sent given ring h1 on2
+    h2 on3 h3 legal4 empty a s u =
     let one = holder-through alone net n KeepsBox (λ c. c.inbox ≡ []) served asked
-    (inbox-keeps net n) ring legal2 h1
+    (inbox-keeps net n) ring on2.legal h1
     (record { added = map (Post n) asks; sort = posts-sort n asks; grew = a.in_order.grew }) empty
     in
     let two = holder-through alone net n KeepsBox (λ c. c.inbox ≡ []) asked sent (inbox-keeps net n)
-    on2 legal3 h2
+    on2 on3.legal h2
     (record {
       added = s.frames.done;
       sort = each-added alone n (IsNextSending net n on) KeepsBox (step-sort net n on) asked
@@ -172,13 +171,13 @@ inbox-empty alone net n plan hold asks on paths k1 k2 k3 k4 served asked sent gi
 -- a host that sent all and gave up what was due is at rest
 pub rest-due : (alone : Bool) (net : NetPlan) (n : ℕ) (on : ℕ → Bool) (k2 k3 k4 : List HostEntry)
     (asked sent given : List RingEntry) → IsOnRing net sent n → Holds net sent n
-    → IsLegalRing net given → SendsOut alone net n on k2 k3 asked sent
+    → IsOnRing net given n → SendsOut alone net n on k2 k3 asked sent
     → GivesUpDue alone net n network_paths k3 k4 sent given → IsAtRest net n given
-rest-due alone net n on k2 k3 k4 asked sent given ring h legal s u = record {
+rest-due alone net n on k2 k3 k4 asked sent given ring h on4 s u = record {
   all_sent = holder-through alone net n IsGivingUp (λ c. c.outbox ≡ []) sent given
-      (outbox-keeps net n) ring legal h
+      (outbox-keeps net n) ring on4.legal h
       (record { added = map give_up_of u.ends; sort = gives-sort u.ends; grew = u.grew })
       s.frames.all_sent;
   none_failed = λ path chosen. none-failed-due net n given
-      (record { members = ring.members; legal = legal; member = ring.member }) u.none_left path;
+      on4 u.none_left path;
 }

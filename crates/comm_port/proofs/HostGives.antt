@@ -12,7 +12,7 @@ use Rattle.plant_types.specs.declared.net.NetPlan.{NetPlan}
 use Rattle.mstr_block.specs.Table.{network_paths}
 use Rattle.mstr_block.specs.declared.call.CallId.{CallId}
 use Rattle.ring_core.specs.Legal.{IsLegalRing}
-use Rattle.ring_core.specs.Machine.{awaited_number, NodeIs, path_of, ring_after}
+use Rattle.ring_core.specs.Machine.{is_here, awaited_number, NodeIs, path_of, ring_after}
 use Rattle.ring_core.specs.Refusals.{give_up_no}
 use Rattle.ring_core.specs.declared.frame.Frame.{Frame}
 use Rattle.ring_core.specs.declared.path.Path.{Path}
@@ -37,7 +37,7 @@ use Rattle.comm_port.specs.HostTurns.{GivesUpDue, give_up_of, HostTurning, wante
 use Rattle.comm_port.proofs.HostRuns.{all-let, due-both, due-nothing, due-one, due-same, ends_on}
 use Rattle.comm_port.proofs.HostRuns.{kept_for, kept-why, left-grew, still-none}
 use Rattle.comm_port.proofs.Dues.{named-by}
-use Rattle.comm_port.proofs.RingTurns.{on-ring}
+use Rattle.comm_port.proofs.RingTurns.{on-grew, on-still}
 
 -- ---- one path
 
@@ -79,7 +79,7 @@ pub looks-at : {Q : Type 0} (alone : Bool) (n p seq : ℕ) (host : HostIs) (side
     → IsLegalRing side.net b → WentOn alone (is_of n) a [] b
     → seq ≡ awaited_number (path_of (part side.net b n) p).awaits → LooksAt side.net n p seq a b
 looks-at alone n p seq host side a b t legal went is =
-    let on = on-ring side a b n t.own_turn legal in
+    let on = on-still side alone a b n t.own_turn legal went in
     record { on = on; found = unmoved side.net n alone a b on went t.own_turn.free; seq_is = is }
 
 pub gives-zero : {Q : Type 0} (alone : Bool) (n p seq : ℕ) (host : HostIs) (side : RingSideIs Q)
@@ -111,18 +111,18 @@ pub gives-kept : {Q : Type 0} (alone : Bool) (n p seq : ℕ) (host : HostIs) (si
 gives-kept alone n p seq host side list a b c t legal went is gave legal' kept =
     let net = side.net in
     let l = looks-at alone n p seq host side a b t legal went is in
-    let on = on-ring side a c n t.own_turn legal' in
     let grew : Grew alone (is_of n) a [] c = grew-more alone (is_of n) a b c [] []
     (grew-one alone (is_of n) a [] b refl went) gave.grew in
+    let on = on-grew alone side.net n a [] c t.own_turn.on legal' tt grew in
     let left = left-grew alone net n [] a c on t.own_turn.free grew in
     let path : path_of (part net c n) p ≡ path_of (part net a n) p = left.others p refl in
     let number : seq ≡ awaited_number (path_of (part net c n) p).awaits =
     is ∙ ap (λ (x : NodeIs). awaited_number (path_of x p).awaits) l.found.part_is ∙ ap
     (λ (x : Path). awaited_number x.awaits) (sym path) in
     let why = kept-why net c n p seq left.free in
-    let no' : is_none (kept_for net.answer (part net c n).here (path_of (part net c n) p).awaits
+    let no' : is_none (kept_for net.answer (is_here (part net c n)) (path_of (part net c n) p).awaits
     seq) ≡ false = ap is_none (sym why) ∙ kept in
-    let here = (part net c n).here in
+    let here = (is_here (part net c n)) in
     let awaits = (path_of (part net c n) p).awaits in
     let no'' : is_none (kept_for net.answer here awaits (awaited_number awaits)) ≡ false =
     ap (λ (k : ℕ). is_none (kept_for net.answer here awaits k)) (sym number) ∙ no' in
@@ -146,14 +146,15 @@ gives-word alone n p seq word host side list new a b c t legal went is gave lega
     let id : CallId = record { node = n; path = p; seq = seq } in
     let end : GivenUp = record { id = id; word = word } in
     let l = looks-at alone n p seq host side a b t legal went is in
-    let on = on-ring side a c n t.own_turn legal' in
     let free = t.own_turn.free in
     let grew : Grew alone (is_of n) a (give_up_of end ∷ []) c =
     grew-more alone (is_of n) a b c [] (give_up_of end ∷ [])
     (grew-one alone (is_of n) a [] b refl went) gave.grew in
+    let on = on-grew alone side.net n a (give_up_of end ∷ []) c t.own_turn.on legal' (tt, tt) grew
+    in
     let left = left-grew alone net n (end ∷ []) a c on free grew in
     let awaits = (path_of (part net a n) p).awaits in
-    let here = (part net a n).here in
+    let here = (is_here (part net a n)) in
     let number : seq ≡ awaited_number awaits = is ∙ ap
     (λ (x : NodeIs). awaited_number (path_of x p).awaits) l.found.part_is in
     let lets : kept_for net.answer here awaits seq ≡ None = all-let alone net n end a c on free grew

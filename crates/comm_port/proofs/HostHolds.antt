@@ -30,7 +30,7 @@ use Rattle.ring_core.specs.declared.path.Await.TheVariants.{Nothing, Out, Arrive
 use Rattle.ring_core.specs.declared.entry.LeaveCause.{LeaveCause}
 use Rattle.ring_core.specs.declared.entry.RingEntry.{RingEntry}
 use Rattle.ring_core.specs.declared.entry.RingEntry.TheVariants.{Post, Send, Take, Local, GiveUp}
-use Rattle.ring_core.specs.declared.entry.RingEntry.TheVariants.{Pass, Leave}
+use Rattle.ring_core.specs.declared.entry.RingEntry.TheVariants.{Pass, Leave, Join}
 use Rattle.host_port.specs.declared.entry.HostEntry.{HostEntry}
 use Rattle.host_port.specs.Calls.{goes_on_path, next_host_call, open_on, requests_in, unanswered_in}
 use Rattle.host_port.specs.Host.{due_request, host_is_done, HostIs, if_due, next_ask}
@@ -45,6 +45,7 @@ use Rattle.tied_lists.proofs.Growth.{grew-ours}
 use Rattle.tied_lists.proofs.Histories.{legal-follows}
 use Rattle.tied_lists.proofs.Turns.{part}
 use Rattle.joint_history.specs.Complete.{is_pass}
+use Rattle.comm_port.proofs.RingTurns.{not-in}
 use Rattle.comm_port.specs.Sides.{RingSideIs}
 use Rattle.comm_port.specs.Leaving.{cause_due, HandedOn, last_entry}
 use Rattle.comm_port.specs.Giving.{due_calls, is_chosen}
@@ -115,7 +116,7 @@ none-unanswered n host side ring t gone' none =
     none-open host.plan host.history (unanswered_in host.history) t.legal refl (λ p is_path.
     let a = (path_of (part net ring n) p).awaits in
     let left : goes_by net.answer false n p a ≡ [] = ap (λ (b : Bool). goes_by net.answer b n p a)
-    (sym gone') ∙ sym (due-one net ring n p) ∙ at p is_path in
+    (sym (not-in net n ring gone')) ∙ sym (due-one net ring n p) ∙ at p is_path in
     sym (t.paths.waits p) ∙ nothing-waits a (waiting p (own n ring))
     (nothing-left net.answer n p a left) (follows.paths p))
 
@@ -263,6 +264,7 @@ step-none net n on past (Local m id op result) s = refl
 step-none net n on past (GiveUp id word) s = refl
 step-none net n on past (Pass m done words) s = absurd s
 step-none net n on past (Leave m cause) s = refl
+step-none net n on past (Join m) s = refl
 
 none-pass : (es : List RingEntry) → Each (λ (e : RingEntry). is_pass e ≡ false) es
     → passes_in es ≡ 0

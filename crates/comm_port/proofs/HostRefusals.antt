@@ -4,7 +4,7 @@ use Rattle.std.proofs.Common.{None}
 use Rattle.std.proofs.Common.{refl, sym, ap, ◌∙◌, ⊎_elim, eq-eqb}
 use Rattle.std.specs.Prelude.{if◌then◌else◌}
 use Rattle.ring_core.specs.Legal.{IsLegalRing}
-use Rattle.ring_core.specs.Machine.{NodeIs, path_of, ring_after, ring_node, RingIs}
+use Rattle.ring_core.specs.Machine.{is_here, NodeIs, path_of, ring_after, ring_node, RingIs}
 use Rattle.ring_core.specs.Refusals.{or_no, path_no, post_no, taken_no, turn_no}
 use Rattle.ring_core.specs.declared.refusal.RingNo.{RingNo}
 use Rattle.ring_core.specs.declared.refusal.RingNo.TheVariants.{NoMemory, NotHolder, NotMember}
@@ -26,7 +26,7 @@ use Rattle.comm_port.specs.Turns.{IsOwnTurn}
 use Rattle.comm_port.specs.HostTurns.{HostTurning}
 use Rattle.comm_port.proofs.HostAsks.{ask-legal}
 use Rattle.comm_port.proofs.HostRuns.{free-none}
-use Rattle.comm_port.proofs.RingTurns.{on-ring}
+use Rattle.comm_port.proofs.RingTurns.{on-still}
 
 -- a call that nothing stands against was refused for want of memory
 pub only-short : (no' : Option RingNo) (why : RingNo) → no' ≡ None
@@ -48,11 +48,11 @@ pub take-short : {Q : Type 0} (alone : Bool) (n : ℕ) (side : RingSideIs Q)
     → (turn_no (ring_after side.net ring') n ≡ Some why) ⊎
     ((why ≡ NoMemory) × (turn_no (ring_after side.net ring') n ≡ None)) → why ≡ NoMemory
 take-short alone n side ring ring' why t holds legal went refused =
-    let found = unmoved side.net n alone ring ring' (on-ring side ring ring' n t legal) went t.free
-    in
+    let found = unmoved side.net n alone ring ring' (on-still side alone ring ring' n t legal went)
+    went t.free in
     let h = found.holds holds in
     let r = ring_after side.net ring' in
-    only-short (turn_no r n) why (turn-none r (ring_node r n).here (r.holder == n) h.here
+    only-short (turn_no r n) why (turn-none r (is_here (ring_node r n)) (r.holder == n) h.here
     (eq-eqb r.holder n h.holder)) refused
 
 none-awaits : (a : Await) (w : Option Frame) → w ≡ None → AwaitsThis a w → a ≡ Nothing
@@ -74,8 +74,8 @@ pub post-short : {Q : Type 0} (alone : Bool) (n : ℕ) (f : Frame) (old new : Ho
 post-short alone n f old new side ring ring' why t kind w legal went refused =
     let net = side.net in
     let p = f.id.path in
-    let found = unmoved net n alone ring ring' (on-ring side ring ring' n t.own_turn legal) went
-    t.own_turn.free in
+    let found = unmoved net n alone ring ring' (on-still side alone ring ring' n t.own_turn legal went)
+    went t.own_turn.free in
     let call = open_requests.new old.plan old.history f.id f.to f.pdu (ask-legal old new f w) in
     let follows = (legal-follows net ring n t.own_turn.on).node.part in
     let awaits : (path_of (part net ring n) p).awaits ≡ Nothing =

@@ -16,7 +16,7 @@ use Rattle.plant_types.specs.declared.net.NetPlan.{NetPlan}
 use Rattle.mstr_block.specs.declared.call.CallId.{CallId}
 use Rattle.ring_core.specs.Words.{maker}
 use Rattle.ring_core.specs.Legal.{IsLegalRing, IsPath}
-use Rattle.ring_core.specs.Machine.{awaited_number, no_path, NodeIs, passes_of}
+use Rattle.ring_core.specs.Machine.{is_here, awaited_number, no_path, NodeIs, passes_of}
 use Rattle.ring_core.specs.Machine.{path_of, ring_after, ring_node, RingIs}
 use Rattle.ring_core.specs.Refusals.{answer_after, awaited_no, due_no, free_no, give_up_no, or_no}
 use Rattle.ring_core.specs.Refusals.{other_no}
@@ -31,6 +31,8 @@ use Rattle.tied_lists.specs.Own.{is_of, own, Grew, WentOn}
 use Rattle.tied_lists.specs.Waits.{HasLeft, Holds, IsFree, IsOnRing}
 use Rattle.tied_lists.proofs.Histories.{legal-follows}
 use Rattle.tied_lists.proofs.Turns.{after-give_up, Found, found-at, legal-parts, Moved, moved, part}
+use Rattle.tied_lists.proofs.Turns.{patient-parts}
+use Rattle.comm_port.proofs.RingTurns.{not-in}
 use Rattle.comm_port.specs.Sides.{RingSideIs}
 use Rattle.comm_port.specs.Giving.{due_by, due_calls, due_on, part_at, HasFailed}
 use Rattle.comm_port.specs.HostTurns.{GivenUp, give_up_of}
@@ -46,6 +48,7 @@ on-front net n a b on = record {
   members = on.members;
   legal = (legal-parts net a b on.legal).0;
   member = on.member;
+  patient = (patient-parts net n [] a b on.patient).0;
 }
 
 pub on-step : (net : NetPlan) (n : ℕ) (past : List RingEntry) (e : RingEntry) (xs : List RingEntry)
@@ -107,7 +110,7 @@ pub record LeftBy (net : NetPlan) (n : ℕ) (ends : List GivenUp) (a b : List Ri
   where
     pub free : IsFree net b n
     pub holds : Holds net a n → Holds net b n
-    pub here : (part net b n).here ≡ (part net a n).here
+    pub here : (is_here (part net b n)) ≡ (is_here (part net a n))
     pub paths : (p : ℕ) → (path_of (part net b n) p ≡ path_of (part net a n) p) ⊎
         ((path_of (part net b n) p).awaits ≡ Nothing)
     pub others : (p : ℕ) → list_any (ends_on p) ends ≡ false
@@ -119,7 +122,7 @@ left-same : (net : NetPlan) (n : ℕ) (a b : List RingEntry) → Found net n a b
 left-same net n a b f = record {
   free = f.free;
   holds = f.holds;
-  here = ap (λ (c : NodeIs). c.here) f.part_is;
+  here = ap (λ (c : NodeIs). is_here c) f.part_is;
   paths = λ p. inl (ap (λ (c : NodeIs). path_of c p) f.part_is);
   others = λ p none. ap (λ (c : NodeIs). path_of c p) f.part_is;
   ended = λ p some. absurd (cc);
@@ -191,7 +194,7 @@ gave-step net n past g on free mine =
     record {
       free = w.free;
       holds = w.holds;
-      here = ap (λ (x : NodeIs). x.here) w.part_is;
+      here = ap (λ (x : NodeIs). is_here x) w.part_is;
       paths = λ p. ⊎_elim (λ (e : p ≡ q). inr (ap (λ (k : ℕ). (path_of d k).awaits) e ∙ here))
           (λ (o : p ≡ q → ⊥). inl (other p o)) (cases_eq p q);
       others = λ p none. other p (λ e. apart p e none);
@@ -296,10 +299,10 @@ kept_for answer here a seq = or_no (awaited_no a seq) (if here then answer_after
 pub free-none : (net : NetPlan) (ring : List RingEntry) (n : ℕ) → IsFree net ring n
     → free_no (ring_after net ring) n ≡ None
 free-none net ring n free = ⊎_elim
-    (λ (h : Holds net ring n). both (ring_node (ring_after net ring) n).here
+    (λ (h : Holds net ring n). both (is_here (ring_node (ring_after net ring) n))
     ((ring_after net ring).holder == n) h.here (eq-eqb _ n h.holder))
-    (λ (l : HasLeft net ring n). gone' (ring_node (ring_after net ring) n).here
-    ((ring_after net ring).holder == n) l)
+    (λ (l : HasLeft net ring n). gone' (is_here (ring_node (ring_after net ring) n))
+    ((ring_after net ring).holder == n) (not-in net n ring l))
     free
   where
     r : RingIs
@@ -318,10 +321,10 @@ free-none net ring n free = ⊎_elim
 
 pub kept-why : (net : NetPlan) (ring : List RingEntry) (n p seq : ℕ) → IsFree net ring n
     → give_up_no net (ring_after net ring) (record { node = n; path = p; seq = seq })
-    ≡ kept_for net.answer (part net ring n).here (path_of (part net ring n) p).awaits seq
+    ≡ kept_for net.answer (is_here (part net ring n)) (path_of (part net ring n) p).awaits seq
 kept-why net ring n p seq free =
     ap (λ (o : Option RingNo). or_no o
-    (kept_for net.answer (part net ring n).here (path_of (part net ring n) p).awaits seq))
+    (kept_for net.answer (is_here (part net ring n)) (path_of (part net ring n) p).awaits seq))
     (free-none net ring n free)
 
 -- the call of a path that goes, if it does
@@ -376,9 +379,9 @@ goes-due answer false n p (Failed s word) =
     (record { node = n; path = p; seq = s } ∷ []) []) (other-none s))
 
 pub due-one : (net : NetPlan) (ring : List RingEntry) (n p : ℕ)
-    → due_calls net n ring (p ∷ []) ≡ goes_by net.answer (part net ring n).here n p
+    → due_calls net n ring (p ∷ []) ≡ goes_by net.answer (is_here (part net ring n)) n p
     (path_of (part net ring n) p).awaits
-due-one net ring n p = goes-due net.answer (part net ring n).here n p
+due-one net ring n p = goes-due net.answer (is_here (part net ring n)) n p
     (path_of (part net ring n) p).awaits
 
 pub due-both : (net : NetPlan) (ring : List RingEntry) (n : ℕ) (ps qs : List ℕ)
@@ -386,7 +389,7 @@ pub due-both : (net : NetPlan) (ring : List RingEntry) (n : ℕ) (ps qs : List �
 due-both net ring n ps qs = filter_map-append (due_on net n (part_at net n ring)) ps qs
 
 pub due-same : (net : NetPlan) (a b : List RingEntry) (n p : ℕ)
-    → (part net b n).here ≡ (part net a n).here
+    → (is_here (part net b n)) ≡ (is_here (part net a n))
     → path_of (part net b n) p ≡ path_of (part net a n) p
     → due_calls net n b (p ∷ []) ≡ due_calls net n a (p ∷ [])
 due-same net a b n p here path =
@@ -396,7 +399,7 @@ due-same net a b n p here path =
 pub due-nothing : (net : NetPlan) (b : List RingEntry) (n p : ℕ)
     → (path_of (part net b n) p).awaits ≡ Nothing
     → due_calls net n b (p ∷ []) ≡ []
-due-nothing net b n p is = due-one net b n p ∙ ap (goes_by net.answer (part net b n).here n p) is
+due-nothing net b n p is = due-one net b n p ∙ ap (goes_by net.answer (is_here (part net b n)) n p) is
 
 no-more : (xs ys : List CallId) → xs ++ ys ≡ [] → (xs ≡ []) × (ys ≡ [])
 no-more [] ys is = (refl, is)
@@ -536,11 +539,11 @@ each-gone net n on past (e ∷ xs) ends ring holds is young all wait =
         let same : g.id ≡ id = λ i. record { node = by i; path = g.id.path; seq = g.id.seq } in
         let let_go : give_up_no net (ring_after net m.past) id ≡ None = ap
         (give_up_no net (ring_after net m.past)) (sym same) ∙ m.step.1.0 in
-        let why : kept_for net.answer (part net m.past n).here
+        let why : kept_for net.answer (is_here (part net m.past n))
         (path_of (part net m.past n) g.id.path).awaits g.id.seq ≡ None =
         sym (kept-why net m.past n g.id.path g.id.seq m.found.free) ∙ let_go in
-        let there : kept_for net.answer c.here (path_of c g.id.path).awaits g.id.seq ≡ None =
-        ap (λ (x : NodeIs). kept_for net.answer x.here (path_of x g.id.path).awaits g.id.seq)
+        let there : kept_for net.answer (is_here c) (path_of c g.id.path).awaits g.id.seq ≡ None =
+        ap (λ (x : NodeIs). kept_for net.answer (is_here x) (path_of x g.id.path).awaits g.id.seq)
         (sym m.found.part_is) ∙ why in
         let held : kept_for net.answer true (path_of c g.id.path).awaits g.id.seq ≡ None =
         ap (λ (b : Bool). kept_for net.answer b (path_of c g.id.path).awaits g.id.seq)
@@ -552,7 +555,7 @@ each-gone net n on past (e ∷ xs) ends ring holds is young all wait =
 lets-go : (net : NetPlan) (n : ℕ) (g : GivenUp) (past xs : List RingEntry)
     → IsOnRing net (past ++ xs) n → IsFree net past n
     → own n xs ≡ give_up_of g ∷ [] → g.id.node ≡ n
-    → kept_for net.answer (part net past n).here (path_of (part net past n) g.id.path).awaits
+    → kept_for net.answer (is_here (part net past n)) (path_of (part net past n) g.id.path).awaits
     g.id.seq ≡ None
 lets-go net n g past [] ring free is by = absurd (cc)
 lets-go net n g past (e ∷ xs) ring free is by =
@@ -569,12 +572,12 @@ lets-go net n g past (e ∷ xs) ring free is by =
           let id_is : g.id ≡ id = λ i. record { node = by i; path = g.id.path; seq = g.id.seq } in
           let let_go : give_up_no net (ring_after net m.past) id ≡ None = ap
           (give_up_no net (ring_after net m.past)) (sym id_is) ∙ m.step.1.0 in
-          ap (λ (x : NodeIs). kept_for net.answer x.here (path_of x g.id.path).awaits g.id.seq)
+          ap (λ (x : NodeIs). kept_for net.answer (is_here x) (path_of x g.id.path).awaits g.id.seq)
           (sym m.found.part_is)
           ∙ (sym (kept-why net m.past n g.id.path g.id.seq m.found.free) ∙ let_go)
       | inr other ↦
           let f = other-step net n past e next free other in
-          ap (λ (x : NodeIs). kept_for net.answer x.here (path_of x g.id.path).awaits g.id.seq)
+          ap (λ (x : NodeIs). kept_for net.answer (is_here x) (path_of x g.id.path).awaits g.id.seq)
           (sym f.part_is)
           ∙ lets-go net n g (past ++ e ∷ []) xs ring' f.free
           (not-own n e xs (give_up_of g ∷ []) is other) by
@@ -586,7 +589,7 @@ lets-go net n g past (e ∷ xs) ring free is by =
 pub all-let : (alone : Bool) (net : NetPlan) (n : ℕ) (g : GivenUp) (a b : List RingEntry)
     → IsOnRing net b n → IsFree net a n
     → Grew alone (is_of n) a (give_up_of g ∷ []) b → g.id.node ≡ n
-    → kept_for net.answer (part net a n).here (path_of (part net a n) g.id.path).awaits g.id.seq ≡
+    → kept_for net.answer (is_here (part net a n)) (path_of (part net a n) g.id.path).awaits g.id.seq ≡
     None
 all-let alone net n g a b on free w by =
     lets-go net n g a w.more (subst (λ (l : List RingEntry). IsOnRing net l n) w.after_is on) free

@@ -11,7 +11,7 @@ use Rattle.plant_types.specs.declared.net.NetPlan.{NetPlan}
 use Rattle.mstr_block.specs.Table.{network_paths}
 use Rattle.mstr_block.specs.declared.call.CallId.{CallId}
 use Rattle.ring_core.specs.Legal.{IsFrom, IsPath}
-use Rattle.ring_core.specs.Machine.{awaiting, busy_word, failed, heard_by, no_path, NodeIs}
+use Rattle.ring_core.specs.Machine.{is_here, awaiting, busy_word, failed, heard_by, no_path, NodeIs}
 use Rattle.ring_core.specs.Machine.{passes_of, path_of, path_places, sent_off, silence_word}
 use Rattle.ring_core.specs.Refusals.{or_no, other_no}
 use Rattle.ring_core.specs.declared.refusal.RingNo.{RingNo}
@@ -319,7 +319,7 @@ pub none-failed-due : (net : NetPlan) (n : ℕ) (ring : List RingEntry) → IsOn
     → HasFailed (path_of (part net ring n) p).awaits → ⊥
 none-failed-due net n ring on none p failed =
     let each = none-due net ring n network_paths none in
-    failed-goes net.answer (part net ring n).here n p (path_of (part net ring n) p).awaits failed
+    failed-goes net.answer (is_here (part net ring n)) n p (path_of (part net ring n) p).awaits failed
     (sym (due-one net ring n p)
     ∙ at_path (λ (q : ℕ). due_calls net n ring (q ∷ []) ≡ []) p
     (failed-path-is net ring n p on failed) each.0 each.1.0 each.1.1.0 each.1.1.1.0)
@@ -465,7 +465,7 @@ step-failed alone net n heard fresh l l' a b c wait ring g each s new x =
       sends = step-sends alone net n on heard fresh l l' a b c g each s young ring x all wait;
       new_calls = λ p is_path chosen'. is-new (path_of (part net c n) p).awaits
           (young' p is_path chosen')
-          (λ is. failed-goes net.answer (part net c n).here n p (path_of (part net c n) p).awaits is
+          (λ is. failed-goes net.answer (is_here (part net c n)) n p (path_of (part net c n) p).awaits is
           (sym (due-one net c n p) ∙ none-at net c n fresh x.none_left p is_path chosen'));
     }
 

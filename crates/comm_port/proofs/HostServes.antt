@@ -28,7 +28,7 @@ use Rattle.comm_port.specs.Giving.{inbox_of}
 use Rattle.comm_port.specs.HostTurns.{host_notes_of, host_notes_of_kind, host_notes_of_request}
 use Rattle.comm_port.specs.HostTurns.{ServesFrame, ServesFrames, ServesInbox, ServesKind}
 use Rattle.comm_port.specs.HostTurns.{ServesRequest, ServesTaken}
-use Rattle.comm_port.proofs.RingTurns.{mine, on-ring, own-moved}
+use Rattle.comm_port.proofs.RingTurns.{mine, on-still, own-moved}
 
 pub grew_not : (alone : Bool) (n : ℕ) (ring : List RingEntry) → Grew alone (is_of n) ring [] ring
 grew_not alone n ring = record {
@@ -187,7 +187,8 @@ pub so-far-end : {Q : Type 0} (alone : Bool) (n : ℕ) (side : RingSideIs Q) (l0
     → WentOn alone (is_of n) r [] r1
     → inbox_of side.net n r1 ≡ [] → ServesInbox alone side.net n l0 l r0 r1
 so-far-end alone n side l0 l r0 r r1 turn a legal went empty =
-    let found = unmoved side.net n alone r r1 (on-ring side r r1 n turn legal) went turn.free in
+    let found = unmoved side.net n alone r r1 (on-still side alone r r1 n turn legal went) went
+    turn.free in
     let none : inbox_of side.net n r ≡ [] = ap (λ (c : NodeIs). c.inbox) (sym found.part_is) ∙ empty
     in
     let frames_are : inbox_of side.net n r0 ≡ a.frames = a.frames_are ∙ ap (λ l. a.frames ++ l) none

@@ -8,7 +8,7 @@ use Rattle.plant_types.specs.declared.net.NetPlan.{NetPlan}
 use Rattle.plant_types.specs.declared.net.HostPlan.{HostPlan}
 use Rattle.ring_core.specs.Words.{maker}
 use Rattle.ring_core.specs.Legal.{IsLegalRing, IsMember}
-use Rattle.ring_core.specs.Machine.{addresses, fresh, opening_nodes, ring_after, ring_node}
+use Rattle.ring_core.specs.Machine.{is_here, is_in, addresses, fresh, opening_nodes, ring_after, ring_node}
 use Rattle.ring_core.specs.declared.entry.RingEntry.{RingEntry}
 use Rattle.host_port.specs.declared.entry.HostEntry.{HostEntry}
 use Rattle.host_port.specs.Host.{HostIs}
@@ -72,7 +72,8 @@ stands-on m n host w left net plan budget l l' a b gone' apart legal turn t =
       ties = host-ties-others m host (own_side net) a g.more none legal' t.ties;
       counts = counts-others w a g.more (ap (λ (k : ℕ). own k g.more) t.worker_node ∙ none)
           t.counts;
-      here = λ stays. membership-kept net m a g.more none ∙ t.here stays;
+      here = λ stays. ap is_in (membership-kept net m a g.more none
+          (λ asks. let no' : false ≡ true = sym (ap is_in asks) ∙ t.here stays in cc)) ∙ t.here stays;
     })
 
 -- ---- at the start, on a ring of nodes 1 and 2
@@ -84,7 +85,7 @@ low-two (suc (suc k)) d range = absurd (omega (arith, range))
 
 pub stands-first : (n : ℕ) (host : HostIs) (w : HostWorkerIs) (left : Bool) (net : NetPlan)
     → net.members ≡ 1 ∷ 2 ∷ [] → 0 < net.answer → IsMember net n
-    → (ring_node (ring_after net []) n).here ≡ true → host.plan.node ≡ n → host.history ≡ []
+    → (is_here (ring_node (ring_after net []) n)) ≡ true → host.plan.node ≡ n → host.history ≡ []
     → w ≡ record { node = n; budget = true; passes = 0 }
     → HostIsReady n host w left net []
 stands-first n host w left net members wait member here node empty is = record {
@@ -102,6 +103,7 @@ stands-first n host w left net members wait member here node empty is = record {
         members = subst (All (λ m. m < addresses)) (sym members) low-two;
         legal = tt;
         member = subst (IsMember net) (sym node) member;
+        patient = tt;
       })
       wait));
   counts = ap (λ (x : HostWorkerIs). x.passes) is;
@@ -120,7 +122,7 @@ pub stands-one : (host : HostIs) (w : HostWorkerIs) (left : Bool) (net : NetPlan
 stands-one host w left net members wait node empty is =
     stands-first 1 host w left net members wait
     (subst (λ (l : List ℕ). Contains l 1) (sym members) (0, omega arith, refl))
-    (ap (λ (l : List ℕ). (get_or (opening_nodes l) 1 (fresh false)).here) members) node empty is
+    (ap (λ (l : List ℕ). (is_here (get_or (opening_nodes l) 1 (fresh false)))) members) node empty is
 
 pub stands-two : (host : HostIs) (w : HostWorkerIs) (left : Bool) (net : NetPlan)
     → net.members ≡ 1 ∷ 2 ∷ [] → 0 < net.answer → host.plan.node ≡ 2
@@ -129,4 +131,4 @@ pub stands-two : (host : HostIs) (w : HostWorkerIs) (left : Bool) (net : NetPlan
 stands-two host w left net members wait node empty is =
     stands-first 2 host w left net members wait
     (subst (λ (l : List ℕ). Contains l 2) (sym members) (1, omega arith, refl))
-    (ap (λ (l : List ℕ). (get_or (opening_nodes l) 2 (fresh false)).here) members) node empty is
+    (ap (λ (l : List ℕ). (is_here (get_or (opening_nodes l) 2 (fresh false)))) members) node empty is

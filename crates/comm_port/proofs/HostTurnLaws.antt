@@ -15,7 +15,7 @@ use Rattle.tied_lists.specs.Items.{AHost}
 use Rattle.tied_lists.specs.Tied.{Tied}
 use Rattle.tied_lists.specs.Waits.{IsOnRing}
 use Rattle.tied_lists.proofs.Growth.{grew-more}
-use Rattle.tied_lists.proofs.Turns.{own-found}
+use Rattle.tied_lists.proofs.Turns.{on-others, own-found}
 use Rattle.joint_history.specs.Complete.{is_pass}
 use Rattle.joint_history.specs.Reading.{host_items_of}
 use Rattle.comm_port.specs.Sides.{MayWrite, RingSideIs}
@@ -74,7 +74,14 @@ host-ties-new plan side legal serves on wait = record {
   serves = serves;
   on = on;
   answer = wait;
-  tied = record { asks = refl; peers = refl; port = refl; replies = refl; ends = refl };
+  tied = record {
+    asks = refl;
+    peers = refl;
+    port = refl;
+    replies = refl;
+    ends = refl;
+    downs = (tt, tt);
+  };
   paths = record { waits = λ p. refl; numbers = λ p. refl };
   rest = start-rests side.net plan.node;
 }
@@ -91,7 +98,7 @@ host-ties-others n host side ring more none legal t =
       node = t.node;
       legal = t.legal;
       serves = t.serves;
-      on = record { members = t.on.members; legal = legal; member = t.on.member };
+      on = on-others side.net n ring more t.on legal none;
       answer = t.answer;
       tied = subst (Tied AHost (host_items_of host.history)) (sym same) t.tied;
       paths = subst (PathsAgree host.history) (sym same) t.paths;

@@ -33,7 +33,7 @@ use Rattle.comm_port.proofs.HostLists.{agree_served, agree_still, agree_taken, i
 use Rattle.comm_port.proofs.HostLists.{made_net}
 use Rattle.tied_lists.proofs.Turns.{after-take, reply-awaited, request-of-other, unmoved}
 use Rattle.host_port.proofs.OpenRequests.{open_requests}
-use Rattle.comm_port.proofs.RingTurns.{on-ring, own-moved}
+use Rattle.comm_port.proofs.RingTurns.{on-still, own-moved, own-on}
 use Rattle.comm_port.proofs.Sends.{kept-found}
 
 -- a turn goes on
@@ -41,7 +41,7 @@ pub own-turn : {Q : Type 0} (side : RingSideIs Q) (ring ring' : List RingEntry) 
     → IsOwnTurn side ring n → IsLegalRing side.net
     ring' → KeepsInbox side.net n ring ring' → IsOwnTurn side ring' n
 own-turn side ring ring' n t legal k = record
-    { serves = t.serves; on = on-ring side ring ring' n t legal; free = k.free }
+    { serves = t.serves; on = k.on t.on; free = k.free }
 
 -- a host's list that went on by one entry
 pub legal-with : (old new : HostIs) (e : HostEntry) → HostWentOn (e ∷ []) old new
@@ -105,7 +105,7 @@ turning-served n f reply old new side alone ring ring' t kind plain w grew legal
       own_turn = own-turn side ring ring' n t.own_turn legal kept;
       tied = subst (λ a. Tied AHost a (own n ring')) (sym (items-now old new e w))
           (subst (Tied AHost (with_answer (host_items_of old.history)
-          (record { id = f.id; request = Some f.pdu; reply = reply }))) (sym own_is) tied);
+          (record { id = f.id; request = Some f.pdu; reply = Some reply }))) (sym own_is) tied);
       paths = subst (λ h. PathsAgree h (own n ring')) (sym w.history)
           (subst (PathsAgree (old.history ++ e ∷ [])) (joined ∙ sym own_is) paths);
     }
@@ -162,8 +162,7 @@ taking-now {Q} alone n f host side side' ring ring' same legal went t =
       legal = t.legal;
       own_turn = record {
         serves = t.own_turn.serves;
-        on = on-ring side ring ring' n t.own_turn
-            legal;
+        on = own-on side alone n ring (Take n f) ring' t.own_turn legal went;
         free = (after-take side.net n ring f ring' m).free;
       };
       tied = t.tied;
@@ -182,13 +181,13 @@ pub turning-still : {Q : Type 0} (alone : Bool) (n : ℕ) (host : HostIs) (side 
     IsLegalRing side.net ring' → WentOn alone (is_of n) ring [] ring'
     → HostTurning n host side ring → HostTurning n host side ring'
 turning-still alone n host side ring ring' legal went t =
-    let found = unmoved side.net n alone ring ring' (on-ring side ring ring' n t.own_turn legal)
-    went t.own_turn.free in
+    let on = on-still side alone ring ring' n t.own_turn legal went in
+    let found = unmoved side.net n alone ring ring' on went t.own_turn.free in
     record {
       node = t.node;
       legal = t.legal;
       own_turn = own-turn side ring ring' n t.own_turn legal
-          (kept-found side.net n ring ring' found);
+          (kept-found side.net n ring ring' on found);
       tied = subst (Tied AHost (host_items_of host.history)) (sym found.own_is) t.tied;
       paths = subst (PathsAgree host.history) (sym found.own_is) t.paths;
     }

@@ -1,5 +1,5 @@
 -- Which calls of a node wait, and what is due of them.
-use Rattle.std.proofs.Common.{◌≡◌, ◌⊎◌, ℕ, zero, suc, ◌<◌, ◌≤◌, Bool, true, false, nat_le, List, []}
+use Rattle.std.proofs.Common.{◌≡◌, ◌⊎◌, ℕ, zero, suc, ◌<◌, ◌≤◌, Bool, true, false, nat_le, ◌&&◌, List, []}
 use Rattle.std.proofs.Common.{◌∷◌, ◌++◌, get_or, filter_map}
 use Rattle.std.proofs.Common.{Option, Some, None, refl, sym, ap, ◌∙◌, subst, inl, inr, ⊎_elim}
 use Rattle.std.proofs.Common.{arith}
@@ -19,15 +19,19 @@ use Rattle.ring_core.specs.declared.path.Await.TheVariants.{Nothing, Out, Arrive
 use Rattle.ring_core.specs.declared.path.Path.{Path}
 use Rattle.ring_core.specs.declared.entry.RingEntry.{RingEntry}
 use Rattle.ring_core.specs.declared.entry.RingEntry.TheVariants.{Post, Send, Take, Local, GiveUp}
-use Rattle.ring_core.specs.declared.entry.RingEntry.TheVariants.{Pass, Leave}
-use Rattle.ring_core.specs.Machine.{NodeIs, path_of, passes_of}
+use Rattle.ring_core.specs.declared.entry.RingEntry.TheVariants.{Pass, Leave, Join}
+use Rattle.ring_core.specs.Machine.{is_here, NodeIs, RingIs, path_of, passes_of}
 use Rattle.tied_lists.specs.Own.{is_of, own, Adds}
-use Rattle.tied_lists.specs.Items.{Called, Items}
-use Rattle.tied_lists.specs.Waits.{waiting as waits_on, AwaitsThis, IsAsk, HasLeft}
+use Rattle.tied_lists.specs.Items.{Called, Items, down_in}
+use Rattle.tied_lists.specs.Waits.{waiting as waits_on, AwaitsThis, IsAsk, HasLeft, IsOnRing}
+use Rattle.ring_core.specs.Legal.{IsLegalRing}
 use Rattle.tied_lists.proofs.Growth.{adds-grew, grew-ours}
 use Rattle.tied_lists.proofs.Paths.{waiting-push}
 use Rattle.ring_core.specs.declared.entry.LeaveCause.{LeaveCause}
-use Rattle.comm_port.specs.Leaving.{last_entry, HandedOn}
+use Rattle.ring_core.specs.declared.entry.LeaveCause.TheVariants.{Ended, Spent}
+use Rattle.std.specs.Prelude.{if◌then◌else◌}
+use Rattle.comm_port.proofs.RingTurns.{not-in, NotPost, on-grew}
+use Rattle.comm_port.specs.Leaving.{cause_due, is_due, last_entry, HandedOn}
 use Rattle.tied_lists.proofs.Histories.{legal-follows}
 use Rattle.comm_port.specs.Ending.{AsksIfDone}
 use Rattle.comm_port.specs.Giving.{part_at, due_by, due_on, due_calls, is_chosen}
@@ -69,7 +73,7 @@ none-four f e =
 
 -- ---- a worker's Requests, and the calls that wait
 
-unnamed : (o : Option Frame) → id_of o ≡ None → o ≡ None
+pub unnamed : (o : Option Frame) → id_of o ≡ None → o ≡ None
 unnamed None e = refl
 unnamed (Some f) e = absurd (let bad : Some f.id ≡ None = e in cc)
 
@@ -107,12 +111,12 @@ none-idle n a ring w k none =
     at (suc (suc (suc (suc zero)))) low e1 e2 e3 e4 = slot 4 e4
     at (suc (suc (suc (suc (suc i))))) low e1 e2 e3 e4 = absurd (omega (arith, low))
 
-pub asks-so : (alone : Bool) (fixed : Fixed) (n : ℕ) (a : Items) (ring : List RingEntry)
+pub asks-so : (alone : Bool) (fixed : Fixed) (noticed n : ℕ) (a : Items) (ring : List RingEntry)
     (w : List (Option Frame)) (known known' : List Entry)
     (done : Bool) → AreWaiting n a (own n ring) w
-    → AsksIfDone alone fixed (IsIdle w) known known' done
-    → AsksIfDone alone fixed (calls_waiting n ring ≡ []) known known' done
-asks-so alone fixed n a ring w known known' done k q = record {
+    → AsksIfDone alone fixed noticed (IsIdle w) known known' done
+    → AsksIfDone alone fixed noticed (calls_waiting n ring ≡ []) known known' done
+asks-so alone fixed noticed n a ring w known known' done k q = record {
   all_yes = q.all_yes;
   asked = q.asked;
   done_is = (
@@ -150,7 +154,8 @@ due-waits n rest ram known side ring w gone t = four-same (due_on side.net n c)
     at : (p : ℕ) → due_on side.net n c p ≡ id_of (waits_on p (own n ring))
     at p =
         let follows = (legal-follows side.net ring n t.own_turn.on).node.part in
-        ap (λ (b : Bool). due_by side.net.answer b n p (path_of c p).awaits) gone
+        ap (λ (b : Bool). due_by side.net.answer b n p (path_of c p).awaits)
+        (not-in side.net n ring gone)
         ∙ gone-due side.net.answer n p (path_of c p).awaits (waits_on p (own n ring))
         (follows.paths p) (follows.asks p)
 
@@ -189,7 +194,8 @@ none-left n rest chosen ram known side ring ring' w all gone g t =
         (λ (y : (path_of new p ≡ path_of old p) × (due_on side.net n old p ≡ None)). ap
         (λ (q : Path). q.awaits) y.0
         ∙ none-gone side.net.answer n p (path_of old p).awaits
-        (ap (λ (b : Bool). due_by side.net.answer b n p (path_of old p).awaits) (sym gone)
+        (ap (λ (b : Bool). due_by side.net.answer b n p (path_of old p).awaits)
+        (sym (not-in side.net n ring gone))
         ∙ y.1))
         (g.part.settled p from to (all p from to))
 
@@ -207,7 +213,7 @@ due-over answer n p (Out seq to passes) none = refl
 due-over answer n p (Arrived seq) none = refl
 due-over answer n p (Failed seq word) none = absurd (none tt)
 
-pub overdue-is : (net : NetPlan) (n : ℕ) (ring : List RingEntry) → (part_at net n ring).here ≡ true
+pub overdue-is : (net : NetPlan) (n : ℕ) (ring : List RingEntry) → (is_here (part_at net n ring)) ≡ true
     → NoneFailed each_path (part_at net n ring) → due_calls net n ring
     network_paths ≡ overdue net n ring
 overdue-is net n ring here none = four-same (due_on net n c) (overdue_on net n c) (at 1) (at 2)
@@ -302,6 +308,7 @@ ending-too (Take m f) k = absurd k
 ending-too (Local m id op result) k = absurd k
 ending-too (Pass m done words) k = absurd k
 ending-too (Leave m cause) k = absurd k
+ending-too (Join m) k = absurd k
 
 last-ends : (n : ℕ) (done : Bool) (words : List ℕ) (cause : Option LeaveCause)
     → IsEnding (last_entry n done words cause)
@@ -314,6 +321,39 @@ pub handed-ends : (alone : Bool) (net : NetPlan) (n : ℕ) (done : Bool) (words 
 handed-ends alone net n done words cause ring ring' h =
     adds-grew alone (is_of n) IsEnding ring (last_entry n done words cause ∷ []) ring'
     (last-ends n done words cause, tt) h.grew
+
+-- what a turn leaves for is no failure
+abbrev pub IsQuietCause : Option LeaveCause → Type 0
+IsQuietCause cause = (why : LeaveCause) → cause ≡ Some why → down_in why ≡ None
+
+pub quiet-due : (net : NetPlan) (r : RingIs) (n : ℕ) (done budget : Bool)
+    → IsQuietCause (cause_due net r n done budget)
+quiet-due net r n done budget why is =
+    by (budget && is_due net r n Spent) (done && is_due net r n Ended) is
+  where
+    the-cause : (x y : LeaveCause) → Some x ≡ Some y → x ≡ y
+    the-cause x y e = cc
+
+    by : (spent ended : Bool)
+        → (if spent then Some Spent else (if ended then Some Ended else None)) ≡ Some why
+        → down_in why ≡ None
+    by true ended e = ap down_in (sym (the-cause Spent why e))
+    by false true e = ap down_in (sym (the-cause Ended why e))
+    by false false e = absurd (let bad : None ≡ Some why = e in cc)
+
+-- the node is on the ring as before
+last-calm : (n : ℕ) (done : Bool) (words : List ℕ) (cause : Option LeaveCause)
+    → NotPost (last_entry n done words cause)
+last-calm n done words None = tt
+last-calm n done words (Some cause) = tt
+
+pub handed-on : (alone : Bool) (net : NetPlan) (n : ℕ) (done : Bool) (words : List ℕ)
+    (cause : Option LeaveCause) (ring ring' : List RingEntry) → IsOnRing net ring n
+    → IsLegalRing net ring' → HandedOn alone net n done words cause ring ring'
+    → IsOnRing net ring' n
+handed-on alone net n done words cause ring ring' on legal h =
+    on-grew alone net n ring (last_entry n done words cause ∷ []) ring' on legal
+    (last-calm n done words cause, tt) h.grew
 
 -- the last entry leaves what waits
 waits-handed : (n : ℕ) (done : Bool) (words : List ℕ) (cause : Option LeaveCause)

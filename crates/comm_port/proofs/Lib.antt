@@ -36,3 +36,6 @@ pub mod Stands
 pub mod Allowed
 pub mod HostBoxes
 pub mod Steps
+pub mod Later
+pub mod Downs
+pub mod Failed

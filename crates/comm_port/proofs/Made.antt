@@ -20,7 +20,7 @@ use Rattle.ring_core.specs.declared.frame.Frame.{Frame}
 use Rattle.ring_core.specs.declared.entry.LocalOp.{LocalOp}
 use Rattle.ring_core.specs.declared.entry.RingEntry.{RingEntry}
 use Rattle.ring_core.specs.declared.entry.RingEntry.TheVariants.{Post, Send, Take, Local, GiveUp}
-use Rattle.ring_core.specs.declared.entry.RingEntry.TheVariants.{Pass, Leave}
+use Rattle.ring_core.specs.declared.entry.RingEntry.TheVariants.{Pass, Leave, Join}
 use Rattle.ring_core.specs.Words.{is_same_call}
 use Rattle.ring_core.specs.Machine.{path_places, path_of}
 use Rattle.ring_core.specs.Legal.{IsLegalRing, IsPath, HasRoom}
@@ -45,7 +45,7 @@ use Rattle.joint_history.specs.Reading.{is_ours, called_of, items_of}
 use Rattle.comm_port.specs.Turns.{IsOwnTurn, KeepsInbox, AreWaiting, Turning}
 use Rattle.comm_port.specs.Making.{request_frame, DoesAtHome, Owing, calls_from}
 use Rattle.comm_port.proofs.RingTurns.{turn-on}
-use Rattle.joint_history.proofs.Items.{items-one, items-same}
+use Rattle.comm_port.proofs.Later.{later-one, later-same, tied-later, waits-later}
 use Rattle.comm_port.proofs.Served.{waiting-as}
 
 -- the last number of a path is below what is above all that was asked there
@@ -81,6 +81,7 @@ number-below p s now (Local n id op result ∷ es) lt all = number-below p s now
 number-below p s now (GiveUp id word ∷ es) lt all = number-below p s now es lt all
 number-below p s now (Pass n done words ∷ es) lt all = number-below p s now es lt all
 number-below p s now (Leave n cause ∷ es) lt all = number-below p s now es lt all
+number-below p s now (Join n ∷ es) lt all = number-below p s now es lt all
 
 nets-above : (id : CallId) (calls : List Called) → IsAbove id calls
     → Each (λ (a : Asked). a.id.path ≡ id.path → a.id.seq < id.seq) (filter_map net_ask calls)
@@ -277,7 +278,6 @@ posted-lead {P} {Q} alone n c rest to pdu ram known side side' ring ring' w same
     record {
       turning = record {
         node = o.turning.node;
-        power = o.turning.power;
         own_turn = turn-on side side' ring ring' n same o.turning.own_turn legal kept;
         tied = subst (TiedBut AController rest (items_of known)) (sym own_is)
             (tied-posted AController rest c (items_of known)
@@ -387,7 +387,7 @@ done-lead {P} {Q} alone alone' n c rest op ram ram' known known' side side' ring
     let out = (may-do n c rest op ram known side ring w is o).1 in
     let e = Local n c.id op did.outcome in
     let own_is = grew-ours alone' (is_of n) ring (e ∷ []) ring' did.grew in
-    let items_is = items-one alone known (Finish c.id did.outcome) known' did.went in
+    let later = later-one alone known (Finish c.id did.outcome) known' did.went refl in
     let a' = with_end (items_of known) c.id (Came did.outcome) in
     let none : net_ask c ≡ None = ap (λ (k : CallSort). net_ask (record { id = c.id; sort = k })) is
     in
@@ -404,20 +404,19 @@ done-lead {P} {Q} alone alone' n c rest op ram ram' known known' side side' ring
       turning = subst (λ (s : RamSideIs P). Turning n rest s known' side' ring' w) (sym same)
           (record {
             node = o.turning.node;
-            power = o.turning.power;
             own_turn = turn-on side side' ring ring' n same' o.turning.own_turn legal kept;
-            tied = subst (λ (a : Items). TiedBut AController rest a (own n ring')) (sym items_is)
+            tied = tied-later AController rest (own n ring') later
                 (subst (TiedBut AController rest a') (sym own_is)
                 (tied-done AController rest c (items_of known) (own n ring) n op did.outcome none
                 o.fresh.0.own out.made o.turning.tied));
-            waits = subst (λ (a : Items). AreWaiting n a (own n ring') w) (sym items_is)
+            waits = waits-later n (own n ring') w later
                 (subst (λ (l : List RingEntry). AreWaiting n a' l w) (sym own_is)
                 (waiting-done n (items_of known) (own n ring) w c.id did.outcome e
                 (λ p. waiting-push p (own n ring) e) fits.1 o.turning.waits));
           });
       earlier = o.earlier ++ c ∷ [];
-      calls_are = ap (λ (a : Items). a.calls) items_is ∙ calls_now;
-      fresh = subst (λ (a : Items). AreNewCalls n (o.earlier ++ c ∷ []) a.ends rest) (sym items_is)
+      calls_are = ap (λ (a : Items). a.calls) later.is ∙ calls_now;
+      fresh = subst (λ (a : Items). AreNewCalls n (o.earlier ++ c ∷ []) a.ends rest) (sym later.is)
           fresh_now;
     }
   where
@@ -449,17 +448,16 @@ pub collected-lead : {P Q : Type 0} (alone : Bool) (n : ℕ) (calls : List Call)
     ring w
 collected-lead {P} {Q} alone n calls ram ram' known known' side ring w same went fresh t =
     let cs = map called_of calls in
-    let items_is = items-one alone known (Collect calls) known' went in
+    let later = later-one alone known (Collect calls) known' went refl in
     let a' = with_calls (items_of known) cs in
     record {
       turning = subst (λ (s : RamSideIs P). Turning n cs s known' side ring w) (sym same) (record {
         node = t.node;
-        power = t.power;
         own_turn = t.own_turn;
-        tied = subst (λ (a : Items). TiedBut AController cs a (own n ring)) (sym items_is)
+        tied = tied-later AController cs (own n ring) later
             (tied-called AController cs (items_of
             known) (own n ring) (tied-all AController (items_of known) (own n ring) t.tied));
-        waits = subst (λ (a : Items). AreWaiting n a (own n ring) w) (sym items_is)
+        waits = waits-later n (own n ring) w later
             (waiting-as n (items_of known) a' (own n ring) (own n ring) w (λ p. refl)
             (λ id out. record {
               made = kind-more
@@ -468,8 +466,8 @@ collected-lead {P} {Q} alone n calls ram ram' known known' side ring w same went
             }) t.waits);
       });
       earlier = (items_of known).calls;
-      calls_are = ap (λ (a : Items). a.calls) items_is;
-      fresh = subst (λ (a : Items). AreNewCalls n (items_of known).calls a.ends cs) (sym items_is)
+      calls_are = ap (λ (a : Items). a.calls) later.is;
+      fresh = subst (λ (a : Items). AreNewCalls n (items_of known).calls a.ends cs) (sym later.is)
           (subst (λ (m : ℕ). AreNewCalls
           m (items_of known).calls (items_of known).ends cs) t.node fresh);
     }
@@ -481,13 +479,12 @@ pub ram-still : {P Q : Type 0} (alone : Bool) (n : ℕ) (rest : List Called) (ra
     → WentOn alone is_ours known [] known' →
     Turning n rest ram known side ring w → Turning n rest ram' known' side ring w
 ram-still {P} {Q} alone n rest ram ram' known known' side ring w same went t =
-    let items_is = items-same alone known known' went in
+    let later = later-same alone known known' went in
     subst (λ (s : RamSideIs P). Turning n rest s known' side ring w) (sym same) (record {
       node = t.node;
-      power = t.power;
       own_turn = t.own_turn;
-      tied = subst (λ (a : Items). TiedBut AController rest a (own n ring)) (sym items_is) t.tied;
-      waits = subst (λ (a : Items). AreWaiting n a (own n ring) w) (sym items_is) t.waits;
+      tied = tied-later AController rest (own n ring) later t.tied;
+      waits = waits-later n (own n ring) w later t.waits;
     })
 
 -- the call at a place
@@ -508,4 +505,4 @@ owing-next n calls at c ram known side ring w low is o = subst
 
 pub kept-none : {Q : Type 0} (side : RingSideIs Q) (ring : List RingEntry) (n : ℕ)
     → IsOwnTurn side ring n → KeepsInbox side.net n ring ring
-kept-none side ring n t = record { free = t.free; holds = λ h. h; inbox = refl }
+kept-none side ring n t = record { on = λ k. k; free = t.free; holds = λ h. h; inbox = refl }

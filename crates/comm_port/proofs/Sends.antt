@@ -17,21 +17,21 @@ use Rattle.ring_core.specs.declared.entry.Heard.TheVariants.{Acked, Silent, Busy
 use Rattle.ring_core.specs.declared.entry.RingEntry.{RingEntry}
 use Rattle.ring_core.specs.declared.entry.RingEntry.TheVariants.{Send, GiveUp}
 use Rattle.ring_core.specs.Words.{asks_for}
-use Rattle.ring_core.specs.Machine.{NodeIs, RingIs, addresses, part_of, ring_after, ring_node}
+use Rattle.ring_core.specs.Machine.{is_here, is_in, NodeIs, RingIs, addresses, part_of, ring_after, ring_node}
 use Rattle.ring_core.specs.Machine.{fate_at, arrival, arrived, heard_of, heard_by, sent_head}
 use Rattle.ring_core.specs.Machine.{is_head, sent_off, failed, silence_word}
 use Rattle.ring_core.specs.Refusals.{or_no, empty_no, send_no}
 use Rattle.ring_core.specs.Legal.{IsLegalRing, IsHeard}
 use Rattle.tied_lists.specs.Own.{is_of, WentOn}
-use Rattle.tied_lists.specs.Waits.{IsOnRing, Holds, IsFree}
-use Rattle.tied_lists.proofs.Histories.{IsOwn, RingFollows, at-same, arrived-part, heard-here}
+use Rattle.tied_lists.specs.Waits.{has_left, IsOnRing, Holds, IsFree}
+use Rattle.tied_lists.proofs.Histories.{IsOwn, RingFollows, at-same, arrived-part, heard-status}
 use Rattle.tied_lists.proofs.Histories.{heard-inbox, legal-follows, length-arrived, to-other}
 use Rattle.tied_lists.proofs.Turns.{Found, Moved, after-give_up, part, unmoved}
 use Rattle.tied_lists.proofs.Growth.{grew-one}
 use Rattle.comm_port.specs.Sides.{RingSideIs}
 use Rattle.comm_port.specs.Turns.{IsOwnTurn, KeepsInbox}
 use Rattle.comm_port.specs.Sending.{AllSent, GaveUp, SentNext, sends_left, sends_of}
-use Rattle.comm_port.proofs.RingTurns.{kept-by, mine, on-ring, own-moved}
+use Rattle.comm_port.proofs.RingTurns.{kept-by, mine, on-still, own-on, own-moved}
 use Rattle.std.proofs.Common.{◌++◌, Option, ⊎_elim}
 use Rattle.ring_core.specs.Refusals.{free_no, give_up_no}
 use Rattle.tied_lists.proofs.Turns.{found-at, legal-parts}
@@ -116,7 +116,7 @@ sent-part net h n heard [] r s range follows is told after_is = absurd told
 sent-part net h n heard (f ∷ fs) r s range follows is told after_is =
     let fate = fate_at net.fates r.sent in
     let nodes = arrived r.nodes f (arrival r.nodes fate f) in
-    let there = (ring_node r f.to).here in
+    let there = (is_here (ring_node r f.to)) in
     let from : IsOwn n f = (subst (λ (l : List Frame). Each (IsOwn n) l) is (follows.frames n)).0 in
     let same : part_of nodes n ≡ ring_node r n = arrived-part r.nodes f fate
     (λ k c. k ≡ n → c ≡ ring_node r n)
@@ -149,8 +149,8 @@ sent-one net n before heard after' holding m =
     let there = m.found.holds holding in
     let now : Holds net after' n = record {
       holder = p.holder ∙ there.holder;
-      here = ap (λ (c : NodeIs). c.here) p.part_is ∙ heard-here (ring_node r n) p.f.kind p.f.id
-          p.there heard ∙ there.here;
+      here = ap (λ (c : NodeIs). is_here c) p.part_is ∙ ap is_in (heard-status (ring_node r n) p.f.kind p.f.id
+          p.there heard) ∙ there.here;
     } in
     record {
       f = p.f;
@@ -190,6 +190,7 @@ sent-next side alone n ring heard ring' t holds legal w =
     record {
       grew = grew-one alone (is_of n) ring (Send n heard ∷ []) ring' (mine n (Send n heard) refl) w;
       kept = record {
+        on = λ _. own-on side alone n ring (Send n heard) ring' t legal w;
         free = s.free;
         holds = s.holds;
         inbox = ap (λ (c : NodeIs). c.inbox) s.part_is ∙ heard-inbox (part side.net ring n) s.f.kind
@@ -215,10 +216,14 @@ empty-box true false other out is = absurd cc
 empty-box true true other [] is = refl
 empty-box true true other (f ∷ out) is = absurd cc
 
-pub kept-found : (net : NetPlan) (n : ℕ) (ring ring' : List RingEntry) → Found net n ring ring'
-    → KeepsInbox net n ring ring'
-kept-found net n ring ring' f = record
-    { free = f.free; holds = f.holds; inbox = ap (λ (c : NodeIs). c.inbox) f.part_is }
+pub kept-found : (net : NetPlan) (n : ℕ) (ring ring' : List RingEntry) → IsOnRing net ring' n
+    → Found net n ring ring' → KeepsInbox net n ring ring'
+kept-found net n ring ring' on f = record {
+  on = λ _. on;
+  free = f.free;
+  holds = f.holds;
+  inbox = ap (λ (c : NodeIs). c.inbox) f.part_is;
+}
 
 pub all-sent : {Q : Type 0} (side : RingSideIs Q) (alone : Bool) (n : ℕ)
     (ring ring' : List RingEntry) (why : RingNo) → IsOwnTurn
@@ -228,13 +233,14 @@ pub all-sent : {Q : Type 0} (side : RingSideIs Q) (alone : Bool) (n : ℕ)
     (ring_after side.net ring') n ≡ None)) → why ≡ NothingToSend
     → AllSent alone side.net n ring ring'
 all-sent side alone n ring ring' why t legal w refused is =
-    let found = unmoved side.net n alone ring ring' (on-ring side ring ring' n t legal) w t.free in
+    let on = on-still side alone ring ring' n t legal w in
+    let found = unmoved side.net n alone ring ring' on w t.free in
     let r = ring_after side.net ring' in
     record {
       grew = grew-one alone (is_of n) ring [] ring' refl w;
-      kept = kept-found side.net n ring ring' found;
+      kept = kept-found side.net n ring ring' on found;
       empty = elim refused [
-        | inl no' ↦ empty-box (ring_node r n).here (r.holder == n) r.holder (ring_node r n).outbox
+        | inl no' ↦ empty-box (is_here (ring_node r n)) (r.holder == n) r.holder (ring_node r n).outbox
             (no' ∙ ap Some is)
         | inr short ↦ let wrong : NothingToSend ≡ NoMemory = sym is ∙ short.0 in absurd cc
       ];
@@ -264,11 +270,12 @@ gave-up side alone id word ring ring' t legal w =
     record {
       grew = grew-one alone (is_of n) ring (GiveUp id word ∷ []) ring'
           (mine n (GiveUp id word) refl) w;
-      kept = kept-by side.net n ring ring' _ refl wrote;
+      kept = kept-by side.net n ring ring' _ refl
+          (own-on side alone n ring (GiveUp id word) ring' t legal w) wrote;
       less = subst (λ (x : NodeIs). sends_of x ≤ sends_left side.net ring n) (sym wrote.part_is)
           (sends-no-more id c.outbox
           c.tries (few-tries side.net ring n t.on));
-      left = λ gone. ap (λ (x : NodeIs). x.here) wrote.part_is ∙ gone;
+      left = λ gone. ap (λ (c : NodeIs). has_left c.status) wrote.part_is ∙ gone;
       may = λ v e. subst (λ (x : NodeIs). part_no side.net x id ≡ None) m.found.part_is
           (second-none (free_no (ring_after side.net m.past) n)
           (part_no side.net (part_at side.net n m.past) id) m.step.1.0);
@@ -289,14 +296,15 @@ pub gave-not : {Q : Type 0} (side : RingSideIs Q) (alone : Bool) (id : CallId)
     side.net id ring ring' None
 gave-not side alone id ring ring' t legal w why other refused =
     let n = id.node in
-    let found = unmoved side.net n alone ring ring' (on-ring side ring ring' n t legal) w t.free in
+    let on = on-still side alone ring ring' n t legal w in
+    let found = unmoved side.net n alone ring ring' on w t.free in
     let same : sends_left side.net ring' n ≡ sends_left side.net ring n = ap sends_of found.part_is
     in
     record {
       grew = grew-one alone (is_of n) ring [] ring' refl w;
-      kept = kept-found side.net n ring ring' found;
+      kept = kept-found side.net n ring ring' on found;
       less = omega arith;
-      left = λ gone. ap (λ (c : NodeIs). c.here) found.part_is ∙ gone;
+      left = λ gone. ap (λ (c : NodeIs). has_left c.status) found.part_is ∙ gone;
       may = λ v e. absurd (let bad : None ≡ Some v = e in cc);
       never = λ e. (
         why,

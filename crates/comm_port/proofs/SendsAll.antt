@@ -20,9 +20,9 @@ use Rattle.ring_core.specs.declared.entry.Heard.{Heard}
 use Rattle.ring_core.specs.declared.entry.Heard.TheVariants.{Acked, Silent, Busy}
 use Rattle.ring_core.specs.declared.entry.RingEntry.{RingEntry}
 use Rattle.ring_core.specs.declared.entry.RingEntry.TheVariants.{Post, Send, Take, Local, GiveUp}
-use Rattle.ring_core.specs.declared.entry.RingEntry.TheVariants.{Pass, Leave}
+use Rattle.ring_core.specs.declared.entry.RingEntry.TheVariants.{Pass, Leave, Join}
 use Rattle.ring_core.specs.Legal.{IsPath, IsFrom}
-use Rattle.ring_core.specs.Machine.{NodeIs, no_path, path_of, passes_of, failed, sent_off, heard_by}
+use Rattle.ring_core.specs.Machine.{is_here, NodeIs, no_path, path_of, passes_of, failed, sent_off, heard_by}
 use Rattle.ring_core.specs.Machine.{awaited_number, busy_word, silence_word}
 use Rattle.tied_lists.specs.Own.{is_of, Grew}
 use Rattle.tied_lists.specs.Waits.{IsOnRing}
@@ -184,7 +184,7 @@ failed-by answer n p (Failed seq word) id young due =
     unsome : (x y : CallId) → Some x ≡ Some y → x ≡ y
     unsome x y e = cc
 
-pub due-failed : (net : NetPlan) (n p : ℕ) (c : NodeIs) (id : CallId) → c.here ≡ true
+pub due-failed : (net : NetPlan) (n p : ℕ) (c : NodeIs) (id : CallId) → (is_here c) ≡ true
     → passes_of (path_of c p).awaits < net.answer → due_on net n c p ≡
     Some id → (word : ℕ) × ((path_of c p).awaits ≡ Failed id.seq word)
 due-failed net n p c id here young due =
@@ -195,7 +195,7 @@ due-failed net n p c id here young due =
 failed-due : (net : NetPlan) (n p seq word : ℕ) (c : NodeIs)
     → (path_of c p).awaits ≡ Failed seq word
     → due_on net n c p ≡ Some (record { node = n; path = p; seq = seq })
-failed-due net n p seq word c is = ap (due_by net.answer c.here n p) is
+failed-due net n p seq word c is = ap (due_by net.answer (is_here c) n p) is
 
 -- ---- all that failed is given up
 
@@ -271,7 +271,7 @@ send-each alone net n chosen heard ring ring' s m =
     (subst (NoneFailed each_path) (sym it.1) m.none_failed)) s.each
 
 pub given-each : (net : NetPlan) (n : ℕ) (chosen : List Bool) (ring ring' : List RingEntry)
-    → (part_at net n ring).here ≡ true → HasSent net n chosen
+    → (is_here (part_at net n ring)) ≡ true → HasSent net n chosen
     (part_at net n ring) → GivesWhere net n chosen 5 ring ring'
     → EachNext n (IsNextSending net n each_path) ring ring'
 given-each net n chosen ring ring' here s g =
@@ -292,6 +292,7 @@ given-each net n chosen ring ring' here s g =
     then-failed past (Local m id op result) it = absurd it
     then-failed past (Pass m done words) it = absurd it
     then-failed past (Leave m cause) it = absurd it
+    then-failed past (Join m) it = absurd it
 
 -- ---- both lists
 

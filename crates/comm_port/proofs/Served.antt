@@ -1,6 +1,6 @@
 -- What is taken, answered and ended leaves the lists tied.
 use Rattle.std.proofs.Common.{◌≡◌, ◌≢◌, ℕ, ◌<◌, ◌==◌, Bool, true, false, cond, List, [], ◌∷◌, ◌++◌}
-use Rattle.std.proofs.Common.{get_or, set, length, Option, Some, None, refl, sym, ap, ◌∙◌}
+use Rattle.std.proofs.Common.{filter, get_or, set, length, Option, Some, None, refl, sym, ap, ◌∙◌}
 use Rattle.std.proofs.Common.{subst, ◌⊎◌, ⊎_elim, arith, append_assoc}
 use Rattle.std.proofs.Common.{get_or-set_same, get_or-set_other, eq-eqb, ne_eqb}
 use Rattle.std.proofs.lemmas.Bool.{cases_eq, cond-true, cond-false}
@@ -8,7 +8,8 @@ use Rattle.std.proofs.lemmas.List.{length-set}
 use Rattle.mstr_block.specs.declared.call.CallId.{CallId}
 use Rattle.mstr_block.specs.declared.call.MstrResult.{MstrResult}
 use Rattle.controller_core.specs.declared.entry.Entry.{Entry}
-use Rattle.controller_core.specs.declared.entry.Entry.TheVariants.{Peer, Finish}
+use Rattle.controller_core.specs.declared.entry.Entry.TheVariants.{Peer, Off, Finish}
+use Rattle.controller_core.specs.Event.{peer_entry}
 use Rattle.ring_core.specs.declared.frame.FrameKind.{FrameKind}
 use Rattle.ring_core.specs.declared.frame.FrameKind.TheVariants.{Request, Reply}
 use Rattle.ring_core.specs.declared.frame.Frame.{Frame}
@@ -29,15 +30,15 @@ use Rattle.tied_lists.specs.Waits.{Holds}
 use Rattle.tied_lists.proofs.Paths.{waiting-push}
 use Rattle.tied_lists.proofs.Asked.{waiting-last, other-path, no-end-push}
 use Rattle.tied_lists.proofs.Growth.{grew-ours}
-use Rattle.tied_lists.proofs.Steps.{tied-served, tied-told, tied-got}
+use Rattle.tied_lists.proofs.Steps.{tied-off, tied-served, tied-told, tied-got}
 use Rattle.tied_lists.proofs.Turns.{part, unmoved, after-take, reply-awaited}
 use Rattle.tied_lists.proofs.Turns.{request-of-other}
 use Rattle.comm_port.specs.Sides.{RingSideIs, RamSideIs}
 use Rattle.joint_history.specs.Reading.{is_ours, items_of}
 use Rattle.comm_port.specs.Replies.{reply_frame, TellsStatistics}
 use Rattle.comm_port.specs.Turns.{IsOwnTurn, KeepsInbox, AreWaiting, Turning, Taking}
-use Rattle.comm_port.proofs.RingTurns.{own-moved, on-ring, turn-on}
-use Rattle.joint_history.proofs.Items.{items-one}
+use Rattle.comm_port.proofs.RingTurns.{own-moved, on-still, own-on, turn-on}
+use Rattle.comm_port.proofs.Later.{later-one, tied-later, waits-later}
 
 -- other items that have made as much and ended as little of what waits
 pub waiting-as : (n : ℕ) (a a' : Items) (b b' : List RingEntry) (w : List (Option Frame))
@@ -98,11 +99,9 @@ take-lead {P} {Q} alone n f ram known side side' ring ring' w same legal went t 
       before = own n ring;
       own_is = m.own_is;
       node = t.node;
-      power = t.power;
       own_turn = record {
         serves = t.own_turn.serves;
-        on = on-ring side ring ring' n t.own_turn
-            legal;
+        on = own-on side alone n ring (Take n f) ring' t.own_turn legal went;
         free = (after-take side.net n ring f ring' m).free;
       };
       tied = t.tied;
@@ -152,7 +151,7 @@ end-lead {P} {Q} alone n f ask ram ram' known known' side ring w same kind slot 
     (t.waits.outs q ask slot) in
     let outcome : result_for (last_asked f.id (asked_by t.before)) f.pdu ≡ result_of ask.pdu
     f.pdu = ap (λ o. result_for o f.pdu) last in
-    let items_is = items-one alone known (Finish f.id (result_of ask.pdu f.pdu)) known' went in
+    let later = later-one alone known (Finish f.id (result_of ask.pdu f.pdu)) known' went refl in
     let tied : TiedBut AController []
     (with_end (items_of known) f.id (Came (result_of ask.pdu f.pdu)))
     (t.before ++ Take n f ∷ []) =
@@ -161,12 +160,11 @@ end-lead {P} {Q} alone n f ask ram ram' known known' side ring w same kind slot 
     (tied-got AController [] (items_of known) t.before n f kind made.made t.tied) in
     subst (λ (s : RamSideIs P). Turning n [] s known' side ring (set w q None)) (sym same) (record {
       node = t.node;
-      power = t.power;
       own_turn = t.own_turn;
-      tied = subst (λ (a : Items). TiedBut AController [] a (own n ring)) (sym items_is)
+      tied = tied-later AController [] (own n ring) later
           (subst (TiedBut AController []
           (with_end (items_of known) f.id (Came (result_of ask.pdu f.pdu)))) (sym t.own_is) tied);
-      waits = subst (λ (a : Items). AreWaiting n a (own n ring) (set w q None)) (sym items_is)
+      waits = waits-later n (own n ring) (set w q None) later
           (subst (λ (l : List RingEntry).
           AreWaiting n (with_end (items_of known) f.id (Came (result_of ask.pdu f.pdu))) l
           (set w q None)) (sym t.own_is)
@@ -206,23 +204,45 @@ answer-lead {P} {Q} alone alone' n f reply ram ram' known known' side side' ring
     ring (Post n g ∷ []) ring' grew
     ∙ (ap (λ l. l ++ Post n g ∷ []) t.own_is ∙ append_assoc t.before (Take n f ∷ [])
     (Post n g ∷ [])) in
-    let items_is = items-one alone known (Peer f.id f.pdu reply) known' went in
+    let later = later-one alone known (Peer f.id f.pdu reply) known' went refl in
     let a' = with_answer (items_of known)
-    (record { id = f.id; request = Some f.pdu; reply = reply }) in
+    (record { id = f.id; request = Some f.pdu; reply = Some reply }) in
     subst (λ (s : RamSideIs P). Turning n [] s known' side' ring' w) (sym same) (record {
       node = t.node;
-      power = t.power;
       own_turn = turn-on side side' ring ring' n same' t.own_turn legal kept;
-      tied = subst (λ (a : Items). TiedBut AController [] a (own n ring')) (sym items_is)
+      tied = tied-later AController [] (own n ring') later
           (subst (TiedBut AController [] a') (sym own_is)
           (tied-served AController [] (items_of known) t.before n f g reply kind plain refl refl
           refl t.tied));
-      waits = subst (λ (a : Items). AreWaiting n a (own n ring') w) (sym items_is)
+      waits = waits-later n (own n ring') w later
           (subst (λ (l : List RingEntry). AreWaiting n a' l w) (sym own_is)
           (waiting-as n (items_of known) a' t.before (t.before ++ (Take n f ∷ Post n g ∷ [])) w
           (λ p. ap (waits_on p) (sym (append_assoc t.before (Take n f ∷ []) (Post n g ∷ [])))
           ∙ (posted-reply n (t.before ++ Take
           n f ∷ []) g refl p ∙ taken-request n t.before f kind p))
+          (λ id out. record { made = out.made; unended = out.unended }) t.waits));
+    })
+
+-- a Request that came without power
+pub off-lead : {P Q : Type 0} (alone : Bool) (n : ℕ) (f : Frame) (ram ram' : RamSideIs P)
+    (known known' : List Entry) (side : RingSideIs Q) (ring : List RingEntry)
+    (w : List (Option Frame)) → ram' ≡ ram → f.kind ≡ Request → is_stats f.pdu ≡ false
+    → WentOn alone is_ours known (Off f.id f.pdu ∷ []) known'
+    → Taking n f ram known side ring w → Turning n [] ram' known' side ring w
+off-lead {P} {Q} alone n f ram ram' known known' side ring w same kind plain went t =
+    let later = later-one alone known (Off f.id f.pdu) known' went refl in
+    let a' = with_answer (items_of known)
+    (record { id = f.id; request = Some f.pdu; reply = None }) in
+    subst (λ (s : RamSideIs P). Turning n [] s known' side ring w) (sym same) (record {
+      node = t.node;
+      own_turn = t.own_turn;
+      tied = tied-later AController [] (own n ring) later
+          (subst (TiedBut AController [] a') (sym t.own_is)
+          (tied-off AController [] (items_of known) t.before n f kind plain t.tied));
+      waits = waits-later n (own n ring) w later
+          (subst (λ (l : List RingEntry). AreWaiting n a' l w) (sym t.own_is)
+          (waiting-as n (items_of known) a' t.before (t.before ++ Take n f ∷ []) w
+          (taken-request n t.before f kind)
           (λ id out. record { made = out.made; unended = out.unended }) t.waits));
     })
 
@@ -243,7 +263,6 @@ port-lead {P} {Q} alone' n f ram known side side' ring ring' w same' kind stats 
     [])) in
     record {
       node = t.node;
-      power = t.power;
       own_turn = turn-on side side' ring ring' n same' t.own_turn legal kept;
       tied = subst (TiedBut AController [] (items_of known)) (sym own_is)
           (tied-told AController [] (items_of known) t.before n f g told.op told.result kind stats
@@ -279,15 +298,13 @@ pub ring-still : {P Q : Type 0} (alone : Bool) (n : ℕ) (rest : List Called) (r
     (is_of n) ring [] ring'
     → Turning n rest ram known side ring w → Turning n rest ram known side' ring' w
 ring-still {P} {Q} alone n rest ram known side side' ring ring' w same legal went t =
-    let f = unmoved side.net n alone ring ring' (on-ring side ring ring' n t.own_turn legal) went
-    t.own_turn.free in
+    let on = on-still side alone ring ring' n t.own_turn legal went in
+    let f = unmoved side.net n alone ring ring' on went t.own_turn.free in
     subst (λ (s : RingSideIs Q). Turning n rest ram known s ring' w) (sym same) (record {
       node = t.node;
-      power = t.power;
       own_turn = record {
         serves = t.own_turn.serves;
-        on = on-ring side ring ring' n t.own_turn
-            legal;
+        on = on;
         free = f.free;
       };
       tied = subst (TiedBut AController rest (items_of known)) (sym f.own_is) t.tied;
@@ -301,7 +318,8 @@ pub holds-still : {Q : Type 0} (alone : Bool) (n : ℕ) (side side' : RingSideIs
     → Holds side.net ring n → Holds
     side'.net ring' n
 holds-still {Q} alone n side side' ring ring' same legal went t h =
-    let f = unmoved side.net n alone ring ring' (on-ring side ring ring' n t legal) went t.free in
+    let f = unmoved side.net n alone ring ring' (on-still side alone ring ring' n t legal went) went
+    t.free in
     subst (λ (s : RingSideIs Q). Holds s.net ring' n) (sym same) (f.holds h)
 
 pub holds-took : {Q : Type 0} (alone : Bool) (n : ℕ) (f : Frame) (side : RingSideIs Q)
@@ -348,3 +366,17 @@ pub holds-kept : {Q : Type 0} (side side1 side2 : RingSideIs Q) (n : ℕ)
 holds-kept {Q} side side1 side2 n ring1 ring2 a b k h =
     let k' = subst (λ (s : RingSideIs Q). KeepsInbox s.net n ring1 ring2) a k in
     subst (λ (s : RingSideIs Q). Holds s.net ring2 n) (sym (b ∙ a)) (k'.holds h)
+
+-- what a controller notes of a request is its worker's, with power or without
+pub peer-ours : (id : CallId) (request : List ℕ) (reply : Option (List ℕ))
+    → filter is_ours (peer_entry id request reply ∷ []) ≡ peer_entry id request reply ∷ []
+peer-ours id request (Some reply) = refl
+peer-ours id request None = refl
+
+pub went-reply : (alone : Bool) (id : CallId) (request : List ℕ) (one other : Option (List ℕ))
+    (known known' : List Entry) → one ≡ other
+    → WentOn alone is_ours known (peer_entry id request one ∷ []) known'
+    → WentOn alone is_ours known (peer_entry id request other ∷ []) known'
+went-reply alone id request one other known known' is w =
+    subst (λ (o : Option (List ℕ)). WentOn alone is_ours known (peer_entry id request o ∷ []) known')
+    is w

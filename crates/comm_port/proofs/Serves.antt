@@ -1,10 +1,11 @@
 -- What is due to frames that are taken.
 use Rattle.std.proofs.Common.{◌≡◌, ℕ, Bool, true, false, List, [], ◌∷◌, ◌++◌, drop, refl, sym, ap}
-use Rattle.std.proofs.Common.{◌∙◌, subst, append_assoc, append-nil}
+use Rattle.std.proofs.Common.{◌∙◌, subst, append_assoc, append-nil, Option}
 use Rattle.mstr_block.specs.declared.call.MstrResult.{MstrResult}
 use Rattle.plant_types.specs.declared.net.NetPlan.{NetPlan}
 use Rattle.controller_core.specs.declared.entry.Entry.{Entry}
-use Rattle.controller_core.specs.declared.entry.Entry.TheVariants.{Peer, Finish}
+use Rattle.controller_core.specs.declared.entry.Entry.TheVariants.{Finish}
+use Rattle.controller_core.specs.Event.{peer_entry}
 use Rattle.ring_core.specs.declared.frame.FrameKind.{FrameKind}
 use Rattle.ring_core.specs.declared.frame.FrameKind.TheVariants.{Request, Reply}
 use Rattle.ring_core.specs.declared.frame.Frame.{Frame}
@@ -18,25 +19,26 @@ use Rattle.tied_lists.specs.Own.{is_of, WentOn}
 use Rattle.tied_lists.proofs.Growth.{grew-one}
 use Rattle.tied_lists.proofs.Turns.{part, after-take, unmoved}
 use Rattle.comm_port.specs.Sides.{RingSideIs}
-use Rattle.comm_port.specs.HoldTurn.{ServedAs, IsServed, inbox_of}
+use Rattle.comm_port.specs.HoldTurn.{ServedAs, IsServed, inbox_of, reply_entries}
 use Rattle.comm_port.specs.Parts.{InOrder, PartOf}
 use Rattle.joint_history.specs.Reading.{is_ours}
 use Rattle.comm_port.specs.Replies.{reply_frame, TellsStatistics}
 use Rattle.comm_port.specs.Serving.{IsAnswered, ServesOn}
 use Rattle.comm_port.specs.Turns.{IsOwnTurn, KeepsInbox}
 use Rattle.comm_port.proofs.Parts.{grew-none, part-both, in-order-last}
-use Rattle.comm_port.proofs.RingTurns.{mine, own-moved, on-ring}
+use Rattle.comm_port.proofs.RingTurns.{mine, own-moved, on-still}
 
 pub reply-due : (n : ℕ) (f : Frame) (r : MstrResult) → f.kind ≡ Reply
     → IsAnswered n f (Finish f.id r ∷ []) []
 reply-due n f r kind = subst (λ (k : FrameKind). ServedAs k (is_stats f.pdu) n f
     (Finish f.id r ∷ []) (Take n f ∷ [])) (sym kind) (r, refl, refl)
 
-pub request-due : (n : ℕ) (f : Frame) (reply : List ℕ) → f.kind ≡ Request → is_stats f.pdu ≡ false
-    → IsAnswered n f (Peer f.id f.pdu reply ∷ []) (Post n (reply_frame f.id reply) ∷ [])
+pub request-due : (n : ℕ) (f : Frame) (reply : Option (List ℕ)) → f.kind ≡ Request
+    → is_stats f.pdu ≡ false
+    → IsAnswered n f (peer_entry f.id f.pdu reply ∷ []) (reply_entries n f.id reply)
 request-due n f reply kind plain =
-    let noted = Peer f.id f.pdu reply ∷ [] in
-    let done = Take n f ∷ Post n (reply_frame f.id reply) ∷ [] in
+    let noted = peer_entry f.id f.pdu reply ∷ [] in
+    let done = Take n f ∷ reply_entries n f.id reply in
     subst (λ (k : FrameKind). ServedAs k (is_stats f.pdu) n f noted done) (sym kind)
     (subst (λ (b : Bool). ServedAs Request b n f noted done) (sym plain) (reply, refl, refl))
 
@@ -75,7 +77,7 @@ pub inbox-still : {Q : Type 0} (alone : Bool) (n : ℕ) (side : RingSideIs Q)
     → inbox_of side.net n ring' ≡ inbox_of side.net n ring
 inbox-still alone n side ring ring' legal went t =
     ap (λ (c : NodeIs). c.inbox) (unmoved side.net n alone ring ring'
-    (on-ring side ring ring' n t legal) went t.free).part_is
+    (on-still side alone ring ring' n t legal went) went t.free).part_is
 
 -- a Take, and what is due to its frame
 took-and : (net : NetPlan) (n : ℕ) (f : Frame) (start old new : List Frame) → old ≡ f ∷ new

@@ -5,15 +5,14 @@ use Rattle.std.proofs.Common.{refl, sym, ◌∙◌, subst, append-nil}
 use Rattle.std.proofs.Common.{ap, arith, get_or-set_same, ◌<◌}
 use Rattle.std.proofs.lemmas.List.{length-replicate}
 use Rattle.plant_types.specs.declared.net.NetPlan.{NetPlan}
-use Rattle.plant_types.specs.Plans.{KeepsPower}
 use Rattle.controller_core.specs.declared.entry.Entry.{Entry}
 use Rattle.ring_core.specs.declared.frame.Frame.{Frame}
 use Rattle.ring_core.specs.declared.path.Path.{Path}
 use Rattle.ring_core.specs.declared.entry.RingEntry.{RingEntry}
-use Rattle.ring_core.specs.Machine.{NodeIs, addresses, path_places, no_path, fresh, part_of}
+use Rattle.ring_core.specs.Machine.{is_here, NodeIs, addresses, path_places, no_path, fresh, part_of}
 use Rattle.ring_core.specs.Machine.{with_members}
-use Rattle.tied_lists.specs.Own.{own}
-use Rattle.tied_lists.specs.Items.{AController, Items, no_items}
+use Rattle.tied_lists.specs.Own.{own, WentOn}
+use Rattle.tied_lists.specs.Items.{AController, Items, latest_down, no_items}
 use Rattle.tied_lists.specs.Tied.{Tied}
 use Rattle.tied_lists.specs.Waits.{IsOnRing}
 use Rattle.tied_lists.proofs.Turns.{own-found}
@@ -22,7 +21,8 @@ use Rattle.joint_history.specs.Reading.{is_ours, items_of}
 use Rattle.comm_port.specs.Sides.{RingSideIs, RamSideIs, MayWrite}
 use Rattle.comm_port.specs.Turns.{AreWaiting}
 use Rattle.comm_port.specs.Worker.{WorkerIs, Standing}
-use Rattle.joint_history.proofs.Items.{items-same}
+use Rattle.tied_lists.proofs.Steps.{tied-all, tied-none}
+use Rattle.comm_port.proofs.Later.{Later, later-same, tied-later, waits-later}
 use Rattle.comm_port.proofs.Through.{NotFailed, RestsIn, nothing-not-failed, rest-others}
 
 -- ---- at the start
@@ -58,16 +58,23 @@ start-rests net n =
     (each-same RestsIn addresses n (fresh false) (fresh-rests false)) in
     record { all_sent = k.0; none_failed = k.1 }
 
-scans : (known more : List Entry) → filter is_ours more ≡ []
-    → items_of (known ++ more) ≡ items_of known
-scans known more none = items-same false known (known ++ more)
-    (record {
-      between = more;
-      others = none;
-      none_alone = λ e. absurd
-          (let bad : false ≡ true = e in cc);
-      after_is = sym (append-nil (known ++ more));
-    })
+went-on : (known more : List Entry) → filter is_ours more ≡ []
+    → WentOn false is_ours known [] (known ++ more)
+went-on known more none = record {
+  between = more;
+  others = none;
+  none_alone = λ e. absurd (let bad : false ≡ true = e in cc);
+  after_is = sym (append-nil (known ++ more));
+}
+
+scans-later : (known more : List Entry) → filter is_ours more ≡ []
+    → Later (items_of known) (items_of (known ++ more))
+scans-later known more none = later-same false known (known ++ more) (went-on known more none)
+
+tied-scans : (b : List RingEntry) {a a' : Items} → Later a a' → Tied AController a b
+    → Tied AController a' b
+tied-scans b {a} {a'} l t =
+    tied-all AController a' b (tied-later AController [] b l (tied-none AController a b t))
 
 abbrev no-ask : Option Frame
 no-ask = None
@@ -84,30 +91,38 @@ none-waits n = record {
 }
 
 nothing-tied : Tied AController no_items []
-nothing-tied = record { asks = refl; peers = refl; port = refl; replies = refl; ends = refl }
+nothing-tied = record {
+  asks = refl;
+  peers = refl;
+  port = refl;
+  replies = refl;
+  ends = refl;
+  downs = (tt, tt);
+}
 
 -- a new worker, a controller that has scanned at most, and a ring on which nothing has happened
 pub standing-new : {P Q : Type 0} (n : ℕ) (net : NetPlan) (budget : Bool) (ram : RamSideIs P)
-    (known : List Entry) (side : RingSideIs Q) → ram.fixed.plan.node ≡ n → KeepsPower ram.fixed.plan
+    (known : List Entry) (side : RingSideIs Q) → ram.fixed.plan.node ≡ n
     → side.net ≡ net → MayWrite side.writer n → filter is_ours known ≡ []
     → Standing (record {
       node = n;
       net = net;
       budget = budget;
+      noticed = 0;
       waiting = replicate path_places
           None;
     }) ram known side []
-standing-new n net budget ram known side node power same serves none =
-    let is : items_of known ≡ no_items = scans [] known none in
+standing-new n net budget ram known side node same serves none =
+    let later : Later no_items (items_of known) = scans-later [] known none in
     record {
       node = node;
-      power = power;
       net = same;
       serves = serves;
       legal = tt;
-      tied = subst (λ (a : Items). Tied AController a []) (sym is) nothing-tied;
-      waits = subst (λ (a : Items). AreWaiting n a [] (replicate path_places None)) (sym is)
-          (none-waits n);
+      patient = tt;
+      tied = tied-scans [] later nothing-tied;
+      noticed = refl;
+      waits = waits-later n [] (replicate path_places None) later (none-waits n);
       rest = start-rests side.net n;
     }
 
@@ -118,16 +133,16 @@ pub standing-scans : {P Q : Type 0} (w : WorkerIs) (ram : RamSideIs P) (known mo
     (side : RingSideIs Q) (ring : List RingEntry) → filter is_ours more ≡ []
     → Standing w ram known side ring → Standing w ram (known ++ more) side ring
 standing-scans w ram known more side ring none s =
-    let is = scans known more none in
+    let later = scans-later known more none in
     record {
       node = s.node;
-      power = s.power;
       net = s.net;
       serves = s.serves;
       legal = s.legal;
-      tied = subst (λ (a : Items). Tied AController a (own w.node ring)) (sym is) s.tied;
-      waits = subst (λ (a : Items). AreWaiting w.node a (own w.node ring) w.waiting) (sym is)
-          s.waits;
+      patient = s.patient;
+      tied = tied-scans (own w.node ring) later s.tied;
+      noticed = s.noticed;
+      waits = waits-later w.node (own w.node ring) w.waiting later s.waits;
       rest = s.rest;
     }
 
@@ -140,28 +155,30 @@ standing-others w ram known side ring more on none s =
     let is : own w.node (ring ++ more) ≡ own w.node ring = own-found w.node ring more none in
     record {
       node = s.node;
-      power = s.power;
       net = s.net;
       serves = s.serves;
       legal = on.legal;
+      patient = on.patient;
       tied = subst (Tied AController (items_of known)) (sym is) s.tied;
+      noticed = s.noticed ∙ ap latest_down (sym is);
       waits = subst (λ (b : List RingEntry). AreWaiting w.node (items_of known) b w.waiting)
           (sym is) s.waits;
       rest = rest-others side.net w.node ring more
-          (record { members = on.members; legal = s.legal; member = on.member }) on.legal none
+          (record { members = on.members; legal = s.legal; member = on.member; patient = s.patient })
+          on.legal none
           s.rest;
     }
 
 -- a member is there at the start
-keep-here : (nodes : List NodeIs) (members : List ℕ) (k : ℕ) → (part_of nodes k).here ≡ true
-    → (part_of (with_members nodes members) k).here ≡ true
+keep-here : (nodes : List NodeIs) (members : List ℕ) (k : ℕ) → (is_here (part_of nodes k)) ≡ true
+    → (is_here (part_of (with_members nodes members) k)) ≡ true
 keep-here nodes [] k it = it
 keep-here nodes (m ∷ ms) k it = keep-here (set nodes m (fresh true)) ms k
-    (put-each (λ c. c.here ≡ true) nodes m k (fresh true) refl it)
+    (put-each (λ c. is_here c ≡ true) nodes m k (fresh true) refl it)
 
 pub first-here : (n : ℕ) (members : List ℕ) → n < addresses
-    → (part_of (with_members (replicate addresses (fresh false)) (n ∷ members)) n).here ≡ true
+    → (is_here (part_of (with_members (replicate addresses (fresh false)) (n ∷ members)) n)) ≡ true
 first-here n members low = keep-here (set (replicate addresses (fresh false)) n (fresh true))
     members n
-    (ap (λ (c : NodeIs). c.here) (get_or-set_same (replicate addresses (fresh false)) n (fresh true)
+    (ap (λ (c : NodeIs). is_here c) (get_or-set_same (replicate addresses (fresh false)) n (fresh true)
     (fresh false) (let s = length-replicate addresses (fresh false) in omega (arith, s, low))))

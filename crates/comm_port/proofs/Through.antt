@@ -15,10 +15,14 @@ use Rattle.ring_core.specs.declared.path.Await.TheVariants.{Nothing, Out, Arrive
 use Rattle.ring_core.specs.declared.path.Path.{Path}
 use Rattle.ring_core.specs.declared.entry.RingEntry.{RingEntry}
 use Rattle.ring_core.specs.declared.entry.RingEntry.TheVariants.{Post, Send, Take, Local, GiveUp}
-use Rattle.ring_core.specs.declared.entry.RingEntry.TheVariants.{Pass, Leave}
+use Rattle.ring_core.specs.declared.entry.RingEntry.TheVariants.{Pass, Leave, Join}
+use Rattle.ring_core.specs.declared.entry.LeaveCause.{LeaveCause}
+use Rattle.ring_core.specs.declared.entry.LeaveCause.TheVariants.{Ended, Spent, Down}
 use Rattle.ring_core.specs.Words.{maker, asks_for}
 use Rattle.ring_core.specs.Machine.{NodeIs, RingIs, addresses, fresh, no_path, part_of, path_of}
-use Rattle.ring_core.specs.Machine.{took, gave_up, after, aged, aged_await}
+use Rattle.ring_core.specs.Machine.{took, gave_up, after, aged, aged_await, admitted, is_held}
+use Rattle.ring_core.specs.Machine.{left_with}
+use Rattle.ring_core.proofs.Stability.{admitted-part}
 use Rattle.ring_core.specs.Machine.{asked, ring_after, ring_node, with_frame, fell, is_repeat}
 use Rattle.ring_core.specs.Machine.{is_full, waits_for, fate_at, arrival, arrived, sent_head}
 use Rattle.ring_core.specs.Machine.{passes_of}
@@ -36,6 +40,7 @@ use Rattle.tied_lists.proofs.Turns.{after-local}
 use Rattle.comm_port.specs.Giving.{part_at, is_chosen, AsksAreOn, HasFailed, NoneFailed}
 use Rattle.comm_port.specs.Giving.{each_path, IsAtRest}
 use Rattle.comm_port.specs.Order.{IsServing, IsCalling}
+use Rattle.comm_port.proofs.RingTurns.{NotPost, on-push, on-quiet}
 
 -- a path of the paths after a write
 pub paths-put : (P : Await → Type 0) (ps : List Path) (p q : ℕ) (v : Path) → P v.awaits
@@ -93,8 +98,7 @@ run-through net n Sort Q keeps past (e ∷ es) on legal sorts free it =
     let legal' : IsLegalRing net ((past ++ e ∷ []) ++ es) = subst (IsLegalRing net)
     (sym join) legal in
     let near = (legal-parts net (past ++ e ∷ []) es legal').0 in
-    let on' : IsOnRing net (past ++ e ∷ []) n = record
-    { members = on.members; legal = near; member = on.member } in
+    let on' : IsOnRing net (past ++ e ∷ []) n = on-push net n past e on near free in
     subst (λ (l : List RingEntry). Q (part_at net n l)) join
     (⊎_elim
     (λ (mine : is_of n e ≡ true).
@@ -160,6 +164,7 @@ serving-keeps net n past after' (Send m heard) mine move sort q = absurd sort
 serving-keeps net n past after' (GiveUp id word) mine move sort q = absurd sort
 serving-keeps net n past after' (Pass m done words) mine move sort q = absurd sort
 serving-keeps net n past after' (Leave m cause) mine move sort q = absurd sort
+serving-keeps net n past after' (Join m) mine move sort q = absurd sort
 
 -- ---- calling posts Requests on free paths alone
 
@@ -241,6 +246,7 @@ calling-keeps net n chosen wait past after' (Send m heard) mine move sort q = ab
 calling-keeps net n chosen wait past after' (GiveUp id word) mine move sort q = absurd sort
 calling-keeps net n chosen wait past after' (Pass m done words) mine move sort q = absurd sort
 calling-keeps net n chosen wait past after' (Leave m cause) mine move sort q = absurd sort
+calling-keeps net n chosen wait past after' (Join m) mine move sort q = absurd sort
 
 -- ---- what is at rest stays so while others go on
 
@@ -281,6 +287,11 @@ rest-sent net n m r (f ∷ fs) other q =
     (subst (λ (x : ℕ). RestsIn (part_of r.nodes x)) (sym e) q)) n in
     subst RestsIn (sym (at-other nodes m n _ other)) (mine refl)
 
+-- all who ask come in
+rest-admitted : (nodes : List NodeIs) (n : ℕ) → RestsIn (part_of nodes n)
+    → RestsIn (part_of (map admitted nodes) n)
+rest-admitted nodes n q = subst RestsIn (sym (admitted-part nodes n)) q
+
 pub rest-other : (net : NetPlan) (n : ℕ) (r : RingIs) (e : RingEntry) → (maker e ≡ n → ⊥)
     → RestsIn (ring_node r n) → RestsIn (ring_node (after net r e) n)
 rest-other net n r (Post m f) other q = subst RestsIn (sym (at-other r.nodes m n _ other)) q
@@ -289,11 +300,16 @@ rest-other net n r (Take m f) other q = subst RestsIn (sym (at-other r.nodes m n
 rest-other net n r (Local m id op result) other q = q
 rest-other net n r (GiveUp id word) other q = subst RestsIn
     (sym (at-other r.nodes id.node n _ other)) q
-rest-other net n r (Pass m done words) other q = subst RestsIn (sym (at-other r.nodes m n _ other))
-    q
-rest-other net n r (Leave m cause) other q = subst RestsIn (sym (at-other r.nodes m n _ other)) q
+rest-other net n r (Pass m done words) other q = rest-admitted (set r.nodes m _) n
+    (subst RestsIn (sym (at-other r.nodes m n _ other)) q)
+rest-other net n r (Leave m cause) other q = rest-admitted (set r.nodes m _) n
+    (subst RestsIn (sym (at-other r.nodes m n _ other)) q)
+rest-other net n r (Join m) other q = cond_both (is_held r) _ _
+    (λ (x : RingIs). RestsIn (ring_node x n))
+    (λ _. subst RestsIn (sym (at-other r.nodes m n _ other)) q)
+    (λ _. subst RestsIn (sym (at-other r.nodes m n _ other)) q)
 
--- and while the node gives calls up, passes the token on or leaves
+-- and while the node gives calls up, passes the token on, leaves or asks to come in
 rest-given : (c : NodeIs) (id : CallId) → RestsIn c → RestsIn (gave_up c id)
 rest-given c id q = (
   ap (filter (λ f. not (asks_for id f))) q.0,
@@ -318,6 +334,7 @@ abbrev pub IsEnding : RingEntry → Type 0
 IsEnding (GiveUp id word) = Unit {0}
 IsEnding (Pass n done words) = Unit {0}
 IsEnding (Leave n cause) = Unit {0}
+IsEnding (Join n) = Unit {0}
 IsEnding _ = ⊥
 
 put-rest : (r : RingIs) (n m : ℕ) (c : NodeIs) → length r.nodes ≡ addresses → n < addresses → m ≡ n
@@ -326,6 +343,11 @@ put-rest r n m c size low mine q = subst RestsIn
     (sym (subst (λ (k : ℕ). part_of (set r.nodes k c) n ≡ c) (sym mine)
     (at-same r.nodes n c size low))) q
 
+rest-left : (cause : LeaveCause) (c : NodeIs) → RestsIn c → RestsIn (left_with cause c)
+rest-left Ended c q = q
+rest-left Spent c q = q
+rest-left (Down number) c q = (refl, q.1)
+
 pub rest-own : (net : NetPlan) (n : ℕ) (r : RingIs) (e : RingEntry) → length r.nodes ≡ addresses
     → n < addresses → maker e ≡ n → IsEnding e → RestsIn
     (ring_node r n) → RestsIn (ring_node (after net r e) n)
@@ -333,13 +355,38 @@ rest-own net n r (GiveUp id word) size low mine sort q = put-rest r n id.node _ 
     (rest-given (ring_node r id.node) id (subst (λ (k : ℕ). RestsIn (ring_node r k)) (sym mine) q))
 rest-own net n r (Pass m done words) size low mine sort q =
     let q' : RestsIn (ring_node r m) = subst (λ (k : ℕ). RestsIn (ring_node r k)) (sym mine) q in
-    put-rest r n m _ size low mine (q'.0, λ p on. aged-rest (ring_node r m).paths p (q'.1 p on))
-rest-own net n r (Leave m cause) size low mine sort q = put-rest r n m _ size low mine
-    (subst (λ (k : ℕ). RestsIn (ring_node r k)) (sym mine) q)
+    rest-admitted (set r.nodes m _) n
+    (put-rest r n m _ size low mine (q'.0, λ p on. aged-rest (ring_node r m).paths p (q'.1 p on)))
+rest-own net n r (Leave m cause) size low mine sort q = rest-admitted (set r.nodes m _) n
+    (put-rest r n m _ size low mine (rest-left cause (ring_node r m)
+    (subst (λ (k : ℕ). RestsIn (ring_node r k)) (sym mine) q)))
+rest-own net n r (Join m) size low mine sort q =
+    let q' : RestsIn (ring_node r m) = subst (λ (k : ℕ). RestsIn (ring_node r k)) (sym mine) q in
+    cond_both (is_held r) _ _ (λ (x : RingIs). RestsIn (ring_node x n))
+    (λ _. put-rest r n m _ size low mine q') (λ _. put-rest r n m _ size low mine q')
 rest-own net n r (Post m f) size low mine sort q = absurd sort
 rest-own net n r (Send m heard) size low mine sort q = absurd sort
 rest-own net n r (Take m f) size low mine sort q = absurd sort
 rest-own net n r (Local m id op result) size low mine sort q = absurd sort
+
+ending-quiet : (e : RingEntry) → IsEnding e → NotPost e
+ending-quiet (Post m f) k = k
+ending-quiet (Send m heard) k = tt
+ending-quiet (Take m f) k = tt
+ending-quiet (Local m id op result) k = tt
+ending-quiet (GiveUp id word) k = tt
+ending-quiet (Pass m done words) k = tt
+ending-quiet (Leave m cause) k = tt
+ending-quiet (Join m) k = tt
+
+quiet-one : (b : Bool) (e : RingEntry) (rest : List RingEntry)
+    → Each IsEnding (cond b (e ∷ rest) rest) → Each NotPost (cond b (e ∷ []) [])
+quiet-one true e rest all = (ending-quiet e all.0, tt)
+quiet-one false e rest all = tt
+
+quiet-first : (n : ℕ) (e : RingEntry) (es : List RingEntry) → Each IsEnding (own n (e ∷ es))
+    → Each NotPost (own n (e ∷ []))
+quiet-first n e es all = quiet-one (is_of n e) e (own n es) all
 
 rest-run : (net : NetPlan) (n : ℕ) (past more : List RingEntry) → IsOnRing net past n
     → IsLegalRing net (past ++ more) → Each IsEnding (own n more)
@@ -351,8 +398,8 @@ rest-run net n past (e ∷ es) on legal sorts q =
     let legal' : IsLegalRing net ((past ++ e ∷ []) ++ es) = subst (IsLegalRing net)
     (sym join) legal in
     let near = (legal-parts net (past ++ e ∷ []) es legal').0 in
-    let on' : IsOnRing net (past ++ e ∷ []) n = record
-    { members = on.members; legal = near; member = on.member } in
+    let on' : IsOnRing net (past ++ e ∷ []) n = on-quiet net n past (e ∷ []) on near
+    (quiet-first n e es sorts) in
     let r = ring_after net past in
     let size = (legal-follows net past n on).size in
     let low : n < addresses = All-contains (λ m. m < addresses) net.members n on.members on.member

@@ -1,5 +1,5 @@
 -- The end of a turn.
-use Rattle.std.proofs.Common.{◌≡◌, ◌⊎◌, ℕ, ◌<◌, ◌≤◌, ◌==◌, nat_le, nat_lt, Bool, true, false}
+use Rattle.std.proofs.Common.{◌≡◌, ◌⊎◌, ℕ, ◌+◌, ◌<◌, ◌≤◌, ◌==◌, nat_le, nat_lt, Bool, true, false}
 use Rattle.std.proofs.Common.{◌&&◌, cond, List, [], ◌∷◌, ◌++◌, Option, Some, None, refl, sym, ap}
 use Rattle.std.proofs.Common.{subst, ◌∙◌, inl, inr, append-nil}
 use Rattle.std.specs.Prelude.{if◌then◌else◌}
@@ -13,13 +13,14 @@ use Rattle.ring_core.specs.declared.refusal.RingNo.TheVariants.{NoMemory}
 use Rattle.ring_core.specs.declared.entry.LocalOp.TheVariants.{GetStats, ClearStats, PutGlobal}
 use Rattle.ring_core.specs.declared.entry.LocalOp.TheVariants.{GetGlobal, RemoteGet, RemoteClear}
 use Rattle.ring_core.specs.declared.entry.LeaveCause.{LeaveCause}
-use Rattle.ring_core.specs.declared.entry.LeaveCause.TheVariants.{Ended, Spent}
+use Rattle.ring_core.specs.declared.entry.LeaveCause.TheVariants.{Ended, Spent, Down}
 use Rattle.ring_core.specs.declared.entry.RingEntry.{RingEntry}
 use Rattle.ring_core.specs.declared.entry.RingEntry.TheVariants.{Post, Send, Take, Local, GiveUp}
-use Rattle.ring_core.specs.declared.entry.RingEntry.TheVariants.{Pass, Leave}
+use Rattle.ring_core.specs.declared.entry.RingEntry.TheVariants.{Pass, Leave, Join}
 use Rattle.ring_core.specs.Words.{maker}
-use Rattle.ring_core.specs.Machine.{NodeIs, RingIs, ring_after, ring_node}
-use Rattle.ring_core.specs.Refusals.{or_no, unsent_no, untaken_no, pass_no, due_no, leave_no}
+use Rattle.ring_core.specs.Machine.{is_here, NodeIs, RingIs, ring_after, ring_node}
+use Rattle.ring_core.specs.Refusals.{or_no, unsent_no, untaken_no, due_no, leave_no, turn_no}
+use Rattle.ring_core.specs.Refusals.{cause_boxes_no}
 use Rattle.ring_core.specs.Refusals.{cause_held, needed_of, quiet_for}
 use Rattle.ring_core.specs.Scratch.{put_after, put_with, words_put}
 use Rattle.ring_core.specs.Legal.{IsLegalRing}
@@ -27,13 +28,13 @@ use Rattle.ring_core.specs.Stability.{Stays}
 use Rattle.ring_core.proofs.Stability.{holders-keep}
 use Rattle.tied_lists.specs.Own.{is_of, own, WentOn, Grew}
 use Rattle.tied_lists.specs.Waits.{IsOnRing, Holds}
-use Rattle.tied_lists.proofs.Turns.{moved, after-leave, after-pass, legal-parts, none-by}
+use Rattle.tied_lists.proofs.Turns.{moved, after-leave, after-pass, legal-parts, none-by, on-went}
 use Rattle.tied_lists.proofs.Growth.{grew-one, grew-more, grew-ours}
 use Rattle.comm_port.specs.Sides.{RingSideIs}
 use Rattle.comm_port.specs.Leaving.{cause_due, is_due, last_entry, HandedOn, LeftOrStood, LeftRing}
 use Rattle.comm_port.specs.Leaving.{StoodStill}
 use Rattle.comm_port.specs.Turns.{IsOwnTurn}
-use Rattle.comm_port.proofs.RingTurns.{mine, on-ring}
+use Rattle.comm_port.proofs.RingTurns.{mine, on-grew}
 
 -- ---- what others leave of a node that holds the token
 
@@ -59,8 +60,8 @@ stood-still net n alone before after' legal w holds =
       holds = record {
         holder = ap (λ (h : List RingEntry). (ring_after net h).holder) is ∙ s.holder
             ∙ holds.holder;
-        here = ap (λ (h : List RingEntry). (ring_node (ring_after net h) n).here) is ∙ ap
-            (λ (c : NodeIs). c.here) s.part ∙ holds.here;
+        here = ap (λ (h : List RingEntry). (is_here (ring_node (ring_after net h) n))) is ∙ ap
+            (λ (c : NodeIs). is_here c) s.part ∙ holds.here;
       };
       part = ap (λ (h : List RingEntry). ring_node (ring_after net h) n) is ∙ s.part;
       quiet = ap (λ (h : List RingEntry). quiet_for (ring_after net h) n) is ∙ s.quiet;
@@ -72,12 +73,19 @@ held-as : (r s : RingIs) (n : ℕ) (cause : LeaveCause) → ring_node s n ≡ ri
     s n cause ≡ cause_held r n cause
 held-as r s n Ended part quiet = quiet
 held-as r s n Spent part quiet = ap (λ (c : NodeIs). c.passes) part
+held-as r s n (Down number) part quiet = refl
+
+needed-as : (net : NetPlan) (r s : RingIs) (n : ℕ) (cause : LeaveCause)
+    → ring_node s n ≡ ring_node r n → needed_of net s n cause ≡ needed_of net r n cause
+needed-as net r s n Ended part = refl
+needed-as net r s n Spent part = refl
+needed-as net r s n (Down number) part = ap (λ (c : NodeIs). 1 + c.down) part
 
 pub due-as : (net : NetPlan) (r s : RingIs) (n : ℕ) (cause : LeaveCause)
     → ring_node s n ≡ ring_node r n → quiet_for s n ≡
     quiet_for r n → is_due net s n cause ≡ is_due net r n cause
-due-as net r s n cause part quiet = ap (nat_le (needed_of net cause))
-    (held-as r s n cause part quiet)
+due-as net r s n cause part quiet =
+    λ i. nat_le (needed-as net r s n cause part i) (held-as r s n cause part quiet i)
 
 -- ---- when a Leave is due
 
@@ -97,8 +105,8 @@ not-early held needed is = elim (cases_Bool (nat_lt held needed)) [
 pub leave-due : (net : NetPlan) (r : RingIs) (n : ℕ) (cause : LeaveCause)
     → leave_no net r n cause ≡ None → true ≡ is_due net r n cause
 leave-due net r n cause is =
-    sym (le-leb (needed_of net cause) (cause_held r n cause)
-    (not-early (cause_held r n cause) (needed_of net cause) (second-none (pass_no r n) _ is)))
+    sym (le-leb (needed_of net r n cause) (cause_held r n cause)
+    (not-early (cause_held r n cause) (needed_of net r n cause) (second-none _ _ is)))
 
 -- no other reason is that it's early
 other-reason : (held needed : ℕ) (here holds : Bool) (other : ℕ) (out box : List Frame)
@@ -120,19 +128,26 @@ early held needed h k is = elim (cases_Bool (nat_lt held needed)) [
       absurd cc
 ]
 
-late-or : (r : RingIs) (n held needed h k : ℕ) (p : Option RingNo) → p ≡ pass_no r n
+first-reason : (r : RingIs) (n : ℕ) (cause : LeaveCause) (h k : ℕ)
+    → or_no (turn_no r n) (cause_boxes_no cause (ring_node r n)) ≡ Some (NotDue h k) → ⊥
+first-reason r n Ended h k is = other-reason h k (is_here (ring_node r n)) (r.holder == n) r.holder
+    (ring_node r n).outbox (ring_node r n).inbox is
+first-reason r n Spent h k is = other-reason h k (is_here (ring_node r n)) (r.holder == n) r.holder
+    (ring_node r n).outbox (ring_node r n).inbox is
+first-reason r n (Down number) h k is = other-reason h k (is_here (ring_node r n)) (r.holder == n)
+    r.holder [] [] is
+
+late-or : (held needed h k : ℕ) (p : Option RingNo) → (p ≡ Some (NotDue h k) → ⊥)
     → or_no p (due_no held needed) ≡ Some (NotDue h k) → held < needed
-late-or r n held needed h k None p is = early held needed h k is
-late-or r n held needed h k (Some why) p is =
-    absurd (other-reason h k (ring_node r n).here (r.holder == n) r.holder (ring_node r n).outbox
-    (ring_node r n).inbox (sym p ∙ is))
+late-or held needed h k None other is = early held needed h k is
+late-or held needed h k (Some why) other is = absurd (other is)
 
 pub leave-early : (net : NetPlan) (r : RingIs) (n : ℕ) (cause : LeaveCause) (h k : ℕ)
     → leave_no net r n cause ≡ Some (NotDue h k)
     → false ≡ is_due net r n cause
 leave-early net r n cause h k is =
-    sym (lt-leb (needed_of net cause) (cause_held r n cause)
-    (late-or r n (cause_held r n cause) (needed_of net cause) h k (pass_no r n) refl is))
+    sym (lt-leb (needed_of net r n cause) (cause_held r n cause)
+    (late-or (cause_held r n cause) (needed_of net r n cause) h k _ (first-reason r n cause h k) is))
 
 -- ---- the two ends of an attempt
 
@@ -143,8 +158,8 @@ pub did-leave : (net : NetPlan) (n : ℕ) (cause : LeaveCause) (alone : Bool)
     → (true ≡ is_due net (ring_after net before) n cause) × LeftRing alone net n cause before
     after'
 did-leave net n cause alone before after' on legal holds w =
-    let now : IsOnRing net after' n = record
-    { members = on.members; legal = legal; member = on.member } in
+    let now : IsOnRing net after' n =
+    on-went net n alone before (Leave n cause) after' on (inl holds) legal w in
     let m = moved net n alone before (Leave n cause) after' refl now w (inl holds) in
     let s = stays-between net n alone before (Leave n cause ∷ []) after' legal w holds in
     let past = before ++ w.between in
@@ -191,7 +206,10 @@ apart-put n put (Local node id RemoteGet result) is = refl
 apart-put n put (Local node id RemoteClear result) is = refl
 apart-put n put (GiveUp id word) is = refl
 apart-put n put (Pass node done words) is = refl
-apart-put n put (Leave node cause) is = refl
+apart-put n put (Leave node Ended) is = refl
+apart-put n put (Leave node Spent) is = refl
+apart-put n put (Leave node (Down number)) is = ap (λ b. if b then [] else put) is
+apart-put n put (Join node) is = refl
 
 put-own : (n : ℕ) (put : List ℕ) (es : List RingEntry)
     → put_after n put es ≡ put_after n put (own n es)
@@ -227,15 +245,30 @@ stood : (net : NetPlan) (n : ℕ) (cause : LeaveCause) (alone : Bool) (old new :
 stood net n cause alone old new true is did = absurd cc
 stood net n cause alone old new false is did = did
 
+-- it goes on with its turn
+pub stood-turn : {Q : Type 0} (side side' : RingSideIs Q) (n : ℕ) (cause : LeaveCause)
+    (alone : Bool) (old new : List RingEntry) (left : Bool) → left ≡ false → side' ≡ side
+    → IsLegalRing side.net new → LeftOrStood alone side.net n cause old new left
+    → IsOwnTurn side old n → IsOwnTurn side' new n
+stood-turn {Q} side side' n cause alone old new left is same legal did t =
+    let s = stood side.net n cause alone old new left is did in
+    subst (λ (x : RingSideIs Q). IsOwnTurn x new n) (sym same) (record {
+      serves = t.serves;
+      on = on-grew alone side.net n old [] new t.on legal tt s.grew;
+      free = inl s.holds;
+    })
+
 passed-at : (net : NetPlan) (n : ℕ) (done budget alone : Bool) (a b c d : List RingEntry)
     (spent ended : Bool)
     → spent ≡ (budget && is_due net (ring_after net a) n Spent)
     → LeftOrStood alone net n Spent a b spent → spent ≡ false
     → ended ≡ (done && is_due net (ring_after net b) n Ended)
     → LeftOrStood alone net n Ended b c ended → ended ≡ false
-    → WentOn alone (is_of n) c (Pass n done (words_put n c) ∷ []) d → IsOnRing net d n
+    → WentOn alone (is_of n) c (Pass n done (words_put n c) ∷ []) d → IsOnRing net a n
+    → IsLegalRing net d
     → HandedOn alone net n done (words_put n a) (cause_due net (ring_after net a) n done budget) a d
-passed-at net n done budget alone a b c d spent ended one did_one not_one two did_two not_two w on =
+passed-at net n done budget alone a b c d spent ended one did_one not_one two did_two not_two w on
+    legal =
     let s = stood net n Spent alone a b spent not_one did_one in
     let t = stood net n Ended alone b c ended not_two did_two in
     let second : (done && is_due net (ring_after net a) n Ended) ≡ false =
@@ -250,13 +283,14 @@ passed-at net n done budget alone a b c d spent ended one did_one not_one two di
     let still = grew-more alone (is_of n) a b c [] [] s.grew t.grew in
     let all : Grew alone (is_of n) a (Pass n done (words_put n c) ∷ []) d = grew-more alone
     (is_of n) a c d [] (e ∷ []) still last in
+    let on' : IsOnRing net d n = on-grew alone net n a (e ∷ []) d on legal (tt, tt) all in
     record {
       grew = subst (λ o. Grew alone (is_of n) a (last_entry n done (words_put n a) o ∷ []) d)
           (sym none)
           (subst (λ l. Grew alone (is_of n) a (Pass n done l ∷ []) d) words all);
       gone = λ why is. let no' : None ≡ Some why = sym none ∙ is in absurd cc;
       stays = λ is. after-pass net n c done (words_put n c) d
-          (moved net n alone c e d refl on w (inl t.holds)) t.holds;
+          (moved net n alone c e d refl on' w (inl t.holds)) t.holds;
     }
 
 -- the same, where the second attempt speaks of a side that stayed the same
@@ -277,8 +311,7 @@ passed-on {Q} side side' side'' n done budget alone a b c d spent ended same nex
     (subst (λ (s : RingSideIs Q). ended ≡ (done && is_due s.net (ring_after s.net b) n Ended)) same
     two)
     (subst (λ (s : RingSideIs Q). LeftOrStood alone s.net n Ended b c ended) same did_two) not_two w
-    (on-ring side a d n turn (subst (λ (s : RingSideIs Q). IsLegalRing s.net d) (next_same ∙ same)
-    legal))
+    turn.on (subst (λ (s : RingSideIs Q). IsLegalRing s.net d) (next_same ∙ same) legal)
 
 -- ---- a turn whose node leaves since it is done
 

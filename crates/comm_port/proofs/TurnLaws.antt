@@ -1,5 +1,5 @@
 -- What a controller's turn tells those above: both lists went on by its own entries.
-use Rattle.std.proofs.Common.{ℕ, Bool, List, [], ◌∷◌, ◌++◌, refl}
+use Rattle.std.proofs.Common.{ℕ, Bool, true, false, List, [], ◌∷◌, ◌++◌, refl}
 use Rattle.std.specs.List.{AllByRecursion as Each}
 use Rattle.plant_types.specs.declared.net.NetPlan.{NetPlan}
 use Rattle.controller_core.specs.declared.fixed.Fixed.{Fixed}
@@ -8,7 +8,10 @@ use Rattle.controller_core.specs.declared.entry.Entry.{Entry}
 use Rattle.ring_core.specs.declared.entry.RingEntry.{RingEntry}
 use Rattle.tied_lists.specs.Own.{is_of, WentOn, Grew, Adds}
 use Rattle.tied_lists.proofs.Growth.{grew-one, grew-more}
-use Rattle.comm_port.specs.HoldTurn.{Collects, EndsHoldTurn, HoldsTurn, VisitsEnd}
+use Rattle.comm_port.specs.declared.turn_end.TurnEnd.{TurnEnd}
+use Rattle.comm_port.specs.Failing.{GoesDown}
+use Rattle.comm_port.specs.HoldTurn.{Collects, EndsHoldTurn, VisitsEnd, WorksTurn}
+use Rattle.comm_port.specs.WholeTurn.{HoldsTurn, TurnsBy, is_unnoticed}
 use Rattle.comm_port.proofs.Asked.{both-asked}
 use Rattle.joint_history.specs.Reading.{is_ours}
 
@@ -56,11 +59,11 @@ ends-grown alone alone' fixed net n budget k k' r r' left e = (
       (record { added = e.gives_up.done; grew = e.gives_up.node }),
 )
 
-pub turn-grown : (alone alone' : Bool) (fixed : Fixed) (net : NetPlan) (n : ℕ) (budget : Bool)
-    (k k' : List Entry) (r r' : List RingEntry) (left : Bool) → HoldsTurn
+works-grown : (alone alone' : Bool) (fixed : Fixed) (net : NetPlan) (n : ℕ) (budget : Bool)
+    (k k' : List Entry) (r r' : List RingEntry) (left : Bool) → WorksTurn
     alone alone' fixed net n budget k k' r r' left
     → Grown alone is_ours k k' × Grown alone' (is_of n) r r'
-turn-grown alone alone' fixed net n budget k k' r r' left t =
+works-grown alone alone' fixed net n budget k k' r r' left t =
     let c = collects-grown alone alone' fixed n _ t.served_known t.called_known t.served_ring
     t.called_ring t.calls in
     let e = ends-grown alone alone' fixed net n budget t.given_known k' t.given_ring r' left t.ends
@@ -81,21 +84,54 @@ turn-grown alone alone' fixed net n budget k k' r r' left t =
           (record { added = t.gives_up.done; grew = t.gives_up.node }) e.1))),
     )
 
+down-grown : (alone alone' : Bool) (fixed : Fixed) (net : NetPlan) (n failures : ℕ)
+    (k k' : List Entry) (r r' : List RingEntry) (joined : Bool) → GoesDown
+    alone alone' fixed net n failures k k' r r' joined
+    → Grown alone is_ours k k' × Grown alone' (is_of n) r r'
+down-grown alone alone' fixed net n failures k k' r r' joined d = (
+  grown-both alone is_ours k d.given_known k'
+      (record { added = d.gives_up.noted; grew = d.gives_up.station })
+      (still alone d.given_known k' d.comes.asks),
+  grown-both alone' (is_of n) r d.left_ring r' (record { added = _; grew = d.leaves.grew })
+      (grown-both alone' (is_of n) d.left_ring d.given_ring r'
+      (record { added = d.gives_up.done; grew = d.gives_up.node })
+      (record { added = _; grew = d.comes.grew })),
+)
+
+-- by whether a failure is unnoticed
+goes-grown : (unnoticed : Bool) (alone alone' : Bool) (fixed : Fixed) (net : NetPlan) (n : ℕ)
+    (budget : Bool) (k k' : List Entry) (r r' : List RingEntry) (end : TurnEnd)
+    → TurnsBy unnoticed alone alone' fixed net n budget k k' r r' end
+    → Grown alone is_ours k k' × Grown alone' (is_of n) r r'
+goes-grown true alone alone' fixed net n budget k k' r r' end (joined, end-is, goes) =
+    down-grown alone alone' fixed net n _ k k' r r' joined goes
+goes-grown false alone alone' fixed net n budget k k' r r' end (left, end-is, goes) =
+    works-grown alone alone' fixed net n budget k k' r r' left goes
+
+turn-grown : (alone alone' : Bool) (fixed : Fixed) (net : NetPlan) (n : ℕ) (budget : Bool)
+    (k k' : List Entry) (r r' : List RingEntry) (end : TurnEnd) → HoldsTurn
+    alone alone' fixed net n budget k k' r r' end
+    → Grown alone is_ours k k' × Grown alone' (is_of n) r r'
+turn-grown alone alone' fixed net n budget k k' r r' end t =
+    let g = goes-grown (is_unnoticed fixed n t.asked r) alone alone' fixed net n budget t.asked k' r
+    r' end t.goes in
+    (grown-both alone is_ours k t.asked k' (still alone k t.asked t.asks) g.0, g.1)
+
 -- the ring went on by entries of the node
 pub turn-adds : (alone alone' : Bool) (fixed : Fixed) (net : NetPlan) (n : ℕ) (budget : Bool)
-    (k k' : List Entry) (r r' : List RingEntry) (left : Bool) → HoldsTurn
-    alone alone' fixed net n budget k k' r r' left
+    (k k' : List Entry) (r r' : List RingEntry) (end : TurnEnd) → HoldsTurn
+    alone alone' fixed net n budget k k' r r' end
     → Adds alone' (is_of n) (λ (e : RingEntry). Unit {0}) r r'
-turn-adds alone alone' fixed net n budget k k' r r' left t =
-    adds-any alone' (is_of n) r r' (turn-grown alone alone' fixed net n budget k k' r r' left t).1
+turn-adds alone alone' fixed net n budget k k' r r' end t =
+    adds-any alone' (is_of n) r r' (turn-grown alone alone' fixed net n budget k k' r r' end t).1
 
 -- the controller's list went on by events of its communication
 pub turn-notes : (alone alone' : Bool) (fixed : Fixed) (net : NetPlan) (n : ℕ) (budget : Bool)
-    (k k' : List Entry) (r r' : List RingEntry) (left : Bool) → HoldsTurn
-    alone alone' fixed net n budget k k' r r' left
+    (k k' : List Entry) (r r' : List RingEntry) (end : TurnEnd) → HoldsTurn
+    alone alone' fixed net n budget k k' r r' end
     → Adds alone is_ours (λ (e : Entry). Unit {0}) k k'
-turn-notes alone alone' fixed net n budget k k' r r' left t =
-    adds-any alone is_ours k k' (turn-grown alone alone' fixed net n budget k k' r r' left t).0
+turn-notes alone alone' fixed net n budget k k' r r' end t =
+    adds-any alone is_ours k k' (turn-grown alone alone' fixed net n budget k k' r r' end t).0
 
 -- and so in a visit
 pub visit-adds : (alone alone' : Bool) (fixed : Fixed) (net : NetPlan) (n : ℕ) (k k' : List Entry)

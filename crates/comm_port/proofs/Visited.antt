@@ -1,6 +1,6 @@
 -- What a visit of a node that has left leaves.
 use Rattle.std.proofs.Common.{◌≡◌, ℕ, ◌==◌, Bool, true, false, List, [], ◌∷◌, ◌++◌}
-use Rattle.std.proofs.Common.{set, Option, Some, None, sym, ap, ◌∙◌}
+use Rattle.std.proofs.Common.{set, Option, Some, None, refl, sym, ap, ◌∙◌}
 use Rattle.std.proofs.Common.{subst}
 use Rattle.std.proofs.lemmas.Bool.{eqb-true, and_parts, cases_Bool}
 use Rattle.std.proofs.Common.{⊎_elim}
@@ -22,7 +22,7 @@ use Rattle.comm_port.specs.Sides.{RingSideIs, RamSideIs}
 use Rattle.joint_history.specs.Reading.{is_ours, items_of}
 use Rattle.comm_port.specs.Sending.{GaveUp}
 use Rattle.comm_port.specs.Making.{Owing}
-use Rattle.joint_history.proofs.Items.{items-one}
+use Rattle.comm_port.proofs.Later.{later-one}
 use Rattle.comm_port.proofs.Given.{Waits, given-lead-but}
 use Rattle.comm_port.proofs.Made.{asked-before, known-net, out-before}
 
@@ -69,7 +69,7 @@ pub owing-given : {P Q : Type 0} (rest : List Called) (alone alone' : Bool) (n p
     side' ring' (set w p None)
 owing-given {P} {Q} rest alone alone' n p id word ram ram' known known' side side' ring ring' w same
     same' legal k gave went o =
-    let items_is = items-one alone known (Finish id (Bad word)) known' went in
+    let later = later-one alone known (Finish id (Bad word)) known' went refl in
     let slot : waits_on p (own n ring) ≡ Some k.ask = sym (o.turning.waits.waits p) ∙ k.slot in
     let last : last_asked id (asked_by (own n ring)) ≡ Some k.ask.pdu = subst
     (λ (i : CallId). last_asked i (asked_by (own n ring)) ≡ Some k.ask.pdu) k.same
@@ -86,8 +86,8 @@ owing-given {P} {Q} rest alone alone' n p id word ram ram' known known' side sid
       turning = given-lead-but rest alone alone' n p id word ram ram' known known' side side' ring
           ring' w same same' legal k gave went o.turning;
       earlier = o.earlier;
-      calls_are = ap (λ (a : Items). a.calls) items_is ∙ o.calls_are;
-      fresh = subst (λ (a : Items). AreNewCalls n o.earlier a.ends rest) (sym items_is)
+      calls_are = ap (λ (a : Items). a.calls) later.is ∙ o.calls_are;
+      fresh = subst (λ (a : Items). AreNewCalls n o.earlier a.ends rest) (sym later.is)
           (ends-of-known n o.earlier (items_of
           known).ends rest ended made.0 made.1 o.fresh);
     }

@@ -26,13 +26,13 @@ use Rattle.ring_core.specs.Machine.{NodeIs, ring_after, path_of, posted, gave_up
 use Rattle.ring_core.specs.Refusals.{or_no, free_no, path_no, taken_no}
 use Rattle.ring_core.specs.Legal.{IsLegalRing}
 use Rattle.tied_lists.specs.Own.{is_of, own, Grew}
-use Rattle.tied_lists.specs.Waits.{waiting as waits_on, waits_posted, AwaitsThis, IsOnRing, IsFree}
+use Rattle.tied_lists.specs.Waits.{has_left, waiting as waits_on, waits_posted, AwaitsThis, IsOnRing, IsFree}
 use Rattle.tied_lists.specs.Waits.{HasLeft}
 use Rattle.tied_lists.proofs.Growth.{grew-ours}
 use Rattle.tied_lists.proofs.Histories.{own-mine, legal-follows}
 use Rattle.tied_lists.proofs.Paths.{waiting-push}
 use Rattle.tied_lists.proofs.Turns.{found-at, legal-parts, next-ring, Moved, after-post}
-use Rattle.tied_lists.proofs.Turns.{after-local}
+use Rattle.tied_lists.proofs.Turns.{after-local, on-others}
 use Rattle.comm_port.specs.Calling.{IsDueAt}
 use Rattle.comm_port.specs.Giving.{part_at, NoneFailed, each_path, IsAtRest}
 use Rattle.comm_port.specs.HoldTurn.{MadeAs, EndedAs, IsMade, IsEnded, IsGivenUp}
@@ -118,7 +118,7 @@ one-entry alone net n ring e ring' on legal free g =
       moved = record {
         past = past;
         found = found;
-        on = record { members = on.members; legal = parts.0; member = on.member };
+        on = on-others net n ring k.before on parts.0 k.none_before;
         step = parts.1.0;
         ring_is = next-ring net past e;
         own_is = own-mine n past e mine ∙ ap (λ l. l ++ e ∷ []) found.own_is;
@@ -386,8 +386,8 @@ ended-before alone alone' net n id to pdu known known' ring ring' ring'' on a b 
 
 pub gone-posted : (net : NetPlan) (n : ℕ) (f : Frame) (ring ring' : List RingEntry)
     → HasLeft net ring n → Posted net n ring f ring' → HasLeft net ring' n
-gone-posted net n f ring ring' gone a = ap (λ (c : NodeIs). c.here) a.part_is ∙ gone
+gone-posted net n f ring ring' gone a = ap (λ (c : NodeIs). has_left c.status) a.part_is ∙ gone
 
 pub gone-given : (net : NetPlan) (n : ℕ) (id : CallId) (ring ring' : List RingEntry)
     → HasLeft net ring n → GivesCall net n id ring ring' → HasLeft net ring' n
-gone-given net n id ring ring' gone a = ap (λ (c : NodeIs). c.here) a ∙ gone
+gone-given net n id ring ring' gone a = ap (λ (c : NodeIs). has_left c.status) a ∙ gone

@@ -7,14 +7,17 @@ use Rattle.controller_core.specs.declared.entry.Entry.{Entry}
 use Rattle.ring_core.specs.declared.frame.Frame.{Frame}
 use Rattle.ring_core.specs.declared.entry.LocalOp.{LocalOp}
 use Rattle.ring_core.specs.declared.entry.RingEntry.{RingEntry}
-use Rattle.joint_history.specs.Reading.{is_ours}
+use Rattle.joint_history.specs.Reading.{failures_at, is_ours}
 use Rattle.comm_port.specs.declared.ram_side.RamSide as ram_sides
 use Rattle.comm_port.specs.declared.ring_side.RingSide as ring_sides
 use Rattle.comm_port.specs.Calling.{IsDueAt}
 use Rattle.comm_port.specs.Ending.{AsksIfDone}
 use Rattle.comm_port.specs.Giving.{due_calls, chosen_paths, inbox_of}
 use Rattle.comm_port.specs.HoldTurn.{IsServed, IsMade, IsEnded, IsGivenUp, Collects}
-use Rattle.comm_port.specs.HoldTurn.{SendsAll, EndsHoldTurn, HoldsTurn, VisitsEnd}
+use Rattle.comm_port.specs.Failing.{ComesBack, GoesDown}
+use Rattle.comm_port.specs.HoldTurn.{SendsAll, EndsHoldTurn, WorksTurn, VisitsEnd}
+use Rattle.comm_port.specs.WholeTurn.{HoldsTurn}
+use Rattle.comm_port.specs.declared.turn_end.TurnEnd.{TurnEnd}
 use Rattle.comm_port.specs.Making.{DoesAtHome, Owing, calls_from}
 use Rattle.comm_port.specs.Parts.{InOrder, PartOf}
 use Rattle.comm_port.specs.RingSteps.{RingStep}
@@ -39,10 +42,14 @@ module _ {M P : Type 0} (m : ram_sides.Ghosts M P) where
     pub kept : KeepsRoom m.alone (m.reserved old) (m.reserved new)
     pub stands : RamStandsOver old new
 
-  -- A turn asked whether the controller is done.
-  abbrev pub AsksDoneOver : List (Option Frame) → M → M → Bool → Type 0
-  AsksDoneOver waiting old new done =
-      AsksIfDone m.alone (m.side old).fixed (IsIdle waiting) (m.known old) (m.known new) done
+  -- The controller's power has failed this number of times.
+  abbrev pub HaveFailed : ℕ → M → Type 0
+  HaveFailed failures ram = failures ≡ failures_at (m.side ram).fixed (m.known ram)
+
+  -- A turn asked whether the controller is done, after this number of failures was noticed.
+  abbrev pub AsksDoneOver : ℕ → List (Option Frame) → M → M → Bool → Type 0
+  AsksDoneOver noticed waiting old new done =
+      AsksIfDone m.alone (m.side old).fixed noticed (IsIdle waiting) (m.known old) (m.known new) done
 
 -- ---- Both.
 
@@ -138,14 +145,30 @@ module _ {M P R Q : Type 0} (m : ram_sides.Ghosts M P) (r : ring_sides.Ghosts R 
   EndsOver n budget ram ram' ring ring' left = EndsHoldTurn m.alone r.alone (m.side ram).fixed
       (r.side ring).net n budget (m.known ram) (m.known ram') (r.known ring) (r.known ring') left
 
-  -- A turn: its five parts one after another.
-  abbrev pub HoldsOver : ℕ → Bool → M → M → R → R → Bool → Type 0
-  HoldsOver n budget ram ram' ring ring' left = HoldsTurn m.alone r.alone (m.side ram).fixed
+  -- A turn in which no failure is unnoticed: its five parts one after another.
+  abbrev pub WorksOver : ℕ → Bool → M → M → R → R → Bool → Type 0
+  WorksOver n budget ram ram' ring ring' left = WorksTurn m.alone r.alone (m.side ram).fixed
       (r.side ring).net n budget (m.known ram) (m.known ram') (r.known ring) (r.known ring') left
 
+  -- A node that is away asked to come in again, or not.
+  abbrev pub ComesBackOver : ℕ → M → M → R → R → Bool → Type 0
+  ComesBackOver n ram ram' ring ring' joined = ComesBack m.alone r.alone (m.side ram).fixed n
+      (m.known ram) (m.known ram') (r.known ring) (r.known ring') joined
+
+  -- A node left because power had failed this number of times, and came back or not.
+  abbrev pub GoesDownOver : ℕ → ℕ → M → M → R → R → Bool → Type 0
+  GoesDownOver n failures ram ram' ring ring' joined = GoesDown m.alone r.alone (m.side ram).fixed
+      (r.side ring).net n failures (m.known ram) (m.known ram') (r.known ring) (r.known ring')
+      joined
+
+  -- A turn as a whole.
+  abbrev pub HoldsOver : ℕ → Bool → M → M → R → R → TurnEnd → Type 0
+  HoldsOver n budget ram ram' ring ring' end = HoldsTurn m.alone r.alone (m.side ram).fixed
+      (r.side ring).net n budget (m.known ram) (m.known ram') (r.known ring) (r.known ring') end
+
   -- A turn of a worker.
-  abbrev pub HoldsTurnBy : WorkerIs → M → M → R → R → Bool → Type 0
-  HoldsTurnBy w ram ram' ring ring' left = HoldsOver w.node w.budget ram ram' ring ring' left
+  abbrev pub HoldsTurnBy : WorkerIs → M → M → R → R → TurnEnd → Type 0
+  HoldsTurnBy w ram ram' ring ring' end = HoldsOver w.node w.budget ram ram' ring ring' end
 
   -- A visit: what was started was collected, and each call ended at once.
   abbrev pub Visits : ℕ → M → M → R → R → Type 0

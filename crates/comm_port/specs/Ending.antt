@@ -1,15 +1,17 @@
 -- How a controller's turn ends. This project's own.
-use Rattle.std.specs.Prelude.{◌≡◌, ◌↔◌, Bool, true, false, not, List, [], ◌∷◌}
+use Rattle.std.specs.Prelude.{◌≡◌, ◌↔◌, ℕ, nat_le, Bool, true, false, not, List, [], ◌∷◌}
 use Rattle.controller_core.specs.declared.fixed.Fixed.{Fixed}
 use Rattle.controller_core.specs.declared.entry.Entry.{Entry}
 use Rattle.tied_lists.specs.Own.{WentOn}
-use Rattle.joint_history.specs.Reading.{is_ours, has_ended_at, has_started_at}
+use Rattle.joint_history.specs.Reading.{is_ours, failures_at, has_ended_at, has_started_at}
 
 -- What a turn asks of a controller's list to know whether it is done, in this order: whether the
--- scans have ended, then whether no call is uncollected.
-abbrev pub questions : Fixed → List (List Entry → Bool)
-questions fixed =
-    has_ended_at fixed ∷ (λ (list : List Entry). not (has_started_at fixed list)) ∷ []
+-- scans are gone, whether no failure is unnoticed after this number of them, and whether no call is
+-- uncollected.
+abbrev pub questions : Fixed → ℕ → List (List Entry → Bool)
+questions fixed noticed =
+    has_ended_at fixed ∷ (λ (list : List Entry). nat_le (failures_at fixed list) noticed)
+    ∷ (λ (list : List Entry). not (has_started_at fixed list)) ∷ []
 
 -- A question was asked of a list as it stood then. Where the answer was no, nothing more was asked.
 pub record AskedFirst (alone : Bool) (question : List Entry → Bool)
@@ -28,8 +30,8 @@ AskedInOrder alone (question ∷ later) old new all =
 
 -- A turn asked whether the controller is done: it is exactly where each question is answered by yes
 -- and its paths are idle.
-pub record AsksIfDone (alone : Bool) (fixed : Fixed) (Idle : Type 0) (old new : List Entry)
-    (done : Bool) : Type 0 where
+pub record AsksIfDone (alone : Bool) (fixed : Fixed) (noticed : ℕ) (Idle : Type 0)
+    (old new : List Entry) (done : Bool) : Type 0 where
   pub all_yes : Bool
-  pub asked : AskedInOrder alone (questions fixed) old new all_yes
+  pub asked : AskedInOrder alone (questions fixed noticed) old new all_yes
   pub done_is : (done ≡ true) ↔ ((all_yes ≡ true) × Idle)

@@ -11,7 +11,8 @@ use Rattle.controller_core.specs.declared.call.Call.{Call}
 use Rattle.controller_core.specs.declared.call.CallKind.{CallKind}
 use Rattle.controller_core.specs.declared.call.CallKind.TheVariants as kinds
 use Rattle.controller_core.specs.declared.entry.Entry.{Entry}
-use Rattle.controller_core.specs.declared.entry.Entry.TheVariants.{Collect, Peer, Finish}
+use Rattle.controller_core.specs.declared.entry.Entry.TheVariants.{Collect, Finish}
+use Rattle.controller_core.specs.Event.{peer_entry}
 use Rattle.ring_core.specs.Machine.{NodeIs, ring_node, ring_after, path_of}
 use Rattle.ring_core.specs.Scratch.{words_put}
 use Rattle.ring_core.specs.Statistics.{is_stats}
@@ -23,8 +24,8 @@ use Rattle.ring_core.specs.declared.frame.Frame.{Frame}
 use Rattle.ring_core.specs.declared.entry.LocalOp.{LocalOp}
 use Rattle.ring_core.specs.declared.entry.RingEntry.{RingEntry}
 use Rattle.ring_core.specs.declared.entry.RingEntry.TheVariants.{Post, Take, Local, GiveUp}
-use Rattle.tied_lists.specs.Own.{WentOn, Grew}
-use Rattle.tied_lists.specs.Items.{request_of, reply_of}
+use Rattle.tied_lists.specs.Own.{own, WentOn, Grew}
+use Rattle.tied_lists.specs.Items.{latest_down, request_of, reply_of}
 pub use Rattle.comm_port.specs.Giving.{inbox_of}
 use Rattle.comm_port.specs.Giving.{due_by, each_path}
 use Rattle.comm_port.specs.Ending.{AsksIfDone}
@@ -37,16 +38,22 @@ use Rattle.comm_port.specs.SendsAll.{SendsFrames}
 
 -- ---- First: what lies in the inbox is served.
 
+-- The Reply that is posted; none where there is no power.
+abbrev pub reply_entries : ℕ → CallId → Option (List ℕ) → List RingEntry
+reply_entries n id (Some reply) = Post n (reply_frame id reply) ∷ []
+reply_entries n id None = []
+
 -- A frame is served: it is taken, and a Reply finishes its call. A request for statistics has the
--- port do what is asked and post its Reply; another is answered by the controller, and posted.
+-- port do what is asked and post its Reply, with power or without; another is answered by the
+-- controller, and posted, where there is power.
 abbrev pub ServedAs : FrameKind → Bool → ℕ → Frame → List Entry → List RingEntry → Type 0
 ServedAs Reply stats n f noted done = (result : MstrResult) × (noted ≡ Finish f.id result ∷ [])
     × (done ≡ Take n f ∷ [])
 ServedAs Request true n f noted done = (op : LocalOp) × (result : MstrResult)
     × (request_of op ≡ Some f.pdu) × (noted ≡ [])
     × (done ≡ Take n f ∷ Local n f.id op result ∷ Post n (reply_frame f.id (reply_of result)) ∷ [])
-ServedAs Request false n f noted done = (reply : List ℕ) × (noted ≡ Peer f.id f.pdu reply ∷ [])
-    × (done ≡ Take n f ∷ Post n (reply_frame f.id reply) ∷ [])
+ServedAs Request false n f noted done = (reply : Option (List ℕ))
+    × (noted ≡ peer_entry f.id f.pdu reply ∷ []) × (done ≡ Take n f ∷ reply_entries n f.id reply)
 
 abbrev pub IsServed : ℕ → Frame → List Entry → List RingEntry → Type 0
 IsServed n f noted done = ServedAs f.kind (is_stats f.pdu) n f noted done
@@ -121,8 +128,8 @@ pub record EndsHoldTurn (alone_ram alone_ring : Bool) (fixed : Fixed) (net : Net
     (left : Bool) : Type 0 where
   pub done : Bool
   pub asked_known : List Entry
-  pub asked : AsksIfDone alone_ram fixed (calls_waiting n ring ≡ []) known asked_known
-      done
+  pub asked : AsksIfDone alone_ram fixed (latest_down (own n ring)) (calls_waiting n ring ≡ [])
+      known asked_known done
   pub left_is : left ≡ is_some (cause_due net (ring_after net ring) n done budget)
   pub handed_ring : List RingEntry
   pub handed : HandedOn alone_ring net n done (words_put n ring)
@@ -132,8 +139,8 @@ pub record EndsHoldTurn (alone_ram alone_ring : Bool) (fixed : Fixed) (net : Net
       handed_ring new_ring
   pub none_waits : left ≡ true → calls_waiting n new_ring ≡ []
 
--- A turn: its five parts one after another.
-pub record HoldsTurn (alone_ram alone_ring : Bool) (fixed : Fixed) (net : NetPlan) (n : ℕ)
+-- A turn in which no failure is unnoticed at first: its five parts one after another.
+pub record WorksTurn (alone_ram alone_ring : Bool) (fixed : Fixed) (net : NetPlan) (n : ℕ)
     (budget : Bool) (known new_known : List Entry) (ring new_ring : List RingEntry)
     (left : Bool) : Type 0 where
   pub served_known : List Entry

@@ -14,6 +14,8 @@ pub mod HostStands
 pub mod Order
 pub mod Parts
 pub mod HoldTurn
+pub mod Failing
+pub mod WholeTurn
 pub mod Serving
 pub mod Calling
 pub mod Giving

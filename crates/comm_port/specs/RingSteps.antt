@@ -10,11 +10,14 @@ use Rattle.ring_core.specs.declared.entry.Heard.{Heard}
 use Rattle.ring_core.specs.declared.entry.LeaveCause.{LeaveCause}
 use Rattle.ring_core.specs.declared.entry.RingEntry.{RingEntry}
 use Rattle.ring_core.specs.declared.entry.RingEntry.TheVariants.{Pass}
-use Rattle.tied_lists.specs.Own.{is_of, WentOn, Grew, Adds}
-use Rattle.tied_lists.specs.Waits.{Holds, HasLeft}
+use Rattle.tied_lists.specs.Own.{is_of, own, WentOn, Grew, Adds}
+use Rattle.tied_lists.specs.Items.{latest_down}
+use Rattle.ring_core.specs.declared.status.NodeStatus.TheVariants.{Away}
+use Rattle.tied_lists.specs.Waits.{Holds, HasLeft, status_at}
 use Rattle.comm_port.specs.declared.ring_side.RingSide as ring_sides
 use Rattle.comm_port.specs.Giving.{part_at, part_no, IsAtRest, MaySend, GivesOnPath, GivesWhere}
-use Rattle.comm_port.specs.Leaving.{cause_due, is_due, IsHere, LeftOrStood, HandedOn}
+use Rattle.comm_port.specs.Failing.{IsAway}
+use Rattle.comm_port.specs.Leaving.{cause_due, is_due, IsHere, LeftOrStood, LeftRing, HandedOn}
 use Rattle.comm_port.specs.Parts.{calls_waiting}
 use Rattle.comm_port.specs.Replies.{TellsStatistics}
 use Rattle.comm_port.specs.Sending.{sends_left, SentOrAll, GaveUp}
@@ -53,6 +56,10 @@ module _ {R Q : Type 0} (r : ring_sides.Ghosts R Q) where
   abbrev pub cause_at : ℕ → Bool → Bool → R → Option LeaveCause
   cause_at n done budget s = cause_due (r.side s).net (ring_at s) n done budget
 
+  -- The number of a node's latest Leave because power failed; 0 for none.
+  abbrev pub down_at : ℕ → R → ℕ
+  down_at n s = latest_down (own n (r.known s))
+
   -- ---- What a part stands on.
 
   -- The side serves a node of its plan, whose boxes and paths nobody else changes.
@@ -66,6 +73,10 @@ module _ {R Q : Type 0} (r : ring_sides.Ghosts R Q) where
   -- A node has left the ring.
   abbrev pub HasLeftAt : ℕ → R → Type 0
   HasLeftAt n s = HasLeft (r.side s).net (r.known s) n
+
+  -- A node is away, and none of its calls waits.
+  abbrev pub IsAwayAt : ℕ → R → Type 0
+  IsAwayAt n s = IsAway (r.side s).net (r.known s) n
 
   -- A node has not left the ring.
   abbrev pub IsHereAt : ℕ → R → Type 0
@@ -92,6 +103,10 @@ module _ {R Q : Type 0} (r : ring_sides.Ghosts R Q) where
   -- A node has left the ring.
   abbrev pub HasLeftAfter : ℕ → R → R → Type 0
   HasLeftAfter n old new = HasLeft (r.side old).net (r.known new) n
+
+  -- A node left as its power failed, and has not asked to come in since.
+  abbrev pub AwayAfter : ℕ → R → R → Type 0
+  AwayAfter n old new = status_at (r.side old).net (r.known new) n ≡ Away
 
   -- A node has not left the ring.
   abbrev pub IsHereAfter : ℕ → R → R → Type 0
@@ -177,6 +192,10 @@ module _ {R Q : Type 0} (r : ring_sides.Ghosts R Q) where
   abbrev pub TellsOver : ℕ → Frame → R → R → Type 0
   TellsOver n request old new =
       TellsStatistics r.alone n request.id request.pdu (r.known old) (r.known new)
+
+  -- A node left for a cause.
+  abbrev pub LeftOver : ℕ → LeaveCause → R → R → Type 0
+  LeftOver n cause old new = LeftRing r.alone (r.side old).net n cause (r.known old) (r.known new)
 
   -- A node left for a cause, or added nothing.
   abbrev pub LeftOrStoodOver : ℕ → LeaveCause → R → R → Bool → Type 0

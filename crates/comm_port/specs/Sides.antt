@@ -7,7 +7,7 @@ use Rattle.controller_core.specs.declared.fixed.Fixed.{Fixed}
 use Rattle.controller_core.specs.declared.call.Call.{Call}
 use Rattle.controller_core.specs.declared.entry.Entry.{Entry}
 use Rattle.ring_core.specs.Machine.{awaited_number, path_of, ring_after, ring_node}
-use Rattle.ring_core.specs.Refusals.{give_up_no, leave_no}
+use Rattle.ring_core.specs.Refusals.{give_up_no, join_no, leave_no}
 use Rattle.ring_core.specs.Scratch.{words_put}
 use Rattle.ring_core.specs.declared.frame.Frame.{Frame}
 use Rattle.ring_core.specs.declared.entry.LeaveCause.{LeaveCause}
@@ -83,9 +83,13 @@ pub record AddsNothing {S : Type 0} (alone : Bool) (known : S → List RingEntry
   pub list : WentOn alone (is_of node) (known old) [] (known new)
   pub kept : KeepsRoom alone (room old) (room new)
 
--- Why a node may not leave for a cause, and why a call may not be given up.
+-- Why a node may not leave for a cause, why it may not ask to come in, and why a call may not be
+-- given up.
 abbrev pub leave_no_at : NetPlan → List RingEntry → ℕ → LeaveCause → Option RingNo
 leave_no_at net ring node cause = leave_no net (ring_after net ring) node cause
+
+abbrev pub join_no_at : NetPlan → List RingEntry → ℕ → Option RingNo
+join_no_at net ring node = join_no (ring_after net ring) node
 
 abbrev pub give_up_no_at : NetPlan → List RingEntry → CallId → Option RingNo
 give_up_no_at net ring id = give_up_no net (ring_after net ring) id

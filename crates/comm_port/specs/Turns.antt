@@ -2,7 +2,6 @@
 use Rattle.std.specs.Prelude.{◌≡◌, ◌≢◌, ℕ, ◌<◌, List, [], ◌∷◌, ◌++◌, length, get_or, Option}
 use Rattle.std.specs.Prelude.{Some, None}
 use Rattle.plant_types.specs.declared.net.NetPlan.{NetPlan}
-use Rattle.plant_types.specs.Plans.{KeepsPower}
 use Rattle.controller_core.specs.declared.entry.Entry.{Entry}
 use Rattle.ring_core.specs.Machine.{path_places, ring_node, ring_after}
 use Rattle.ring_core.specs.declared.frame.FrameKind.TheVariants.{Request, Reply}
@@ -24,8 +23,10 @@ pub record IsOwnTurn {Q : Type 0} (side : RingSideIs Q) (ring : List RingEntry) 
   pub on : IsOnRing side.net ring n
   pub free : IsFree side.net ring n
 
--- A node's own entries left its inbox as it was, and it holds the token if it did.
+-- A node's own entries left its inbox as it was, and it holds the token if it did; it posted
+-- nothing while it asked to come in.
 pub record KeepsInbox (net : NetPlan) (n : ℕ) (old new : List RingEntry) : Type 0 where
+  pub on : IsOnRing net old n → IsOnRing net new n
   pub free : IsFree net new n
   pub holds : Holds net old n → Holds net new n
   pub inbox : (ring_node (ring_after net new) n).inbox ≡ (ring_node (ring_after net old) n).inbox
@@ -39,13 +40,12 @@ pub record AreWaiting (n : ℕ) (a : Items) (b : List RingEntry) (waiting : List
   pub asks : (p : ℕ) (f : Frame) → get_or waiting p None ≡ Some f → IsAsk n p f
   pub outs : (p : ℕ) (f : Frame) → get_or waiting p None ≡ Some f → IsOutAs a f.id NetCall
 
--- A worker stands between its controller, which keeps its power, and the ring: their lists are tied,
--- but for calls that were not posted yet.
+-- A worker stands between its controller and the ring: their lists are tied, but for calls that
+-- were not posted yet.
 pub record Turning {P Q : Type 0} (n : ℕ) (rest : List Called) (ram : RamSideIs P)
     (known : List Entry) (side : RingSideIs Q) (ring : List RingEntry)
     (waiting : List (Option Frame)) : Type 0 where
   pub node : ram.fixed.plan.node ≡ n
-  pub power : KeepsPower ram.fixed.plan
   pub own_turn : IsOwnTurn side ring n
   pub tied : TiedBut AController rest (items_of known) (own n ring)
   pub waits : AreWaiting n (items_of known) (own n ring) waiting
@@ -57,7 +57,6 @@ pub record Taking {P Q : Type 0} (n : ℕ) (f : Frame) (ram : RamSideIs P) (know
   pub before : List RingEntry
   pub own_is : own n ring ≡ before ++ Take n f ∷ []
   pub node : ram.fixed.plan.node ≡ n
-  pub power : KeepsPower ram.fixed.plan
   pub own_turn : IsOwnTurn side ring n
   pub tied : TiedBut AController [] (items_of known) before
   pub waits : AreWaiting n (items_of known) before waiting
@@ -71,7 +70,6 @@ pub record Taking {P Q : Type 0} (n : ℕ) (f : Frame) (ram : RamSideIs P) (know
 pub record Rested {P Q : Type 0} (n : ℕ) (ram : RamSideIs P) (known : List Entry)
     (side : RingSideIs Q) (ring : List RingEntry) (waiting : List (Option Frame)) : Type 0 where
   pub node : ram.fixed.plan.node ≡ n
-  pub power : KeepsPower ram.fixed.plan
   pub serves : MayWrite side.writer n
   pub on : IsOnRing side.net ring n
   pub tied : Tied AController (items_of known) (own n ring)

@@ -30,9 +30,8 @@ impl RamSide for Controller {
         Controller::collect(self)
     }
 
-    fn peer(&mut self, id: CallId, request: &Pdu) -> Result<Pdu, AllocError> {
-        let reply = Controller::peer(self, id, request)?;
-        Ok(reply.unwrap())
+    fn peer(&mut self, id: CallId, request: &Pdu) -> Result<Option<Pdu>, AllocError> {
+        Controller::peer(self, id, request)
     }
 
     fn finish(&mut self, id: CallId, outcome: MstrResult) -> Result<(), AllocError> {
@@ -52,5 +51,15 @@ impl RamSide for Controller {
     fn has_ended(&mut self) -> bool {
         let _ = self.history();
         Controller::has_ended(self)
+    }
+
+    fn failures(&mut self) -> u32 {
+        let _ = self.history();
+        Controller::failures(self)
+    }
+
+    fn is_off(&mut self) -> bool {
+        let _ = self.history();
+        Controller::is_off(self)
     }
 }

@@ -1,10 +1,11 @@
 //! A controller as its worker has it: by itself, or behind a gate that its scan passes too.
 ghost use Rattle.std.specs.Prelude.{◌≡◌, ◌∷◌, [], List, Bool, true, IfOk};
-ghost use Rattle.plant_types.specs.Plans.{KeepsPower};
 ghost use Rattle.controller_core.specs.Controller.{IsLegal};
-ghost use Rattle.controller_core.specs.declared.entry.Entry.TheVariants.{Collect, Peer, Finish};
+ghost use Rattle.controller_core.specs.Event.{peer_entry};
+ghost use Rattle.controller_core.specs.declared.entry.Entry.TheVariants.{Collect, Finish};
 ghost use Rattle.tied_lists.specs.Calls.{IsOut};
 ghost use Rattle.joint_history.specs.Reading.{items_of, has_ended_at, has_started_at};
+ghost use Rattle.joint_history.specs.Reading.{failures_at, is_off_at};
 ghost use Rattle.comm_port.specs.Sides.{AreStarted, CallNotes, NotesNothing};
 
 use controller_core::Call;
@@ -46,11 +47,10 @@ pub trait RamSide {
         ensures legal { IsLegal (side self.old).fixed (known self.new) }
         ensures same { side self.new ≡ side self.old };
 
-    /// Answers a request of another node, where the controller keeps its power.
-    fn peer(&mut self, id: CallId, request: &Pdu) -> Result<Pdu, AllocError>
-        requires { KeepsPower (side self.old).fixed.plan }
+    /// Takes a request of another node: the reply, or none exactly where there is no power.
+    fn peer(&mut self, id: CallId, request: &Pdu) -> Result<Option<Pdu>, AllocError>
         ensures went { CallNotes alone known reserved self.old self.new result
-            (λ reply. Peer id request.now reply ∷ []) }
+            (λ reply. peer_entry id request.now reply ∷ []) }
         ensures legal { IsLegal (side self.old).fixed (known self.new) }
         ensures same { side self.new ≡ side self.old };
 
@@ -69,9 +69,23 @@ pub trait RamSide {
         ensures legal { IsLegal (side self.old).fixed (known self.new) }
         ensures same { side self.new ≡ side self.old };
 
-    /// Whether all scans are done, or the controller has stopped.
+    /// Whether all scans are gone, or the controller has stopped.
     fn has_ended(&mut self) -> bool
         ensures answer { result ≡ has_ended_at (side self.old).fixed (known self.new) }
+        ensures went { NotesNothing alone known reserved self.old self.new }
+        ensures legal { IsLegal (side self.old).fixed (known self.new) }
+        ensures same { side self.new ≡ side self.old };
+
+    /// How often power failed.
+    fn failures(&mut self) -> u32
+        ensures answer { result ≡ failures_at (side self.old).fixed (known self.new) }
+        ensures went { NotesNothing alone known reserved self.old self.new }
+        ensures legal { IsLegal (side self.old).fixed (known self.new) }
+        ensures same { side self.new ≡ side self.old };
+
+    /// Whether there is no power.
+    fn is_off(&mut self) -> bool
+        ensures answer { result ≡ is_off_at (side self.old).fixed (known self.new) }
         ensures went { NotesNothing alone known reserved self.old self.new }
         ensures legal { IsLegal (side self.old).fixed (known self.new) }
         ensures same { side self.new ≡ side self.old };

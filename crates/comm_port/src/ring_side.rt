@@ -5,14 +5,15 @@ ghost use Rattle.ring_core.specs.Refusals.{post_no, send_no, turn_no, free_no, p
 ghost use Rattle.ring_core.specs.Legal.{IsMember, IsPath, IsFrom, IsNextNumber, HasRoom};
 ghost use Rattle.ring_core.specs.Legal.{IsLegalRing};
 ghost use Rattle.ring_core.specs.declared.entry.RingEntry.TheVariants.{Post, Send, Local, GiveUp};
+ghost use Rattle.ring_core.specs.declared.entry.RingEntry.TheVariants.{Join};
 ghost use Rattle.comm_port.specs.Sides.{MayWrite, IsRefusedFor, IsRefusedOrShort, taken_entries};
 ghost use Rattle.comm_port.specs.Sides.{CallAdds, AddsNothing, LeaveAdds, PassAdds};
 ghost use Rattle.comm_port.specs.Sides.{give_up_no_at};
-ghost use Rattle.comm_port.specs.Sides.{leave_no_at, number_awaited};
+ghost use Rattle.comm_port.specs.Sides.{join_no_at, leave_no_at, number_awaited};
 ghost use Rattle.comm_port.specs.Giving.{inbox_of, part_at};
 
 use mstr_block::{CallId, MstrResult};
-use ring_core::{Frame, Heard, LeaveCause, LocalOp, Ring, RingNo};
+use ring_core::{Frame, Heard, LeaveCause, LocalOp, NodeStatus, Ring, RingNo};
 
 /// The calls of a ring. A contract sees its plan and its history as far as it is known here; each
 /// call goes on from there with entries of others, none where nobody else writes, and then with its
@@ -140,6 +141,26 @@ pub trait RingSide {
         ensures refused { IsRefusedOrShort
             (leave_no_at (side self.old).net (known self.new) node cause) result }
         ensures same { side self.new ≡ side self.old };
+
+    /// A node that is away asks to come in again.
+    fn join(&mut self, node: u8) -> Result<(), RingNo>
+        requires serves { MayWrite (side self.old).writer node }
+        requires member { IsMember (side self.old).net node }
+        ensures went { CallAdds alone known room node self.old self.new result
+            (λ _. Join node ∷ []) }
+        ensures legal { IsLegalRing (side self.old).net (known self.new) }
+        ensures refused { IsRefusedFor
+            (join_no_at (side self.old).net (known self.new) node) result }
+        ensures same { side self.new ≡ side self.old };
+
+    /// Where a node stands toward the ring.
+    fn status(&mut self, node: u8) -> NodeStatus
+        requires serves { MayWrite (side self.old).writer node }
+        requires member { IsMember (side self.old).net node }
+        ensures answer { result ≡ (part_at (side self.old).net node (known self.new)).status }
+        ensures went { AddsNothing alone known room node self.old self.new }
+        ensures legal { IsLegalRing (side self.old).net (known self.new) }
+        ensures same { side self.new ≡ side self.old };
 }
 
 impl RingSide for Ring {
@@ -210,5 +231,16 @@ impl RingSide for Ring {
         let answer = Ring::leave(self, node, cause);
         let _ = self.history();
         answer
+    }
+
+    fn join(&mut self, node: u8) -> Result<(), RingNo> {
+        let answer = Ring::join(self, node);
+        let _ = self.history();
+        answer
+    }
+
+    fn status(&mut self, node: u8) -> NodeStatus {
+        let _ = self.history();
+        Ring::status(self, node)
     }
 }

@@ -39,7 +39,7 @@ fn end_call<M: RamSide, R: RingSide>(
     Ok(())
 }
 
-/// Has the controller answer a Request, and posts its Reply.
+/// Has the controller answer a Request, and posts its Reply; none where it has no power.
 fn answer_request<M: RamSide, R: RingSide>(
     node: u8,
     waiting: &Waiting,
@@ -59,8 +59,9 @@ fn answer_request<M: RamSide, R: RingSide>(
         (Meets M.RamSide R.RingSide node request.now ram.old ram.new ring.old ring.new) }
     ensures step { BothStep M.RamSide R.RingSide node ram.old ram.new ring.old ring.new }
 {
-    let reply = ram.peer(request.id, &request.pdu)?;
-    post_reply(node, request.id, reply, ring)?;
+    if let Some(reply) = ram.peer(request.id, &request.pdu)? {
+        post_reply(node, request.id, reply, ring)?;
+    }
     Ok(())
 }
 

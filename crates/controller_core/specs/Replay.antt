@@ -62,7 +62,7 @@ start plan = record {
 }
 
 -- Begin: the clock goes on by the scan time, and keeps when the scan before began; the watchdog
--- has all its networks; and there is power. This project's own.
+-- has all its networks. This project's own.
 abbrev pub begun : Fixed → SolveState → SolveState
 begun fixed s =
     record s {

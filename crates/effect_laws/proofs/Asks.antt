@@ -1,7 +1,7 @@
 -- What a legal history of a controller asked other nodes for, and what stations answered.
 use Rattle.std.proofs.Common.{◌≡◌, ℕ, suc, ◌-◌, true, false, Option, Some, None, List, []}
 use Rattle.std.proofs.Common.{◌∷◌, ◌++◌, map, get_or}
-use Rattle.std.proofs.Common.{refl, sym, ap, subst, append_assoc}
+use Rattle.std.proofs.Common.{refl, sym, ap, ◌∙◌, subst, append_assoc}
 use Rattle.std.specs.List.{AllByRecursion as Each, cons_option, filter_map}
 use Rattle.std.specs.Option.{option_map}
 use Rattle.plant_types.specs.declared.net.HostPlan.{HostPlan}
@@ -41,7 +41,8 @@ IsAskOf c = (to : ℕ) (pdu : List ℕ) → c.sort ≡ OverNet to pdu → NetAsk
 
 -- a request that was answered has a fitting answer
 abbrev pub IsFitAnswer : Answered → Type 0
-IsFitAnswer a = (ask : List ℕ) → a.request ≡ Some ask → NetAsk ask → Fitting ask a.reply
+IsFitAnswer a = (ask reply : List ℕ) → a.request ≡ Some ask → a.reply ≡ Some reply → NetAsk ask
+    → Fitting ask reply
 
 pub record FitItems (a : Items) : Type 0 where
   pub asks : Each IsAskOf a.calls
@@ -106,9 +107,13 @@ fit-next laws fixed h (entries.Input row) legal fits f = f
 fit-next laws fixed h (entries.Solve row) legal fits f = f
 fit-next laws fixed h (entries.Output row words) legal fits f = f
 fit-next laws fixed h entries.End legal fits f = f
-fit-next laws fixed h entries.Fail legal fits f = f
+fit-next laws fixed h entries.Fail legal fits f = record { asks = f.asks; answers = f.answers }
 fit-next laws fixed h entries.Dark legal fits f = f
-fit-next laws fixed h (entries.Off id request) legal fits f = f
+fit-next laws fixed h (entries.Off id request) legal fits f = record {
+  asks = f.asks;
+  answers = all_append IsFitAnswer (items_of h).answers _ f.answers
+      ((λ ask reply is gives net. absurd (let no' : None ≡ Some reply = gives in cc)), tt);
+}
 fit-next laws fixed h (entries.Collect calls) legal fits f =
     let T = table_of (replay fixed h) in
     let follows = history-follows laws fixed h legal in
@@ -123,11 +128,12 @@ fit-next laws fixed h (entries.Peer id request reply) legal fits f = record {
   answers = all_append IsFitAnswer (items_of h).answers _ f.answers (last, tt);
 }
   where
-    last : IsFitAnswer (record { id = id; request = Some request; reply = reply })
-    last ask is net =
+    last : IsFitAnswer (record { id = id; request = Some request; reply = Some reply })
+    last ask told is gives net =
         let same : request ≡ ask = cc in
-        subst (λ (l : List ℕ). Fitting l reply) same
-        (subst (λ (l : List ℕ). Fitting request l) (sym fits.1)
+        let given : reply ≡ told = cc in
+        subst (λ (l : List ℕ). Fitting l told) same
+        (subst (λ (l : List ℕ). Fitting request l) (sym fits.1 ∙ given)
         (answer-fits request (replay fixed h).solving.map (subst NetAsk (sym same) net)))
 fit-next laws fixed h (entries.Finish id result) legal fits f =
     record { asks = f.asks; answers = f.answers }
@@ -147,10 +153,11 @@ host-next plan before (host_entries.Answer id result) h a legal all = all
 host-next plan before (host_entries.Served id request reply) h a legal all =
     let told = legal.each before h (host_entries.Served id request reply) refl in
     all_append IsFitAnswer a.answers _ all (
-      (λ ask is net.
+      (λ ask given is gives net.
           let same : request ≡ ask = cc in
-          subst (λ (l : List ℕ). Fitting l reply) same
-          (subst (λ (l : List ℕ). Fitting request l) (sym told) (refusal-fits request))),
+          let reply_is : reply ≡ given = cc in
+          subst (λ (l : List ℕ). Fitting l given) same
+          (subst (λ (l : List ℕ). Fitting request l) (sym told ∙ reply_is) (refusal-fits request))),
       tt,
     )
 

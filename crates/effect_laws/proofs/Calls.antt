@@ -125,7 +125,7 @@ calls-more n ends calls (c ∷ new) are once =
 
 collect-facts : (n : ℕ) (a : Items) (new : List Called) → AreNewCalls n a.calls a.ends new
     → CallFacts a
-    → CallFacts (record { calls = a.calls ++ new; answers = a.answers; ends = a.ends })
+    → CallFacts (record a { calls = a.calls ++ new })
 collect-facts n a new are f = record {
   calls = calls-more n a.ends a.calls new are f.calls;
   ends = f.ends;
@@ -137,7 +137,7 @@ collect-facts n a new are f = record {
 finish-facts : (a : Items) (e : Ended) → list_any (is_called e.id) a.calls ≡ true
     → list_any (is_ended e.id) a.ends ≡ false
     → e.kind ≡ kind_in a.calls e.id → CallFacts a
-    → CallFacts (record { calls = a.calls; answers = a.answers; ends = a.ends ++ e ∷ [] })
+    → CallFacts (record a { ends = a.ends ++ e ∷ [] })
 finish-facts a e made unended kind f =
     let found = some-kind e.id a.calls made in
     record {
@@ -161,7 +161,8 @@ facts-next laws fixed h (entries.Input row) legal fits f = f
 facts-next laws fixed h (entries.Solve row) legal fits f = f
 facts-next laws fixed h (entries.Output row words) legal fits f = f
 facts-next laws fixed h entries.End legal fits f = f
-facts-next laws fixed h entries.Fail legal fits f = f
+facts-next laws fixed h entries.Fail legal fits f =
+    record { calls = f.calls; ends = f.ends; kinds = f.kinds }
 facts-next laws fixed h entries.Dark legal fits f = f
 facts-next laws fixed h (entries.Collect calls) legal fits f =
     subst (λ (l : List Call). CallFacts (item_next (items_of h) (entries.Collect l))) (sym fits.1)
@@ -169,7 +170,8 @@ facts-next laws fixed h (entries.Collect calls) legal fits f =
     (map called_of (uncollected (controller_at fixed h))) (collected-new laws fixed h legal) f)
 facts-next laws fixed h (entries.Peer id request reply) legal fits f =
     record { calls = f.calls; ends = f.ends; kinds = f.kinds }
-facts-next laws fixed h (entries.Off id request) legal fits f = f
+facts-next laws fixed h (entries.Off id request) legal fits f =
+    record { calls = f.calls; ends = f.ends; kinds = f.kinds }
 facts-next laws fixed h (entries.Finish id result) legal fits f =
     let follows = history-follows laws fixed h legal in
     let two = and_parts (list_any (is_called id) (items_of h).calls)

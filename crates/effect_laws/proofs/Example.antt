@@ -375,9 +375,9 @@ is-legal =
 is-joint : IsJoint joint
 is-joint = record {
   controllers = all-from (IsTiedController ring) joint.controllers
-      (record { asks = refl; peers = refl; port = refl; replies = refl; ends = refl }, tt);
+      (record { asks = refl; peers = refl; port = refl; replies = refl; ends = refl; downs = (tt, tt) }, tt);
   hosts = all-from (IsTiedHost ring) joint.hosts
-      (record { asks = refl; peers = refl; port = refl; replies = refl; ends = refl }, tt);
+      (record { asks = refl; peers = refl; port = refl; replies = refl; ends = refl; downs = (tt, tt) }, tt);
 }
 
 -- ---- its calls

@@ -9,7 +9,7 @@ use Rattle.mstr_block.specs.declared.call.CallId.{CallId}
 use Rattle.ring_core.specs.declared.entry.LocalOp.{LocalOp}
 use Rattle.ring_core.specs.declared.entry.RingEntry.{RingEntry}
 use Rattle.ring_core.specs.declared.entry.RingEntry.TheVariants.{Post, Send, Take, Local, GiveUp}
-use Rattle.ring_core.specs.declared.entry.RingEntry.TheVariants.{Pass, Leave}
+use Rattle.ring_core.specs.declared.entry.RingEntry.TheVariants.{Pass, Leave, Join}
 use Rattle.ring_core.specs.declared.frame.FrameKind.{FrameKind}
 use Rattle.ring_core.specs.declared.frame.FrameKind.TheVariants.{Request, Reply}
 use Rattle.ring_core.specs.Words.{maker}
@@ -69,6 +69,7 @@ both-sorts id (Local n name op result ∷ es) =
 both-sorts id (GiveUp name word ∷ es) = three id (GiveUp name word) es refl (both-sorts id es)
 both-sorts id (Pass n done words ∷ es) = three id (Pass n done words) es refl (both-sorts id es)
 both-sorts id (Leave n cause ∷ es) = three id (Leave n cause) es refl (both-sorts id es)
+both-sorts id (Join n ∷ es) = three id (Join n) es refl (both-sorts id es)
 
 -- ---- entries of one node
 
@@ -98,6 +99,7 @@ at-home-own id (Local n name op result) is =
 at-home-own id (GiveUp name word) is = absurd cc
 at-home-own id (Pass n done words) is = absurd cc
 at-home-own id (Leave n cause) is = absurd cc
+at-home-own id (Join n) is = absurd cc
 
 pub homes-own : (id : CallId) (es : List RingEntry)
     → count_by (acts_at_home id) es ≡ count_by (acts_at_home id) (own id.node es)
@@ -170,6 +172,9 @@ homes-end station id asked (Pass n done words ∷ b) =
 homes-end station id asked (Leave n cause ∷ b) =
     let rest = homes-end station id (asked ++ []) b in
     let step = skip (acts_at_home id) (Leave n cause) b refl in omega arith
+homes-end station id asked (Join n ∷ b) =
+    let rest = homes-end station id (asked ++ []) b in
+    let step = skip (acts_at_home id) (Join n) b refl in omega arith
 
 -- ---- a call at home is asked of no other node
 
@@ -315,3 +320,4 @@ posted-asked id (GiveUp name word ∷ b) =
 posted-asked id (Pass n done words ∷ b) =
     skip (posts id) (Pass n done words) b refl ∙ posted-asked id b
 posted-asked id (Leave n cause ∷ b) = skip (posts id) (Leave n cause) b refl ∙ posted-asked id b
+posted-asked id (Join n ∷ b) = skip (posts id) (Join n) b refl ∙ posted-asked id b

@@ -12,7 +12,7 @@ use Rattle.mstr_block.specs.declared.call.MstrResult.{MstrResult}
 use Rattle.ring_core.specs.declared.entry.LocalOp.{LocalOp}
 use Rattle.ring_core.specs.declared.entry.RingEntry.{RingEntry}
 use Rattle.ring_core.specs.declared.entry.RingEntry.TheVariants.{Post, Send, Take, Local, GiveUp}
-use Rattle.ring_core.specs.declared.entry.RingEntry.TheVariants.{Pass, Leave}
+use Rattle.ring_core.specs.declared.entry.RingEntry.TheVariants.{Pass, Leave, Join}
 use Rattle.ring_core.specs.declared.frame.FrameKind.{FrameKind}
 use Rattle.ring_core.specs.declared.frame.FrameKind.TheVariants.{Request, Reply}
 use Rattle.ring_core.specs.declared.frame.Frame.{Frame}
@@ -51,8 +51,8 @@ use Rattle.effect_laws.proofs.Sources.{ended-by, in-map, in-none, in-own, of-map
 -- an answer of a controller's list is that of an entry
 abbrev IsPeer : Answered → Entry → Type 0
 IsPeer answer e =
-    (request : List ℕ) × (answer.request ≡ Some request)
-    × (e ≡ entries.Peer answer.id request answer.reply)
+    (request reply : List ℕ) × (answer.request ≡ Some request) × (answer.reply ≡ Some reply)
+    × (e ≡ entries.Peer answer.id request reply)
 
 record PeerIn (h : List Entry) (answer : Answered) : Type 0 where
   entry : Entry
@@ -63,14 +63,15 @@ later-peer : (e : Entry) (h : List Entry) (answer : Answered) → PeerIn h answe
     → PeerIn (e ∷ h) answer
 later-peer e h answer p = record { entry = p.entry; there = behind e h p.entry p.there; is = p.is }
 
-peer-in : (a : Items) (h : List Entry) (answer : Answered)
+peer-in : (a : Items) (h : List Entry) (answer : Answered) (told : List ℕ)
+    → answer.reply ≡ Some told
     → Contains (items_after a h).answers answer → Contains a.answers answer ⊎ PeerIn h answer
-peer-in a [] answer there = inl there
-peer-in a (e ∷ h) answer there =
+peer-in a [] answer told given there = inl there
+peer-in a (e ∷ h) answer told given there =
     ⊎_elim
     (λ (old : Contains (item_next a e).answers answer). last e old)
     (λ (new : PeerIn h answer). inr (later-peer e h answer new))
-    (peer-in (item_next a e) h answer there)
+    (peer-in (item_next a e) h answer told given there)
   where
     last : (x : Entry) → Contains (item_next a x).answers answer
         → Contains a.answers answer ⊎ PeerIn (x ∷ h) answer
@@ -87,21 +88,27 @@ peer-in a (e ∷ h) answer there =
         let x = entries.Peer id request reply in
         ⊎_elim
         (λ (before : Contains a.answers answer). inl before)
-        (λ (same : record { id = id; request = Some request; reply = reply } ≡ answer).
+        (λ (same : record { id = id; request = Some request; reply = Some reply } ≡ answer).
         inr (subst (λ (one : Answered). PeerIn (x ∷ h) one) same (record {
           entry = x;
           there = here x h;
-          is = (request, refl, refl);
+          is = (request, reply, refl, refl, refl);
         })))
-        (Contains-push_cases a.answers (record { id = id; request = Some request; reply = reply })
+        (Contains-push_cases a.answers (record { id = id; request = Some request; reply = Some reply })
         answer old)
-    last (entries.Off id request) old = inl old
+    last (entries.Off id request) old = ⊎_elim
+        (λ (before : Contains a.answers answer). inl before)
+        (λ (same : record { id = id; request = Some request; reply = None } ≡ answer).
+        let none : None ≡ answer.reply = ap (λ (x : Answered). x.reply) same in
+        let no' : None ≡ Some told = none ∙ given in absurd (cc))
+        (Contains-push_cases a.answers (record { id = id; request = Some request; reply = None })
+        answer old)
 
 -- so is one of a host's
 abbrev IsServed : Answered → HostEntry → Type 0
 IsServed answer e =
-    (request : List ℕ) × (answer.request ≡ Some request)
-    × (e ≡ host_entries.Served answer.id request answer.reply)
+    (request reply : List ℕ) × (answer.request ≡ Some request) × (answer.reply ≡ Some reply)
+    × (e ≡ host_entries.Served answer.id request reply)
 
 record ServedIn (h : List HostEntry) (answer : Answered) : Type 0 where
   entry : HostEntry
@@ -131,13 +138,13 @@ served-in a (e ∷ h) answer there =
         let x = host_entries.Served id request reply in
         ⊎_elim
         (λ (before : Contains a.answers answer). inl before)
-        (λ (same : record { id = id; request = Some request; reply = reply } ≡ answer).
+        (λ (same : record { id = id; request = Some request; reply = Some reply } ≡ answer).
         inr (subst (λ (one : Answered). ServedIn (x ∷ h) one) same (record {
           entry = x;
           there = here x h;
-          is = (request, refl, refl);
+          is = (request, reply, refl, refl, refl);
         })))
-        (Contains-push_cases a.answers (record { id = id; request = Some request; reply = reply })
+        (Contains-push_cases a.answers (record { id = id; request = Some request; reply = Some reply })
         answer old)
 
 -- a call of a host's list is that of an entry
@@ -180,7 +187,7 @@ record PortIn (e : RingEntry) (answer : Answered) : Type 0 where
   result : MstrResult
   is : e ≡ Local node answer.id op result
   asked : request_of op ≡ answer.request
-  told : reply_of result ≡ answer.reply
+  told : Some (reply_of result) ≡ answer.reply
 
 port-for : (n : ℕ) (id : CallId) (op : LocalOp) (result : MstrResult) (answer : Answered)
     → answered_for n id op result ≡ Some answer
@@ -188,7 +195,7 @@ port-for : (n : ℕ) (id : CallId) (op : LocalOp) (result : MstrResult) (answer 
 port-for n id op result answer is = at (id.node == n) is
   where
     this : Answered
-    this = record { id = id; request = request_of op; reply = reply_of result }
+    this = record { id = id; request = request_of op; reply = Some (reply_of result) }
 
     at : (b : Bool) → (if b then None else Some this) ≡ Some answer
         → PortIn (Local n id op result) answer
@@ -212,16 +219,18 @@ port-in (Local n id op result) answer is = port-for n id op result answer is
 port-in (GiveUp id word) answer is = absurd cc
 port-in (Pass n done words) answer is = absurd cc
 port-in (Leave n cause) answer is = absurd cc
+port-in (Join n) answer is = absurd cc
 
 -- ---- who posted a Reply gave it
 
 some-same : (one other : List ℕ) → Some one ≡ Some other → one ≡ other
 some-same one other is = cc
 
-port-gave : (joint : Joint) (n : ℕ) (answer : Answered) (request : List ℕ)
+port-gave : (joint : Joint) (n : ℕ) (answer : Answered) (request reply : List ℕ)
     → Contains (port_answers (own n joint.ring)) answer
-    → answer.request ≡ Some request → PortAnswers joint n answer.id request answer.reply
-port-gave joint n answer request there asked =
+    → answer.request ≡ Some request → answer.reply ≡ Some reply
+    → PortAnswers joint n answer.id request reply
+port-gave joint n answer request reply there asked told =
     let found = of-map answered_of (own n joint.ring) answer there in
     let p = port-in found.0 answer found.2 in
     let at = of-own n joint.ring found.0 found.1 in
@@ -231,41 +240,45 @@ port-gave joint n answer request there asked =
       subst (λ (k : ℕ). Contains joint.ring (Local k answer.id p.op p.result)) node
           (subst (λ (e : RingEntry). Contains joint.ring e) p.is at.0),
       p.asked ∙ asked,
-      p.told,
+      some-same (reply_of p.result) reply (p.told ∙ told),
     )
 
-controller-gave : (joint : Joint) (log : ControllerLog) (answer : Answered) (request : List ℕ)
-    → Contains joint.controllers log
+controller-gave : (joint : Joint) (log : ControllerLog) (answer : Answered)
+    (request reply : List ℕ) → Contains joint.controllers log
     → Contains (items_of log.entries).answers answer → answer.request ≡ Some request
-    → ControllerAnswers joint log.node answer.id request answer.reply
-controller-gave joint log answer request there among asked =
+    → answer.reply ≡ Some reply → ControllerAnswers joint log.node answer.id request reply
+controller-gave joint log answer request reply there among asked told =
     ⊎_elim
     (λ (none : Contains {X = Answered} [] answer). absurd (in-none answer none))
     (λ (p : PeerIn log.entries answer).
-    let same = some-same p.is.0 request (sym p.is.1 ∙ asked) in (
+    let same = some-same p.is.0 request (sym p.is.2 ∙ asked) in
+    let given = some-same p.is.1 reply (sym p.is.3 ∙ told) in (
       log,
       there,
       refl,
-      subst (λ (l : List ℕ). Contains log.entries (entries.Peer answer.id l answer.reply)) same
-          (subst (λ (e : Entry). Contains log.entries e) p.is.2 p.there),
+      subst (λ (l : List ℕ). Contains log.entries (entries.Peer answer.id l reply)) same
+          (subst (λ (l : List ℕ). Contains log.entries (entries.Peer answer.id p.is.0 l)) given
+          (subst (λ (e : Entry). Contains log.entries e) p.is.4 p.there)),
     ))
-    (peer-in no_items log.entries answer among)
+    (peer-in no_items log.entries answer reply told among)
 
-host-gave : (joint : Joint) (log : HostLog) (answer : Answered) (request : List ℕ)
+host-gave : (joint : Joint) (log : HostLog) (answer : Answered) (request reply : List ℕ)
     → Contains joint.hosts log
     → Contains (host_items_of log.entries).answers answer → answer.request ≡ Some request
-    → HostAnswers joint log.node answer.id request answer.reply
-host-gave joint log answer request there among asked =
+    → answer.reply ≡ Some reply → HostAnswers joint log.node answer.id request reply
+host-gave joint log answer request reply there among asked told =
     ⊎_elim
     (λ (none : Contains {X = Answered} [] answer). absurd (in-none answer none))
     (λ (p : ServedIn log.entries answer).
-    let same = some-same p.is.0 request (sym p.is.1 ∙ asked) in (
+    let same = some-same p.is.0 request (sym p.is.2 ∙ asked) in
+    let given = some-same p.is.1 reply (sym p.is.3 ∙ told) in (
       log,
       there,
       refl,
-      subst (λ (l : List ℕ). Contains log.entries (host_entries.Served answer.id l answer.reply))
-          same
-          (subst (λ (e : HostEntry). Contains log.entries e) p.is.2 p.there),
+      subst (λ (l : List ℕ). Contains log.entries (host_entries.Served answer.id l reply)) same
+          (subst (λ (l : List ℕ). Contains log.entries
+          (host_entries.Served answer.id p.is.0 l)) given
+          (subst (λ (e : HostEntry). Contains log.entries e) p.is.4 p.there)),
     ))
     (served-in no_items log.entries answer among)
 
@@ -278,14 +291,13 @@ record Given (joint : Joint) (n : ℕ) (f : Frame) : Type 0 where
   given : NodeAnswers joint n f.id request.pdu f.pdu
 
 given-with : (joint : Joint) (n : ℕ) (f : Frame) (a : Items) (o : Origin a joint.ring n f)
-    → NodeAnswers joint n o.answer.id o.request.pdu o.answer.reply → Given joint n f
+    → NodeAnswers joint n o.answer.id o.request.pdu f.pdu → Given joint n f
 given-with joint n f a o gives = record {
   request = o.request;
   kind = o.kind;
   same = o.same;
   taken = o.taken;
-  given = subst (λ (i : CallId). NodeAnswers joint n i o.request.pdu f.pdu) o.named
-      (subst (λ (l : List ℕ). NodeAnswers joint n o.answer.id o.request.pdu l) o.told gives);
+  given = subst (λ (i : CallId). NodeAnswers joint n i o.request.pdu f.pdu) o.named gives;
 }
 
 by-controller : (joint : Joint) (log : ControllerLog) (f : Frame) → Contains joint.controllers log
@@ -295,9 +307,9 @@ by-controller joint log f there tied posted kind =
     let o = origin-in joint.ring log.node f AController (items_of log.entries) tied posted kind in
     given-with joint log.node f (items_of log.entries) o (⊎_elim
     (λ (peer : Contains (items_of log.entries).answers o.answer). inl
-    (controller-gave joint log o.answer o.request.pdu there peer o.asked))
+    (controller-gave joint log o.answer o.request.pdu f.pdu there peer o.asked o.told))
     (λ (port : Contains (port_answers (own log.node joint.ring)) o.answer). inr
-    (inr (port-gave joint log.node o.answer o.request.pdu port o.asked)))
+    (inr (port-gave joint log.node o.answer o.request.pdu f.pdu port o.asked o.told)))
     o.among)
 
 by-host : (joint : Joint) (log : HostLog) (f : Frame) → Contains joint.hosts log
@@ -307,9 +319,9 @@ by-host joint log f there tied posted kind =
     let o = origin-in joint.ring log.node f AHost (host_items_of log.entries) tied posted kind in
     given-with joint log.node f (host_items_of log.entries) o (⊎_elim
     (λ (peer : Contains (host_items_of log.entries).answers o.answer). inr
-    (inl (host-gave joint log o.answer o.request.pdu there peer o.asked)))
+    (inl (host-gave joint log o.answer o.request.pdu f.pdu there peer o.asked o.told)))
     (λ (port : Contains (port_answers (own log.node joint.ring)) o.answer). inr
-    (inr (port-gave joint log.node o.answer o.request.pdu port o.asked)))
+    (inr (port-gave joint log.node o.answer o.request.pdu f.pdu port o.asked o.told)))
     o.among)
 
 given-by : (plant : Plant) (scans : ℕ) (joint : Joint) (n : ℕ) (f : Frame)

@@ -16,7 +16,7 @@ use Rattle.mstr_block.specs.Call.{is_same_call}
 use Rattle.mstr_block.specs.declared.call.CallId.{CallId}
 use Rattle.ring_core.specs.declared.entry.RingEntry.{RingEntry}
 use Rattle.ring_core.specs.declared.entry.RingEntry.TheVariants.{Post, Send, Take, Local, GiveUp}
-use Rattle.ring_core.specs.declared.entry.RingEntry.TheVariants.{Pass, Leave}
+use Rattle.ring_core.specs.declared.entry.RingEntry.TheVariants.{Pass, Leave, Join}
 use Rattle.ring_core.specs.declared.frame.FrameKind.{FrameKind}
 use Rattle.ring_core.specs.declared.frame.FrameKind.TheVariants.{Request, Reply}
 use Rattle.ring_core.specs.declared.frame.Frame.{Frame}
@@ -176,6 +176,7 @@ posted-own net id (Local n name op result) law is = absurd cc
 posted-own net id (GiveUp name word) law is = absurd cc
 posted-own net id (Pass n done words) law is = absurd cc
 posted-own net id (Leave n cause) law is = absurd cc
+posted-own net id (Join n) law is = absurd cc
 
 pub posted-owns : (net : NetPlan) (past es : List RingEntry) (id : CallId) → IsRun net past es
     → Each (λ e. posts id e ≡ true → (maker e == id.node) ≡ true) es
@@ -207,6 +208,7 @@ taken-as id (Local n name op result) is = absurd (true≢false (sym is))
 taken-as id (GiveUp name word) is = absurd (true≢false (sym is))
 taken-as id (Pass n done words) is = absurd (true≢false (sym is))
 taken-as id (Leave n cause) is = absurd (true≢false (sym is))
+taken-as id (Join n) is = absurd (true≢false (sym is))
 
 pub asks-this : (id : CallId) (f : Frame) → f.kind ≡ Request → f.id ≡ id → asks_for id f ≡ true
 asks-this id f kind same =

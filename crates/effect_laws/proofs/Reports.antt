@@ -18,7 +18,7 @@ use Rattle.ring_core.specs.declared.frame.FrameKind.TheVariants.{Request, Reply}
 use Rattle.ring_core.specs.declared.frame.Frame.{Frame}
 use Rattle.ring_core.specs.Legal.{IsMember}
 use Rattle.ring_core.specs.Words.{maker}
-use Rattle.ring_laws.specs.Once.{AnswersWhatItTook, TakenOnce, takes}
+use Rattle.ring_laws.specs.Once.{AnswersWhatItTook, TakenOnce}
 use Rattle.ring_laws.proofs.Law.{reply-by-taker}
 use Rattle.ring_laws.proofs.Lists.{contains-count, same-refl}
 use Rattle.controller_core.specs.declared.entry.Entry.{Entry}
@@ -27,7 +27,7 @@ use Rattle.host_port.specs.declared.entry.HostEntry.{HostEntry}
 use Rattle.host_port.specs.declared.entry.HostEntry.TheVariants as host_entries
 use Rattle.host_port.specs.declared.entry.HostResult.{HostResult}
 use Rattle.host_port.specs.declared.entry.HostResult.TheVariants as results
-use Rattle.tied_lists.specs.Own.{own}
+use Rattle.tied_lists.specs.Own.{is_of, own}
 use Rattle.tied_lists.specs.Items.{AController, AHost, Answered, Asked, Came, Ended, Item, Items}
 use Rattle.tied_lists.specs.Items.{Outcome, Replied, Station, asked_by, ended_by, no_items}
 use Rattle.tied_lists.specs.Items.{outcome_of_word}
@@ -35,15 +35,22 @@ use Rattle.tied_lists.specs.Items.{port_answers, replied_in, replied_of, taken_b
 use Rattle.tied_lists.specs.Items.{taken_of}
 use Rattle.tied_lists.specs.Tied.{Tied}
 use Rattle.joint_history.specs.declared.joint.Joint.{Joint}
-use Rattle.joint_history.specs.Effects.{effects}
+use Rattle.joint_history.specs.Effects.{answers, answers_to, effects, has_reply}
+use Rattle.joint_history.specs.declared.joint.ControllerLog.{ControllerLog}
+use Rattle.joint_history.specs.declared.joint.HostLog.{HostLog}
+use Rattle.ring_core.specs.Words.{is_same_call}
+use Rattle.tied_lists.proofs.Boxes.{count-filter}
+use Rattle.std.specs.List.{sum_by}
 use Rattle.joint_history.specs.JointLaws.{IsTiedController, IsTiedHost}
 use Rattle.joint_history.specs.Reading.{host_item_next, host_items_after, host_items_of, item_next}
 use Rattle.joint_history.specs.Reading.{items_after, items_of, outcome_of}
 use Rattle.joint_history.proofs.Collected.{CallLaws}
 use Rattle.effect_laws.specs.Effects.{SuccessTakesEffectOnce}
 use Rattle.effect_laws.proofs.Homes.{acts_at_home}
-use Rattle.effect_laws.proofs.Once.{Seat, asks-this, at-most-once, effects-are, seat-at}
-use Rattle.effect_laws.proofs.Served.{JointOf, members, ring-history, services-are_taken}
+use Rattle.effect_laws.proofs.Once.{Seat, at-most-once, effects-are, log-at, seat-at}
+use Rattle.effect_laws.proofs.Served.{JointOf, members, ring-history, is_answer, for_others}
+use Rattle.effect_laws.proofs.Counts.{sum_cons}
+use Rattle.effect_laws.specs.Served.{serves_another}
 use Rattle.effect_laws.proofs.Sources.{EndedBy, by_port, by_reply, by_word, end-at}
 use Rattle.effect_laws.proofs.Sources.{ended-by, first-or-behind, in-map, in-none, in-own}
 use Rattle.effect_laws.proofs.Sources.{of-map, of-own, source-of, take-of}
@@ -145,7 +152,7 @@ replied-as kind f is = ap (λ (k : FrameKind). replied_in k f) is
 pub record Origin (items : Items) (ring : List RingEntry) (n : ℕ) (reply : Frame) : Type 0 where
   pub answer : Answered
   pub among : Contains items.answers answer ⊎ Contains (port_answers (own n ring)) answer
-  pub told : answer.reply ≡ reply.pdu
+  pub told : answer.reply ≡ Some reply.pdu
   pub request : Frame
   pub taken : Contains ring (Take n request)
   pub kind : request.kind ≡ Request
@@ -202,17 +209,80 @@ answers-taken laws plant scans joint j k f there kind =
 
 -- ---- an effect behind each end
 
+-- one of the parts of a sum
+part-most : {X : Type 0} (f : X → ℕ) (xs : List X) (x : X) → Contains xs x → f x ≤ sum_by f xs
+part-most f [] x there = absurd (in-none x there)
+part-most f (y ∷ xs) x there =
+    let step = sum_cons f y xs in
+    ⊎_elim
+    (λ (same : y ≡ x). let here = ap f same in omega (arith, step, here))
+    (λ (more : Contains xs x). let rest = part-most f xs x more in omega (arith, step, rest))
+    (first-or-behind y xs x there)
+
+-- an answer with a reply is an effect, of a station or of a port
+station-served : (items : Items) (answer : Answered) (id : CallId) (pdu : List ℕ)
+    → Contains items.answers answer
+    → answer.id ≡ id → answer.reply ≡ Some pdu → 1 ≤ answers_to id items
+station-served items answer id pdu there named told =
+    contains-count (answers id) items.answers answer
+    (and_from _ _ (ap (λ (i : CallId). is_same_call i id) named ∙ same-refl id)
+    (ap has_reply told)) there
+
+port-served : (joint : Joint) (n : ℕ) (answer : Answered) (id : CallId)
+    → Contains (port_answers (own n joint.ring)) answer
+    → answer.id ≡ id → 1 ≤ effects joint id
+port-served joint n answer id there named =
+    let some = contains-count (is_answer id) (port_answers (own n joint.ring)) answer
+    (ap (λ (i : CallId). is_same_call i id) named ∙ same-refl id) there in
+    let own_served = for_others id (own n joint.ring) in
+    let most = count-filter (serves_another id) (is_of n) joint.ring in
+    let all = effects-are joint id in
+    omega (arith, some, own_served, most, all)
+
 reply-effect : CallLaws → (plant : Plant) (scans : ℕ) (joint : Joint) (n : ℕ) (f : Frame)
     → JointOf plant scans joint → Contains joint.ring (Take n f)
     → f.kind ≡ Reply → 1 ≤ effects joint f.id
 reply-effect laws plant scans joint n f j there kind =
     let a = (reply-by-taker plant.net joint.ring n f (ring-history plant scans joint j)
     (answers-taken laws plant scans joint j) (inr there) kind).1 in
-    let some = contains-count (takes f.id) joint.ring (Take a.by a.request)
-    (asks-this f.id a.request a.kind a.same) a.taken in
-    let served = services-are_taken plant scans joint f.id j in
-    let all = effects-are joint f.id in
-    omega (arith, some, served, all)
+    ⊎_elim
+    (λ (c : (log : ControllerLog) × Contains joint.controllers log × (log.node ≡ a.by)).
+    by-controller c.0 c.1 (subst (λ (k : ℕ). Contains joint.ring (Post k f)) (sym c.2) a.posted))
+    (λ (h : (log : HostLog) × Contains joint.hosts log × (log.node ≡ a.by)).
+    by-host h.0 h.1 (subst (λ (k : ℕ). Contains joint.ring (Post k f)) (sym h.2) a.posted))
+    (log-at plant scans joint a.by j (member-at plant scans joint (Post a.by f) j a.posted))
+  where
+    by-controller : (log : ControllerLog) → Contains joint.controllers log
+        → Contains joint.ring (Post log.node f) → 1 ≤ effects joint f.id
+    by-controller log log_there posted =
+        let served = λ (l : ControllerLog). answers_to f.id (items_of l.entries) in
+        let o = origin-in joint.ring log.node f AController (items_of log.entries)
+        (All-contains (IsTiedController joint.ring) joint.controllers log j.tied.controllers
+        log_there) posted kind in
+        ⊎_elim
+        (λ (peer : Contains (items_of log.entries).answers o.answer).
+        let some = station-served (items_of log.entries) o.answer f.id f.pdu peer o.named o.told in
+        let most = part-most served joint.controllers log log_there in
+        omega (arith, some, most))
+        (λ (port : Contains (port_answers (own log.node joint.ring)) o.answer).
+        port-served joint log.node o.answer f.id port o.named)
+        o.among
+
+    by-host : (log : HostLog) → Contains joint.hosts log
+        → Contains joint.ring (Post log.node f) → 1 ≤ effects joint f.id
+    by-host log log_there posted =
+        let served = λ (l : HostLog). answers_to f.id (host_items_of l.entries) in
+        let o = origin-in joint.ring log.node f AHost (host_items_of log.entries)
+        (All-contains (IsTiedHost joint.ring) joint.hosts log j.tied.hosts log_there) posted kind in
+        ⊎_elim
+        (λ (peer : Contains (host_items_of log.entries).answers o.answer).
+        let some = station-served (host_items_of log.entries) o.answer f.id f.pdu peer o.named
+        o.told in
+        let most = part-most served joint.hosts log log_there in
+        omega (arith, some, most))
+        (λ (port : Contains (port_answers (own log.node joint.ring)) o.answer).
+        port-served joint log.node o.answer f.id port o.named)
+        o.among
 
 home-effect : (joint : Joint) (n : ℕ) (e : RingEntry) (id : CallId) → Contains joint.ring e
     → acts_at_home id e ≡ true → 1 ≤ effects joint id

@@ -16,7 +16,7 @@ use Rattle.ring_core.specs.declared.frame.FrameKind.{FrameKind}
 use Rattle.ring_core.specs.declared.frame.FrameKind.TheVariants.{Request, Reply}
 use Rattle.ring_core.specs.declared.entry.RingEntry.{RingEntry}
 use Rattle.ring_core.specs.declared.entry.RingEntry.TheVariants.{Post, Send, Take, Local, GiveUp}
-use Rattle.ring_core.specs.declared.entry.RingEntry.TheVariants.{Pass, Leave}
+use Rattle.ring_core.specs.declared.entry.RingEntry.TheVariants.{Pass, Leave, Join}
 use Rattle.ring_core.specs.Statistics.{is_stats}
 use Rattle.ring_core.specs.Words.{maker}
 use Rattle.ring_core.specs.Legal.{IsLawful, IsMember, IsRun}
@@ -33,7 +33,7 @@ use Rattle.joint_history.specs.declared.joint.HostLog.{HostLog}
 use Rattle.joint_history.specs.declared.joint.Joint.{Joint}
 use Rattle.joint_history.specs.JointLaws.{IsJoint, IsLegalJoint, IsLegalLog, IsLegalHostLog}
 use Rattle.joint_history.specs.Reading.{items_of, host_items_of}
-use Rattle.joint_history.specs.Effects.{answers_to}
+use Rattle.joint_history.specs.Effects.{answers, answers_to, has_reply}
 use Rattle.effect_laws.specs.Served.{ServedAtMostOnce, serves_another, services}
 use Rattle.effect_laws.proofs.Counts.{sum_cons, count_cons, skip, once_rising, some_there}
 use Rattle.effect_laws.proofs.Counts.{at_most_all, all_at_most}
@@ -42,7 +42,7 @@ use Rattle.effect_laws.proofs.Counts.{at_most_all, all_at_most}
 abbrev is_item : CallId → Item → Bool
 is_item id item = is_same_call item.0 id
 
-abbrev is_answer : CallId → Answered → Bool
+abbrev pub is_answer : CallId → Answered → Bool
 is_answer id answer = is_same_call answer.id id
 
 -- answers are counted by their items
@@ -108,6 +108,7 @@ in_ring id (GiveUp name word ∷ b) = in_ring id b ∙ sym (skip (takes id) (Giv
 in_ring id (Pass n done words ∷ b) =
     in_ring id b ∙ sym (skip (takes id) (Pass n done words) b refl)
 in_ring id (Leave n cause ∷ b) = in_ring id b ∙ sym (skip (takes id) (Leave n cause) b refl)
+in_ring id (Join n ∷ b) = in_ring id b ∙ sym (skip (takes id) (Join n) b refl)
 
 -- what a port answered for others is counted in the list of the ring
 own_off : (x : Bool) (k : ℕ) → cond (x && false) 1 0 + k ≡ k
@@ -126,7 +127,7 @@ local_at id answer false rest =
     other_on (is_same_call answer.id id) (count_by (is_answer id) rest)
     ∙ sym (count_cons (is_answer id) answer rest)
 
-for_others : (id : CallId) (b : List RingEntry)
+pub for_others : (id : CallId) (b : List RingEntry)
     → count_by (serves_another id) b ≡ count_by (is_answer id) (port_answers b)
 for_others id [] = refl
 for_others id (Post n f ∷ b) = skip (serves_another id) (Post n f) b refl ∙ for_others id b
@@ -135,7 +136,7 @@ for_others id (Take n f ∷ b) = skip (serves_another id) (Take n f) b refl ∙ 
 for_others id (Local n name op result ∷ b) =
     count_cons (serves_another id) (Local n name op result) b
     ∙ ap (λ k. cond (is_same_call name id && not (name.node == n)) 1 0 + k) (for_others id b)
-    ∙ local_at id (record { id = name; request = request_of op; reply = reply_of result })
+    ∙ local_at id (record { id = name; request = request_of op; reply = Some (reply_of result) })
     (name.node == n) (port_answers b)
 for_others id (GiveUp name word ∷ b) =
     skip (serves_another id) (GiveUp name word) b refl ∙ for_others id b
@@ -143,12 +144,30 @@ for_others id (Pass n done words ∷ b) =
     skip (serves_another id) (Pass n done words) b refl ∙ for_others id b
 for_others id (Leave n cause ∷ b) =
     skip (serves_another id) (Leave n cause) b refl ∙ for_others id b
+for_others id (Join n ∷ b) = skip (serves_another id) (Join n) b refl ∙ for_others id b
 
--- a station answered, with its port, as often as its node took the Request
+-- a station answered with a reply no more often than it answered
+with-reply : (x y : Bool) → cond {A = ℕ} (x && y) 1 0 ≤ cond x 1 0
+with-reply true true = omega arith
+with-reply true false = omega arith
+with-reply false y = omega arith
+
+fewer : (id : CallId) (as' : List Answered)
+    → count_by (answers id) as' ≤ count_by (is_answer id) as'
+fewer id [] = omega arith
+fewer id (a ∷ as') =
+    let rest = fewer id as' in
+    let one = count_cons (answers id) a as' in
+    let two = count_cons (is_answer id) a as' in
+    let here = with-reply (is_same_call a.id id) (has_reply a.reply) in
+    omega (arith, rest, one, two, here)
+
+-- a station answered, with its port, at most as often as its node took the Request
 pub answers_are_taken : (id : CallId) (station : Station) (a : Items) (b : List RingEntry)
     → Tied station a b
-    → answers_to id a + count_by (serves_another id) b ≡ count_by (takes id) b
+    → answers_to id a + count_by (serves_another id) b ≤ count_by (takes id) b
 answers_are_taken id station a b t =
+    let replied = fewer id a.answers in
     let peers = by_items id a.answers ∙ ap (count_by (is_item id)) t.peers in
     let port = for_others id b ∙ by_items id (port_answers b)
     ∙ ap (count_by (is_item id)) t.port in
@@ -159,10 +178,10 @@ answers_are_taken id station a b t =
 -- over some stations
 sums : {L : Type 0} (p q : RingEntry → Bool) (ring : List RingEntry) (node answers : L → ℕ)
     (ls : List L)
-    → All (λ l. answers l + count_by q (own (node l) ring) ≡ count_by p (own (node l) ring)) ls
+    → All (λ l. answers l + count_by q (own (node l) ring) ≤ count_by p (own (node l) ring)) ls
     → sum_by answers ls + sum_by (λ n. count_by q (own n ring)) (map node ls)
-    ≡ sum_by (λ n. count_by p (own n ring)) (map node ls)
-sums p q ring node answers [] all = refl
+    ≤ sum_by (λ n. count_by p (own n ring)) (map node ls)
+sums p q ring node answers [] all = omega arith
 sums p q ring node answers (l ∷ ls) all =
     let here = all 0 l (omega arith) in
     let rest = sums p q ring node answers ls (λ k d within. all (suc k) d (omega arith)) in
@@ -190,6 +209,7 @@ member_of net (Local n id op result) law = law.0
 member_of net (GiveUp id word) law = law.0
 member_of net (Pass n done words) law = law
 member_of net (Leave n cause) law = law
+member_of net (Join n) law = law
 
 pub members : (net : NetPlan) (past list : List RingEntry) → IsRun net past list
     → All (λ e. IsMember net (maker e)) list
@@ -240,10 +260,10 @@ host-nodes plant scans joint legal =
     (λ plan log r. r.0)
     plant.hosts joint.hosts legal.hosts
 
--- a call was served as often as its Request was taken
+-- a call was served at most as often as its Request was taken
 pub services-are_taken : (plant : Plant) (scans : ℕ) (joint : Joint) (id : CallId)
     → JointOf plant scans joint
-    → services joint id ≡ count_by (takes id) joint.ring
+    → services joint id ≤ count_by (takes id) joint.ring
 services-are_taken plant scans joint id j =
     let ring = joint.ring in
     let p = takes id in
@@ -258,14 +278,14 @@ services-are_taken plant scans joint id j =
     (members plant.net [] ring j.legal.ring k d within) in
     let controllers = subst (λ (nodes : List ℕ). sum_by
     (λ (log : ControllerLog). answers_to id (items_of log.entries)) joint.controllers
-    + sum_by (λ n. count_by q (own n ring)) nodes ≡ sum_by (λ n. count_by p (own n ring)) nodes)
+    + sum_by (λ n. count_by q (own n ring)) nodes ≤ sum_by (λ n. count_by p (own n ring)) nodes)
     (controller-nodes plant scans joint j.legal)
     (sums p q ring (λ (log : ControllerLog). log.node)
     (λ (log : ControllerLog). answers_to id (items_of log.entries)) joint.controllers
     (λ k d within. answers_are_taken id AController _ _ (j.tied.controllers k d within))) in
     let hosts = subst (λ (nodes : List ℕ). sum_by
     (λ (log : HostLog). answers_to id (host_items_of log.entries)) joint.hosts
-    + sum_by (λ n. count_by q (own n ring)) nodes ≡ sum_by (λ n. count_by p (own n ring)) nodes)
+    + sum_by (λ n. count_by q (own n ring)) nodes ≤ sum_by (λ n. count_by p (own n ring)) nodes)
     (host-nodes plant scans joint j.legal)
     (sums p q ring (λ (log : HostLog). log.node)
     (λ (log : HostLog). answers_to id (host_items_of log.entries)) joint.hosts
@@ -283,5 +303,6 @@ services-are_taken plant scans joint id j =
 pub served-at_most_once : TakenOnce → ServedAtMostOnce
 served-at_most_once once plant scans joint id is legal tied =
     let j : JointOf plant scans joint = record { is = is; legal = legal; tied = tied } in
-    subst (λ (k : ℕ). k ≤ 1) (sym (services-are_taken plant scans joint id j))
-    (once plant.net joint.ring id (ring-history plant scans joint j))
+    let most = services-are_taken plant scans joint id j in
+    let one = once plant.net joint.ring id (ring-history plant scans joint j) in
+    omega (arith, most, one)

@@ -12,7 +12,7 @@ use Rattle.mstr_block.specs.declared.call.MstrResult.{MstrResult}
 use Rattle.ring_core.specs.declared.entry.LocalOp.{LocalOp}
 use Rattle.ring_core.specs.declared.entry.RingEntry.{RingEntry}
 use Rattle.ring_core.specs.declared.entry.RingEntry.TheVariants.{Post, Send, Take, Local, GiveUp}
-use Rattle.ring_core.specs.declared.entry.RingEntry.TheVariants.{Pass, Leave}
+use Rattle.ring_core.specs.declared.entry.RingEntry.TheVariants.{Pass, Leave, Join}
 use Rattle.ring_core.specs.declared.frame.FrameKind.{FrameKind}
 use Rattle.ring_core.specs.declared.frame.FrameKind.TheVariants.{Request, Reply}
 use Rattle.ring_core.specs.declared.frame.Frame.{Frame}
@@ -24,6 +24,7 @@ use Rattle.tied_lists.specs.Items.{LocalCall, NetCall, Came}
 use Rattle.tied_lists.specs.Items.{asked_by, asked_of, due_replies, ended_by, ended_of, item_of}
 use Rattle.tied_lists.specs.Items.{last_asked, outcome_of_reply, outcome_of_word, plain_items}
 use Rattle.tied_lists.specs.Items.{replies_in, stats_items, taken_in, taken_of}
+use Rattle.tied_lists.specs.Items.{due_reply}
 
 -- ---- members of lists
 
@@ -232,6 +233,7 @@ ended-by station asked (GiveUp id word) end' is =
     by_word word (ap (λ (x : Ended). GiveUp x.id word) same) (ap (λ (x : Ended). x.outcome) same)
 ended-by station asked (Pass n done words) end' is = absurd cc
 ended-by station asked (Leave n cause) end' is = absurd cc
+ended-by station asked (Join n) end' is = absurd cc
 
 -- where an end stands
 pub record EndAt (station : Station) (asked : List Asked) (b : List RingEntry)
@@ -290,7 +292,7 @@ pub record Source (ts : List Taken) (peers port : List Answered) (id : CallId)
   pub taken : Contains ts request
   pub answer : Answered
   pub among : Contains peers answer ⊎ Contains port answer
-  pub reply : answer.reply ≡ pdu
+  pub reply : answer.reply ≡ Some pdu
   pub name : name_of request ≡ id
   pub named : answer.id ≡ id
   pub asked : answer.request ≡ Some (pdu_of request)
@@ -302,6 +304,17 @@ sources ts id pdu =
     → Contains (due_replies ts (replies_in peers) (replies_in port)) (id, Some pdu)
     → Source ts peers port id pdu
 
+-- what is due to a Request, with its answer
+due-is : (name : CallId) (reply : Option (List ℕ)) (id : CallId) (pdu : List ℕ)
+    → due_reply name (Some reply) ≡ Some (id, Some pdu) → (name ≡ id) × (reply ≡ Some pdu)
+due-is name None id pdu is = absurd cc
+due-is name (Some reply) id pdu is =
+    let same : (name, Some reply) ≡ (id, Some pdu) = some-item _ _ is in
+    (ap (λ (i : Item). i.0) same, ap (λ (i : Item). i.1) same)
+  where
+    some-item : (x y : Item) → Some x ≡ Some y → x ≡ y
+    some-item x y e = cc
+
 plain-source : (name : CallId) (request : List ℕ) (ts : List Taken) (id : CallId) (pdu : List ℕ)
     → sources ts id pdu → sources (Plain name request ∷ ts) id pdu
 plain-source name request ts id pdu rest [] port plain stats there = absurd cc
@@ -309,17 +322,16 @@ plain-source name request ts id pdu rest (a ∷ peers) port plain stats there =
     let first : item_of a ≡ (name, Some request) = cc in
     let more : map item_of peers ≡ plain_items ts = cc in
     ⊎_elim
-    (λ (is : (name, Some a.reply) ≡ (id, Some pdu)).
-    let replies_are : Some a.reply ≡ Some pdu = ap (λ (i : Item). i.1) is in
-    let same : a.reply ≡ pdu = cc in
+    (λ (is : due_reply name (Some a.reply) ≡ Some (id, Some pdu)).
+    let due = due-is name a.reply id pdu is in
     record {
       request = Plain name request;
       taken = here (Plain name request) ts;
       answer = a;
       among = inl (here a peers);
-      reply = same;
-      name = ap (λ (i : Item). i.0) is;
-      named = ap (λ (i : Item). i.0) first ∙ ap (λ (i : Item). i.0) is;
+      reply = due.1;
+      name = due.0;
+      named = ap (λ (i : Item). i.0) first ∙ due.0;
       asked = ap (λ (i : Item). i.1) first;
     })
     (λ (later : Contains (due_replies ts (replies_in peers) (replies_in port)) (id, Some pdu)).
@@ -336,8 +348,8 @@ plain-source name request ts id pdu rest (a ∷ peers) port plain stats there =
       named = s.named;
       asked = s.asked;
     })
-    (first-or-behind (name, Some a.reply) (due_replies ts (replies_in peers) (replies_in port))
-    (id, Some pdu) there)
+    (in-option (due_reply name (Some a.reply))
+    (due_replies ts (replies_in peers) (replies_in port)) (id, Some pdu) there)
 
 stats-source : (name : CallId) (request : List ℕ) (ts : List Taken) (id : CallId) (pdu : List ℕ)
     → sources ts id pdu
@@ -347,17 +359,16 @@ stats-source name request ts id pdu rest peers (a ∷ port) plain stats there =
     let first : item_of a ≡ (name, Some request) = cc in
     let more : map item_of port ≡ stats_items ts = cc in
     ⊎_elim
-    (λ (is : (name, Some a.reply) ≡ (id, Some pdu)).
-    let replies_are : Some a.reply ≡ Some pdu = ap (λ (i : Item). i.1) is in
-    let same : a.reply ≡ pdu = cc in
+    (λ (is : due_reply name (Some a.reply) ≡ Some (id, Some pdu)).
+    let due = due-is name a.reply id pdu is in
     record {
       request = ForStats name request;
       taken = here (ForStats name request) ts;
       answer = a;
       among = inr (here a port);
-      reply = same;
-      name = ap (λ (i : Item). i.0) is;
-      named = ap (λ (i : Item). i.0) first ∙ ap (λ (i : Item). i.0) is;
+      reply = due.1;
+      name = due.0;
+      named = ap (λ (i : Item). i.0) first ∙ due.0;
       asked = ap (λ (i : Item). i.1) first;
     })
     (λ (later : Contains (due_replies ts (replies_in peers) (replies_in port)) (id, Some pdu)).
@@ -374,8 +385,8 @@ stats-source name request ts id pdu rest peers (a ∷ port) plain stats there =
       named = s.named;
       asked = s.asked;
     })
-    (first-or-behind (name, Some a.reply) (due_replies ts (replies_in peers) (replies_in port))
-    (id, Some pdu) there)
+    (in-option (due_reply name (Some a.reply))
+    (due_replies ts (replies_in peers) (replies_in port)) (id, Some pdu) there)
 
 no-source : (id : CallId) (pdu : List ℕ) → sources [] id pdu
 no-source id pdu peers port plain stats there = absurd (in-none (id, Some pdu) there)
@@ -426,3 +437,4 @@ take-of (Local n id op result) t is = absurd cc
 take-of (GiveUp id word) t is = absurd cc
 take-of (Pass n done words) t is = absurd cc
 take-of (Leave n cause) t is = absurd cc
+take-of (Join n) t is = absurd cc

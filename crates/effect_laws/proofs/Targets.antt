@@ -12,7 +12,7 @@ use Rattle.mstr_block.specs.declared.call.MstrResult.{MstrResult}
 use Rattle.ring_core.specs.declared.entry.LocalOp.{LocalOp}
 use Rattle.ring_core.specs.declared.entry.RingEntry.{RingEntry}
 use Rattle.ring_core.specs.declared.entry.RingEntry.TheVariants.{Post, Send, Take, Local, GiveUp}
-use Rattle.ring_core.specs.declared.entry.RingEntry.TheVariants.{Pass, Leave}
+use Rattle.ring_core.specs.declared.entry.RingEntry.TheVariants.{Pass, Leave, Join}
 use Rattle.ring_core.specs.declared.frame.Frame.{Frame}
 use Rattle.ring_core.specs.Words.{maker}
 use Rattle.ring_laws.specs.Once.{posts, takes}
@@ -211,6 +211,7 @@ acts id (Local n name op result) is =
 acts id (GiveUp name word) is = absurd (true≢false (sym is))
 acts id (Pass n done words) is = absurd (true≢false (sym is))
 acts id (Leave n cause) is = absurd (true≢false (sym is))
+acts id (Join n) is = absurd (true≢false (sym is))
 
 at-controller : (joint : Joint) (id : CallId)
     → 1 ≤ sum_by (λ (log : ControllerLog). answers_to id (items_of log.entries)) joint.controllers

@@ -18,7 +18,7 @@ use Rattle.mstr_block.specs.declared.call.MstrResult.TheVariants.{Bad}
 use Rattle.ring_core.specs.declared.entry.LocalOp.{LocalOp}
 use Rattle.ring_core.specs.declared.entry.RingEntry.{RingEntry}
 use Rattle.ring_core.specs.declared.entry.RingEntry.TheVariants.{Post, Send, Take, Local, GiveUp}
-use Rattle.ring_core.specs.declared.entry.RingEntry.TheVariants.{Pass, Leave}
+use Rattle.ring_core.specs.declared.entry.RingEntry.TheVariants.{Pass, Leave, Join}
 use Rattle.ring_core.specs.declared.frame.FrameKind.{FrameKind}
 use Rattle.ring_core.specs.declared.frame.FrameKind.TheVariants.{Request, Reply}
 use Rattle.ring_core.specs.declared.frame.Frame.{Frame}
@@ -68,36 +68,42 @@ truly net past (GiveUp id word ∷ es) run = (tt, truly net (past ++ GiveUp id w
 truly net past (Pass n done words ∷ es) run =
     (tt, truly net (past ++ Pass n done words ∷ []) es run.1)
 truly net past (Leave n cause ∷ es) run = (tt, truly net (past ++ Leave n cause ∷ []) es run.1)
+truly net past (Join n ∷ es) run = (tt, truly net (past ++ Join n ∷ []) es run.1)
+
+some-bytes : (one two : List ℕ) → Some one ≡ Some two → one ≡ two
+some-bytes one two is = cc
 
 -- what a port answered fits
 port-for : (net : NetPlan) (n : ℕ) (id : CallId) (op : LocalOp) (result : MstrResult)
     (answer : Answered) (ask : List ℕ)
     → TellsTruly net (Local n id op result) → answered_for n id op result ≡ Some answer
-    → answer.request ≡ Some ask → Fitting ask answer.reply
-port-for net n id op result answer ask true' is asked = at (id.node == n) is
+    → answer.request ≡ Some ask → (reply : List ℕ) → answer.reply ≡ Some reply → Fitting ask reply
+port-for net n id op result answer ask true' is asked reply told = at (id.node == n) is
   where
     this : Answered
-    this = record { id = id; request = request_of op; reply = reply_of result }
+    this = record { id = id; request = request_of op; reply = Some (reply_of result) }
 
-    at : (b : Bool) → (if b then None else Some this) ≡ Some answer → Fitting ask answer.reply
+    at : (b : Bool) → (if b then None else Some this) ≡ Some answer → Fitting ask reply
     at true is' = absurd cc
     at false is' =
         let same : this ≡ answer = cc in
-        subst (λ (a : Answered). Fitting ask a.reply) same
+        subst (λ (l : List ℕ). Fitting ask l)
+        (some-bytes _ _ (ap (λ (a : Answered). a.reply) same ∙ told))
         (port-fits net true'.0 n op result ask (ap (λ (a : Answered). a.request) same ∙ asked)
         true'.1)
 
 port-of : (net : NetPlan) (e : RingEntry) (answer : Answered) (ask : List ℕ) → TellsTruly net e
-    → answered_of e ≡ Some answer → answer.request ≡ Some ask
-    → Fitting ask answer.reply
-port-of net (Post n f) answer ask true' is asked = absurd cc
-port-of net (Send n heard) answer ask true' is asked = absurd cc
-port-of net (Take n f) answer ask true' is asked = absurd cc
-port-of net (Local n id op result) answer ask true' is asked =
-    port-for net n id op result answer ask true' is asked
-port-of net (GiveUp id word) answer ask true' is asked = absurd cc
-port-of net (Pass n done words) answer ask true' is asked = absurd cc
-port-of net (Leave n cause) answer ask true' is asked = absurd cc
+    → answered_of e ≡ Some answer → answer.request ≡ Some ask → (reply : List ℕ)
+    → answer.reply ≡ Some reply → Fitting ask reply
+port-of net (Post n f) answer ask true' is asked reply told = absurd cc
+port-of net (Send n heard) answer ask true' is asked reply told = absurd cc
+port-of net (Take n f) answer ask true' is asked reply told = absurd cc
+port-of net (Local n id op result) answer ask true' is asked reply told =
+    port-for net n id op result answer ask true' is asked reply told
+port-of net (GiveUp id word) answer ask true' is asked reply told = absurd cc
+port-of net (Pass n done words) answer ask true' is asked reply told = absurd cc
+port-of net (Leave n cause) answer ask true' is asked reply told = absurd cc
+port-of net (Join n) answer ask true' is asked reply told = absurd cc
 
 -- ---- the Request that a Reply came to
 
@@ -193,6 +199,7 @@ post-of (Local n id op result) a is = absurd cc
 post-of (GiveUp id word) a is = absurd cc
 post-of (Pass n done words) a is = absurd cc
 post-of (Leave n cause) a is = absurd cc
+post-of (Join n) a is = absurd cc
 
 -- a Reply is taken after its Request was posted
 asked-before : (net : NetPlan) (ring front rest : List RingEntry) (n : ℕ) (f : Frame)
@@ -291,19 +298,19 @@ reply-fits laws plant scans joint log before after m f j there is kind =
     let frames : o.request ≡ post.frame = cc in
     let bytes : o.request.pdu ≡ w.last.pdu = ap (λ (x : Frame). x.pdu) frames ∙ post.pdu in
     let asked : o.answer.request ≡ Some w.last.pdu = o.asked ∙ ap (λ l. Some l) bytes in
-    let fits : Fitting w.last.pdu o.answer.reply = ⊎_elim
+    let fits : Fitting w.last.pdu f.pdu = ⊎_elim
     (λ (peer : Contains seat.items.answers o.answer). each-contains IsFitAnswer seat.items.answers
-    o.answer seat.answers peer w.last.pdu asked ask)
+    o.answer seat.answers peer w.last.pdu f.pdu asked o.told ask)
     (λ (port : Contains (port_answers (own a.by ring)) o.answer).
     let local = of-map answered_of (own a.by ring) o.answer port in
     port-of net local.0 o.answer w.last.pdu
     (each-contains (TellsTruly net) ring local.0 (truly net [] ring j.legal.ring)
-    (of-own a.by ring local.0 local.1).0) local.2 asked)
+    (of-own a.by ring local.0 local.1).0) local.2 asked f.pdu o.told)
     o.among in
     record {
       ask = w.last.pdu;
       last = some.1 ∙ ap (λ l. Some l) (sym w.pdu_is);
-      fits = subst (Fitting w.last.pdu) o.told fits;
+      fits = fits;
     }
 
 -- ---- the law

@@ -1,3 +1,4 @@
+pub mod Ready
 pub mod Counts
 pub mod Stations
 pub mod Nodes

@@ -1,5 +1,6 @@
--- Two journals, worked by hand: a read of two registers is in time; two nodes that each answer the
--- other before the scan in which they ask, each of whose requests is the other's cause, are not.
+-- Journals, worked by hand: a read of two registers is in time; two nodes that each answer the other
+-- before the scan in which they ask, each of whose requests is the other's cause, are not. A node
+-- whose power fails lets a Request go by, leaves, and comes back; it does neither before its time.
 use Rattle.std.proofs.Common.{◌≡◌, ℕ, ◌+◌, ◌≤◌, ◌&&◌, Bool, true, false, List, [], ◌∷◌, refl}
 use Rattle.std.proofs.Common.{arith}
 use Rattle.std.proofs.Math.Dec.{leb}
@@ -9,17 +10,18 @@ use Rattle.mstr_block.specs.declared.call.MstrResult.TheVariants.{Good}
 use Rattle.controller_core.specs.declared.call.CallKind.TheVariants.{Net}
 use Rattle.controller_core.specs.declared.entry.Entry.{Entry}
 use Rattle.controller_core.specs.declared.entry.Entry.TheVariants.{Begin, Solve, End, Collect}
-use Rattle.controller_core.specs.declared.entry.Entry.TheVariants.{Peer}
+use Rattle.controller_core.specs.declared.entry.Entry.TheVariants.{Peer, Fail, Off}
 use Rattle.controller_core.specs.declared.entry.Entry.TheVariants.{Finish}
 use Rattle.ring_core.specs.declared.frame.Frame.{Frame}
 use Rattle.ring_core.specs.declared.frame.FrameKind.TheVariants.{Request, Reply}
 use Rattle.ring_core.specs.declared.entry.Heard.TheVariants.{Acked}
-use Rattle.ring_core.specs.declared.entry.LeaveCause.TheVariants.{Ended}
+use Rattle.ring_core.specs.declared.entry.LeaveCause.TheVariants.{Ended, Down}
 use Rattle.ring_core.specs.declared.entry.RingEntry.{RingEntry}
-use Rattle.ring_core.specs.declared.entry.RingEntry.TheVariants.{Post, Send, Take, Pass, Leave}
+use Rattle.ring_core.specs.declared.entry.RingEntry.TheVariants.{Post, Send, Take, Pass, Leave, Join}
 use Rattle.one_order.specs.Merges.{Merged, AsNoted, AsDone, Runs}
 use Rattle.one_order.proofs.Greedy.{neither-fits}
 use Rattle.entry_causes.specs.Causes.{Noted, Done, no_notes, no_deeds, note_entry, deed, AreCaused}
+use Rattle.entry_causes.specs.Causes.{ready}
 use Rattle.entry_causes.specs.InTime.{InTime}
 use Rattle.entry_causes.proofs.Counts.{both-of-entry}
 
@@ -27,27 +29,29 @@ use Rattle.entry_causes.proofs.Counts.{both-of-entry}
 abbrev is-caused : Noted → Done → Bool
 is-caused s d =
     leb d.posted s.asked && (leb d.worked_port s.asked_port && (leb s.served d.taken
-    && (leb d.answered_port d.taken_port && (leb d.replies (d.taken + d.taken_port)
-    && (leb d.replied s.served && (leb d.replied_port d.answered_port && leb s.ended d.over))))))
+    && (leb d.answered_port d.taken_port
+    && (leb d.replies (ready d.requests s.answers d.answered_port)
+    && (leb s.ended d.over && (leb d.down s.failed && leb d.joined s.returned))))))
 
 caused-by : (s : Noted) (d : Done) → is-caused s d ≡ true → AreCaused s d
 caused-by s d is =
+    let may = ready d.requests s.answers d.answered_port in
     let a = and_parts (leb d.posted s.asked) _ is in
     let b = and_parts (leb d.worked_port s.asked_port) _ a.1 in
     let c = and_parts (leb s.served d.taken) _ b.1 in
     let e = and_parts (leb d.answered_port d.taken_port) _ c.1 in
-    let g = and_parts (leb d.replies (d.taken + d.taken_port)) _ e.1 in
-    let h = and_parts (leb d.replied s.served) _ g.1 in
-    let k = and_parts (leb d.replied_port d.answered_port) _ h.1 in
+    let g = and_parts (leb d.replies may) _ e.1 in
+    let h = and_parts (leb s.ended d.over) _ g.1 in
+    let k = and_parts (leb d.down s.failed) _ h.1 in
     record {
       posts = leb-true d.posted s.asked a.0;
       port_works = leb-true d.worked_port s.asked_port b.0;
       answers = leb-true s.served d.taken c.0;
       port_answers = leb-true d.answered_port d.taken_port e.0;
-      requests = leb-true d.replies (d.taken + d.taken_port) g.0;
-      replies = leb-true d.replied s.served h.0;
-      port_replies = leb-true d.replied_port d.answered_port k.0;
-      ends = leb-true s.ended d.over k.1;
+      replies = leb-true d.replies may g.0;
+      ends = leb-true s.ended d.over h.0;
+      downs = leb-true d.down s.failed k.0;
+      joins = leb-true d.joined s.returned k.1;
     }
 
 abbrev runs-test : Noted → Done → List (Merged Entry RingEntry) → Bool
@@ -139,3 +143,39 @@ crossed-is-not =
     (Peer (id-of 2) reads tells) (Post 1 (request 1 2)) _ _
     (λ f. let no' : 1 ≤ 0 = f.answers in absurd (omega (arith, no')))
     (λ f. let no' : 1 ≤ 0 = f.posts in absurd (omega (arith, no')))
+
+-- ---- power fails at node 5, in a scan that it had begun: a Request goes by, and the next one, behind
+-- the power's return, is answered
+abbrev next-of : Frame → Frame
+next-of f = record f { id = record f.id { seq = 2 } }
+
+abbrev failing : List Entry
+failing =
+    Begin ∷ Fail ∷ Off (id-of 2) reads ∷ Begin ∷ Peer (next-of (request 2 5)).id reads tells ∷ []
+
+abbrev failing-did : List RingEntry
+failing-did =
+    Take 5 (request 2 5) ∷ Leave 5 (Down 1) ∷ Join 5 ∷ Take 5 (next-of (request 2 5))
+    ∷ Post 5 (next-of (reply 2)) ∷ []
+
+failing-is-in-time : InTime failing failing-did
+failing-is-in-time =
+    let w : List (Merged Entry RingEntry) =
+    AsDone (Take 5 (request 2 5)) ∷ AsNoted Begin ∷ AsNoted Fail ∷ AsNoted (Off (id-of 2) reads)
+    ∷ AsDone (Leave 5 (Down 1)) ∷ AsNoted Begin ∷ AsDone (Join 5)
+    ∷ AsDone (Take 5 (next-of (request 2 5)))
+    ∷ AsNoted (Peer (next-of (request 2 5)).id reads tells)
+    ∷ AsDone (Post 5 (next-of (reply 2))) ∷ [] in
+    record { merge = w; noted = refl; done = refl; runs = runs-by no_notes no_deeds w refl }
+
+-- ---- a node that leaves before its power failed, as its list says that it took the Request
+-- behind that
+abbrev foreseen : List RingEntry
+foreseen = Leave 5 (Down 1) ∷ Take 5 (request 2 5) ∷ []
+
+foreseen-is-not : InTime (Off (id-of 2) reads ∷ Fail ∷ []) foreseen → ⊥
+foreseen-is-not =
+    neither-fits note_entry deed AreCaused both-of-entry no_notes no_deeds
+    (Off (id-of 2) reads) (Leave 5 (Down 1)) _ _
+    (λ f. let no' : 1 ≤ 0 = f.answers in absurd (omega (arith, no')))
+    (λ f. let no' : 1 ≤ 0 = f.downs in absurd (omega (arith, no')))

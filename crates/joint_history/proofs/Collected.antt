@@ -325,9 +325,16 @@ follows-entry laws n f s a (entries.Output row words) fits old = old
 follows-entry laws n f s a entries.End fits old = old
 follows-entry laws n f s a entries.Fail fits old =
     let T = table_of s in
-    follows-solve n T (power_failed T) a (power_failures-keep_calls.keeps T)
-    (power_failures-keep_calls.new T)
-    (laws.tables.failed T old.table) old
+    let new = follows-solve n T (power_failed T) a (power_failures-keep_calls.keeps T)
+    (power_failures-keep_calls.new T) (laws.tables.failed T old.table) old in
+    record {
+      table = new.table;
+      node = new.node;
+      out = new.out;
+      given = new.given;
+      above = new.above;
+      made = new.made;
+    }
 follows-entry laws n f s a entries.Dark fits old = old
 follows-entry laws n f s a (entries.Collect calls) fits old =
     follows-collect n (table_of s) a (item_next a (entries.Collect calls)) laws.taking
@@ -340,7 +347,14 @@ follows-entry laws n f s a (entries.Peer id request reply) fits old = record {
   above = old.above;
   made = old.made;
 }
-follows-entry laws n f s a (entries.Off id request) fits old = old
+follows-entry laws n f s a (entries.Off id request) fits old = record {
+  table = old.table;
+  node = old.node;
+  out = old.out;
+  given = old.given;
+  above = old.above;
+  made = old.made;
+}
 follows-entry laws n f s a (entries.Finish id result) fits old =
     follows-finish n (table_of s) a (item_next a (entries.Finish id result)) _ result laws.finishing
     laws.tables fits refl refl old

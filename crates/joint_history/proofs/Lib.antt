@@ -1,4 +1,6 @@
 pub mod CallBlocks
 pub mod Collected
 pub mod Items
+pub mod Fails
 pub mod Read2
+pub mod PowerFails

@@ -50,10 +50,10 @@ ring =
     ∷ Leave 5 Ended ∷ []
 
 reader-tied : Tied AController (items_of reader) (own 2 ring)
-reader-tied = record { asks = refl; peers = refl; port = refl; replies = refl; ends = refl }
+reader-tied = record { asks = refl; peers = refl; port = refl; replies = refl; ends = refl; downs = (tt, tt) }
 
 target-tied : Tied AController (items_of target) (own 5 ring)
-target-tied = record { asks = refl; peers = refl; port = refl; replies = refl; ends = refl }
+target-tied = record { asks = refl; peers = refl; port = refl; replies = refl; ends = refl; downs = (tt, tt) }
 
 abbrev both : List ControllerLog
 both = record { node = 2; entries = reader } ∷ record { node = 5; entries = target } ∷ []

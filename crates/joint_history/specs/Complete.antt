@@ -1,6 +1,6 @@
 -- What is done where a run is over. This project's own.
 use Rattle.std.specs.Prelude.{◌≡◌, ◌≢◌, ◌⊎◌, ℕ, ◌+◌, ◌≤◌, Bool, true, false, List, ◌∷◌, ◌++◌}
-use Rattle.std.specs.Prelude.{length, Some}
+use Rattle.std.specs.Prelude.{length, Some, Contains}
 use Rattle.std.specs.List.{All, AllZip, count_by, slice_get}
 use Rattle.mstr_block.specs.Call.{is_same_call}
 use Rattle.plant_types.specs.declared.net.NetPlan.{NetPlan}
@@ -11,10 +11,13 @@ use Rattle.plant_types.specs.declared.plan.Plant.{Plant}
 use Rattle.ring_core.specs.declared.frame.FrameKind.TheVariants.{Request, Reply}
 use Rattle.ring_core.specs.declared.frame.Frame.{Frame}
 use Rattle.ring_core.specs.declared.entry.RingEntry.{RingEntry}
-use Rattle.ring_core.specs.declared.entry.RingEntry.TheVariants.{Post, Local, GiveUp, Pass}
+use Rattle.ring_core.specs.declared.entry.RingEntry.TheVariants.{Post, Local, GiveUp, Pass, Leave}
+use Rattle.ring_core.specs.declared.entry.LeaveCause.TheVariants.{Ended as AllDone}
+use Rattle.ring_core.specs.declared.status.NodeStatus.TheVariants.{Away, Gone}
 use Rattle.tied_lists.specs.Own.{own}
 use Rattle.tied_lists.specs.Items.{Called, Ended, Items, asked_by, replied_by, taken_by}
-use Rattle.tied_lists.specs.Waits.{HasLeft}
+use Rattle.tied_lists.specs.Items.{due_replies, replies_in, port_answers, latest_down}
+use Rattle.tied_lists.specs.Waits.{status_at}
 use Rattle.controller_core.specs.declared.fixed.Fixed.{Fixed}
 use Rattle.controller_core.specs.declared.entry.Entry.{Entry}
 use Rattle.controller_core.specs.declared.entry.Entry.TheVariants.{End, Fail, Dark}
@@ -76,11 +79,17 @@ pub record HostIsComplete (plan : HostPlan) (items : Items) (ring : List RingEnt
   pub holds : AsksInItsHolds plan ring
   pub asked : AsksAllBeforeDone plan ring
 
--- Whenever a node passed the token on it had replied to all that it took.
-abbrev pub RepliesBeforePasses : List RingEntry → Type 0
-RepliesBeforePasses ring = (before after : List RingEntry) (n : ℕ) (done : Bool) (words : List ℕ)
-    → StandsIn ring before (Pass n done words) after
-    → length (replied_by before) ≡ length (taken_by before)
+-- How many Replies are due for the Requests that a node took before, by all answers that its
+-- station and its port gave.
+abbrev pub replies_due : Items → List RingEntry → List RingEntry → ℕ
+replies_due items ring before =
+    length (due_replies (taken_by before) (replies_in items.answers) (replies_in (port_answers ring)))
+
+-- Whenever a node passed the token on it had posted the Replies that were due for all that it took.
+abbrev pub RepliesBeforePasses : Items → List RingEntry → Type 0
+RepliesBeforePasses items ring = (before after : List RingEntry) (n : ℕ) (done : Bool)
+    (words : List ℕ) → StandsIn ring before (Pass n done words) after
+    → length (replied_by before) ≡ replies_due items ring before
 
 -- A node that is done asks nothing more, gives nothing up, and goes on saying so.
 abbrev pub IsOfDone : RingEntry → Type 0
@@ -95,24 +104,42 @@ abbrev pub StaysDone : List RingEntry → Type 0
 StaysDone ring = (before after : List RingEntry) (n : ℕ) (words : List ℕ)
     → StandsIn ring before (Pass n true words) after → All IsOfDone after
 
--- A node on the ring is complete: it has left, it had replied to all before each Pass, and once it
--- said that it was done it stayed so.
-pub record NodeIsComplete (net : NetPlan) (ring : List RingEntry) (node : ℕ) : Type 0 where
-  pub left : HasLeft net ring node
-  pub replied : RepliesBeforePasses (own node ring)
-  pub done : StaysDone (own node ring)
+-- Where a node left as all was done it had noticed each power failure of its station.
+abbrev pub NoticesFailures : Items → List RingEntry → Type 0
+NoticesFailures items ring =
+    (n : ℕ) → Contains ring (Leave n AllDone) → items.fails ≡ latest_down ring
+
+-- A node's entries on the ring are complete, beside the items of its station: it had replied to all
+-- before each Pass, once it said that it was done it stayed so, and it noticed each power failure.
+pub record NodeIsComplete (items : Items) (ring : List RingEntry) : Type 0 where
+  pub replied : RepliesBeforePasses items ring
+  pub done : StaysDone ring
+  pub noticed : NoticesFailures items ring
+
+-- All scans of a controller are gone, and there is no power.
+pub record StaysOff (fixed : Fixed) (entries : List Entry) : Type 0 where
+  pub scans : count_by is_scan_end entries ≡ fixed.scans
+  pub off : (replay fixed entries).powered ≡ false
+
+-- A controller is out of the ring: its node is gone, or it is away and stays without power.
+abbrev pub ControllerIsOut : NetPlan → List RingEntry → ℕ → Fixed → List Entry → Type 0
+ControllerIsOut net ring node fixed entries =
+    (status_at net ring node ≡ Gone)
+    ⊎ ((status_at net ring node ≡ Away) × StaysOff fixed entries)
 
 -- The list of a controller and its node on the ring are complete.
 abbrev pub IsCompleteLog : Plant → ℕ → List RingEntry → ControllerPlan → ControllerLog → Type 0
 IsCompleteLog plant scans ring plan log =
     ControllerIsComplete (fixed_of plant scans plan) log.entries
-    × NodeIsComplete (net_of plant log.node) ring log.node
+    × ControllerIsOut (net_of plant log.node) ring log.node (fixed_of plant scans plan) log.entries
+    × NodeIsComplete (items_of log.entries) (own log.node ring)
 
--- The list of a host and its node on the ring are complete.
+-- The list of a host and its node on the ring are complete: the node is gone, too.
 abbrev pub IsCompleteHostLog : Plant → List RingEntry → HostPlan → HostLog → Type 0
 IsCompleteHostLog plant ring plan log =
     HostIsComplete plan (host_items_of log.entries) (own log.node ring)
-    × NodeIsComplete (net_of plant log.node) ring log.node
+    × (status_at (net_of plant log.node) ring log.node ≡ Gone)
+    × NodeIsComplete (host_items_of log.entries) (own log.node ring)
 
 -- A run is complete: all stations are.
 pub record IsComplete (plant : Plant) (scans : ℕ) (joint : Joint) : Type 0 where

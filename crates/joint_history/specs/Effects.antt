@@ -1,5 +1,5 @@
 -- How often a call took effect. This project's own.
-use Rattle.std.specs.Prelude.{ℕ, ◌+◌, Bool, false}
+use Rattle.std.specs.Prelude.{ℕ, ◌+◌, Bool, true, false, ◌&&◌, List, Option, Some, None}
 use Rattle.std.specs.List.{count_by, sum_by}
 use Rattle.mstr_block.specs.Call.{is_same_call}
 use Rattle.mstr_block.specs.declared.call.CallId.{CallId}
@@ -11,9 +11,18 @@ use Rattle.joint_history.specs.declared.joint.HostLog.{HostLog}
 use Rattle.joint_history.specs.declared.joint.Joint.{Joint}
 use Rattle.joint_history.specs.Reading.{items_of, host_items_of}
 
--- How often a station answered the request of a call.
+-- What was answered with a reply; a request that came without power was not, and had no effect.
+abbrev pub has_reply : Option (List ℕ) → Bool
+has_reply None = false
+has_reply (Some reply) = true
+
+-- A station answered the request of a call, with a reply.
+abbrev pub answers : CallId → Answered → Bool
+answers id answer = is_same_call answer.id id && has_reply answer.reply
+
+-- How often it did.
 abbrev pub answers_to : CallId → Items → ℕ
-answers_to id items = count_by (λ (answer : Answered). is_same_call answer.id id) items.answers
+answers_to id items = count_by (answers id) items.answers
 
 -- An entry of the ring by which a node's own port did what a call asks.
 abbrev pub does_locally : CallId → RingEntry → Bool

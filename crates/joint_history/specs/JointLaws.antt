@@ -19,11 +19,11 @@ use Rattle.joint_history.specs.declared.joint.HostLog.{HostLog}
 use Rattle.joint_history.specs.declared.joint.Joint.{Joint}
 use Rattle.joint_history.specs.Reading.{items_of, host_items_of}
 
--- A controller's list and its node's entries on the ring keep the four laws.
+-- A controller's list and its node's entries on the ring keep the five laws.
 abbrev pub IsTiedController : List RingEntry → ControllerLog → Type 0
 IsTiedController ring log = Tied AController (items_of log.entries) (own log.node ring)
 
--- A host's list and its node's entries on the ring keep the four laws.
+-- A host's list and its node's entries on the ring keep the five laws.
 abbrev pub IsTiedHost : List RingEntry → HostLog → Type 0
 IsTiedHost ring log = Tied AHost (host_items_of log.entries) (own log.node ring)
 

@@ -2,6 +2,7 @@
 use Rattle.std.proofs.Common.{◌≡◌, ◌≢◌, ℕ, ◌-◌, ◌<◌, ◌≤◌, Bool, true, false, List, [], ◌∷◌, ◌++◌}
 use Rattle.std.proofs.Common.{length, get_or, map, take, drop, eqb}
 use Rattle.std.proofs.Common.{refl, sym, ap, subst, ◌∙◌, ⊎_elim, arith}
+use Rattle.std.specs.Prelude.{◌==◌, if◌then◌else◌}
 use Rattle.std.specs.List.{All, Any, IsDistinct, zip}
 use Rattle.std.specs.List.Sorted.{IsStrictlyIncreasing}
 use Rattle.std.proofs.Math.ListN.{get_or-map}
@@ -18,6 +19,7 @@ use Rattle.plant_types.specs.declared.plan.Plant.{Plant}
 use Rattle.plant_types.specs.Plans.{IsPlant, controller_nodes, host_nodes}
 use Rattle.ring_core.specs.declared.entry.RingEntry.{RingEntry}
 use Rattle.ring_core.specs.Legal.{IsLegalRing}
+use Rattle.tied_lists.specs.Items.{downs_by}
 use Rattle.controller_core.specs.Controller.{IsLegal}
 use Rattle.controller_core.specs.Laws.{FrontsAreLegal}
 use Rattle.host_port.specs.Legal.{IsHostHistory}
@@ -30,16 +32,18 @@ use Rattle.joint_law.specs.Bound.{Bound, BreaksLaw, KeepsLaw, bounds_of, control
 use Rattle.joint_law.specs.Bound.{host_bound}
 use Rattle.joint_law.specs.Bound.{number_of}
 use Rattle.joint_law.specs.Differing.{BreaksAt, DifferAt}
+use Rattle.joint_law.specs.Failing.{AreFounded}
 use Rattle.joint_law.specs.Spots.{AreLegalHostLogs, AreLegalLogs, ControllerSpot, HasSections}
 use Rattle.joint_law.specs.Spots.{HostSpot, IncompleteSpot}
 use Rattle.joint_law.specs.Spots.{IsSpot, IsVerdict, LawSpot}
 use Rattle.joint_law.specs.declared.law.Law.{Law}
-use Rattle.joint_law.specs.declared.law.Law.TheVariants.{Asks, Answers, Replies, Ends}
+use Rattle.joint_law.specs.declared.law.Law.TheVariants.{Asks, Answers, Replies, Ends, Downs}
 use Rattle.joint_law.specs.declared.verdict.Spot.{Spot}
 use Rattle.joint_law.specs.declared.verdict.Spot.TheVariants as spots
 use Rattle.joint_law.specs.declared.verdict.Verdict.{Verdict}
 use Rattle.joint_law.specs.declared.verdict.Verdict.TheVariants.{Legal, Illegal}
 use Rattle.joint_law.proofs.CourseSteps.{same-size}
+use Rattle.joint_law.proofs.Founded.{founded-front}
 use Rattle.joint_law.proofs.Verdicts.{complete-at, host-front, joint-keeps, kept-unbroken}
 use Rattle.joint_law.proofs.Verdicts.{legal-sections, no-break, ring-front, some-pair}
 
@@ -81,6 +85,8 @@ law-once Asks s p q d e = differ-once _ _ p q d e
 law-once Answers s p q d e = differ-once _ _ p q d e
 law-once Replies s p q d e = differ-once _ _ p q d e
 law-once Ends s p q d e = differ-once _ _ p q d e
+law-once Downs s p q d e =
+    break-once (AreFounded s.items.fails) (founded-front s.items.fails) (downs_by s.ring) p q d e
 
 -- ---- addresses
 
@@ -291,23 +297,24 @@ later fronts plant scans joint (spots.Incomplete node) w v is less =
 
 -- ---- spots of one sort
 
+-- the law of a number
+abbrev law_of : ℕ → Law
+law_of number =
+    if number == 1 then Asks
+    else if number == 2 then Answers
+    else if number == 3 then Replies
+    else if number == 4 then Ends
+    else Downs
+
+law-again : (law : Law) → law_of (number_of law) ≡ law
+law-again Asks = refl
+law-again Answers = refl
+law-again Replies = refl
+law-again Ends = refl
+law-again Downs = refl
+
 same-law : (law other : Law) → number_of law ≡ number_of other → law ≡ other
-same-law Asks Asks e = refl
-same-law Answers Answers e = refl
-same-law Replies Replies e = refl
-same-law Ends Ends e = refl
-same-law Asks Answers e = absurd (omega arith)
-same-law Asks Replies e = absurd (omega arith)
-same-law Asks Ends e = absurd (omega arith)
-same-law Answers Asks e = absurd (omega arith)
-same-law Answers Replies e = absurd (omega arith)
-same-law Answers Ends e = absurd (omega arith)
-same-law Replies Asks e = absurd (omega arith)
-same-law Replies Answers e = absurd (omega arith)
-same-law Replies Ends e = absurd (omega arith)
-same-law Ends Asks e = absurd (omega arith)
-same-law Ends Answers e = absurd (omega arith)
-same-law Ends Replies e = absurd (omega arith)
+same-law law other e = sym (law-again law) ∙ (ap law_of e ∙ law-again other)
 
 broken-law : (plant : Plant) (scans : ℕ) (joint : Joint) (law other : Law) (n e m f : ℕ)
     → LawSpot plant scans joint law n e → LawSpot plant scans joint other m f

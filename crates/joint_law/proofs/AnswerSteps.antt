@@ -2,10 +2,10 @@
 use Rattle.std.proofs.Common.{◌≡◌, ℕ, Bool, true, false, List, [], ◌∷◌, ◌++◌, map, Option, Some}
 use Rattle.std.proofs.Common.{None}
 use Rattle.std.proofs.Common.{refl, sym, ap, ◌∙◌, append-nil}
-use Rattle.std.specs.List.{filter_map}
+use Rattle.std.specs.List.{cons_option, filter_map}
 use Rattle.std.proofs.lemmas.List.Elements.{filter_map-append}
-use Rattle.tied_lists.specs.Items.{Answered, ForStats, Item, Plain, Taken, due_replies, first_reply}
-use Rattle.tied_lists.specs.Items.{item_of, rest_of}
+use Rattle.tied_lists.specs.Items.{Answered, ForStats, Item, Plain, Taken, due_replies, due_reply}
+use Rattle.tied_lists.specs.Items.{first_reply, item_of, rest_of}
 use Rattle.joint_law.specs.Bound.{Sorted, sorted, sorted_answer}
 use Rattle.joint_law.specs.Taking.{DueNext, items_for, left_plain, left_stats}
 
@@ -20,22 +20,30 @@ items_for-append false (Plain id pdu ∷ xs) ys =
     ap (λ (l : List Item). (id, Some pdu) ∷ l) (items_for-append false xs ys)
 items_for-append false (ForStats id pdu ∷ xs) ys = items_for-append false xs ys
 
-pub due-append : (ts us : List Taken) (P L : List (List ℕ))
+-- one item more or none in front of two lists
+cons-append : {X : Type 0} (o : Option X) (xs ys : List X)
+    → cons_option o (xs ++ ys) ≡ cons_option o xs ++ ys
+cons-append None xs ys = refl
+cons-append (Some x) xs ys = refl
+
+pub due-append : (ts us : List Taken) (P L : List (Option (List ℕ)))
     → due_replies (ts ++ us) P L ≡ due_replies ts P L
     ++ due_replies us (left_plain ts P) (left_stats ts L)
 due-append [] us P L = refl
 due-append (Plain id pdu ∷ ts) us P L =
-    ap (λ (l : List Item). (id, first_reply P) ∷ l) (due-append ts us (rest_of P) L)
+    ap (cons_option (due_reply id (first_reply P))) (due-append ts us (rest_of P) L)
+    ∙ cons-append (due_reply id (first_reply P)) (due_replies ts (rest_of P) L) _
 due-append (ForStats id pdu ∷ ts) us P L =
-    ap (λ (l : List Item). (id, first_reply L) ∷ l) (due-append ts us P (rest_of L))
+    ap (cons_option (due_reply id (first_reply L))) (due-append ts us P (rest_of L))
+    ∙ cons-append (due_reply id (first_reply L)) (due_replies ts P (rest_of L)) _
 
-pub left_plain-append : (ts us : List Taken) (P : List (List ℕ))
+pub left_plain-append : (ts us : List Taken) (P : List (Option (List ℕ)))
     → left_plain (ts ++ us) P ≡ left_plain us (left_plain ts P)
 left_plain-append [] us P = refl
 left_plain-append (Plain id pdu ∷ ts) us P = left_plain-append ts us (rest_of P)
 left_plain-append (ForStats id pdu ∷ ts) us P = left_plain-append ts us P
 
-pub left_stats-append : (ts us : List Taken) (L : List (List ℕ))
+pub left_stats-append : (ts us : List Taken) (L : List (Option (List ℕ)))
     → left_stats (ts ++ us) L ≡ left_stats us (left_stats ts L)
 left_stats-append [] us L = refl
 left_stats-append (Plain id pdu ∷ ts) us L = left_stats-append ts us L
@@ -95,7 +103,7 @@ sorted-items statistics (a ∷ as') =
 
 -- what is due behind some taken more
 pub due-step : (front taken whole : List Taken) (list list' : List Item)
-    (peers locals peers' locals' P L : List (List ℕ)) → whole ≡ front ++ taken
+    (peers locals peers' locals' P L : List (Option (List ℕ))) → whole ≡ front ++ taken
     → list ≡ due_replies front P L → peers ≡ left_plain front P → locals ≡ left_stats front L
     → DueNext taken list peers locals list' peers' locals'
     → DueNext whole [] P L list' peers' locals'

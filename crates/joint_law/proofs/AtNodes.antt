@@ -2,7 +2,7 @@
 use Rattle.std.proofs.Common.{◌≡◌, ℕ, ◌+◌, ◌<◌, ◌≤◌, Bool, true, false, List, [], ◌∷◌, ◌++◌}
 use Rattle.std.proofs.Common.{length}
 use Rattle.std.proofs.Common.{get_or, map}
-use Rattle.std.proofs.Common.{refl, sym, ap, subst, ◌∙◌, ⊎_elim, arith}
+use Rattle.std.proofs.Common.{refl, sym, ap, subst, ◌∙◌, ◌⊎◌, ⊎_elim, arith}
 use Rattle.std.specs.List.{All, Contains, zip}
 use Rattle.std.proofs.Math.ListN.{get_or-map}
 use Rattle.std.proofs.lemmas.Bool.{cases_lt}
@@ -21,18 +21,32 @@ use Rattle.ring_core.specs.declared.entry.RingEntry.{RingEntry}
 use Rattle.joint_history.specs.declared.joint.ControllerLog.{ControllerLog}
 use Rattle.joint_history.specs.declared.joint.HostLog.{HostLog}
 use Rattle.joint_history.specs.declared.joint.Joint.{Joint}
-use Rattle.joint_history.specs.Complete.{IsComplete}
+use Rattle.joint_history.specs.Complete.{ControllerIsComplete, EndsEachCall, IsComplete, StaysOff}
+use Rattle.joint_history.specs.JointLaws.{fixed_of}
+use Rattle.joint_history.specs.Reading.{host_items_of, items_of}
 use Rattle.joint_history.specs.Complete.{IsCompleteHostLog, IsCompleteLog, NodeIsComplete}
+use Rattle.ring_core.specs.declared.status.NodeStatus.{NodeStatus}
+use Rattle.ring_core.specs.declared.status.NodeStatus.TheVariants.{Away, Gone}
+use Rattle.tied_lists.specs.Items.{Items, no_items, replies_in}
 use Rattle.tied_lists.specs.Own.{own}
+use Rattle.tied_lists.specs.Waits.{status_at}
 use Rattle.joint_law.specs.AllComplete.{AreControllersDone, AreHostNodesDone}
-use Rattle.joint_law.specs.AllComplete.{IsHostNodeDone, IsNodeDone}
-use Rattle.joint_law.specs.AllCourses.{AreDone, AreHostsDone}
+use Rattle.joint_law.specs.AllComplete.{IsControllerDone, IsFollowed, IsHostNodeDone, IsNodeDone}
+use Rattle.joint_law.specs.AllComplete.{IsOutBy, IsStandingOf, entries_on}
+use Rattle.joint_law.specs.Completing.{EachAllows, HostAllows}
+use Rattle.joint_law.specs.Failing.{is_fail}
+use Rattle.controller_core.specs.declared.entry.Entry.{Entry}
+use Rattle.host_port.specs.declared.entry.HostEntry.{HostEntry}
+use Rattle.std.specs.Prelude.{◌↔◌, IsTrue, count_by, Option}
+use Rattle.joint_law.specs.declared.complete.Followed.{Followed}
+use Rattle.joint_law.specs.declared.complete.Standing.{Standing}
 use Rattle.joint_law.specs.Bound.{Bound, bounds_of, controller_bound, host_bound}
 use Rattle.joint_law.specs.Spots.{HasSections, IsCompleteAt}
 use Rattle.joint_law.proofs.CourseSteps.{same-size, zip-all}
 use Rattle.joint_law.proofs.Fitting.{all-from, done-from, holds-from, host-each, node-each}
-use Rattle.joint_law.proofs.Fitting.{replies-from}
-use Rattle.joint_law.proofs.Leaving.{left-where}
+use Rattle.joint_law.proofs.Fitting.{noticed-from, notices-ended, replies-from}
+use Rattle.joint_law.proofs.Founded.{fails-of, host-fails}
+use Rattle.joint_law.proofs.Outside.{out-by, out-from}
 
 -- ---- addresses
 
@@ -109,81 +123,149 @@ bounds-low plant joint sound sections =
 
 -- ---- one node
 
-node-complete : (net : NetPlan) (ring : List RingEntry) (node : ℕ) (is_done : Bool)
-    → All (λ m. m < addresses) net.members → Contains net.members node
-    → IsNodeDone is_done (own node ring) → NodeIsComplete net ring node
-node-complete net ring node is_done low member d = record {
-  left = (left-where net ring node low member).0 d.left;
-  replied = replies-from (own node ring) d.fits;
-  done = done-from (own node ring) d.fits;
+-- a node's entries behind the whole list
+stands-own : (joint : Joint) (net : NetPlan) (node : ℕ) (on : Standing)
+    → IsStandingOf joint net node on → entries_on on ≡ own on.node joint.ring
+stands-own joint net node on stands =
+    stands.places.own_is ∙ (λ i. own ((sym stands.node_is) i) (stands.ring_is i))
+
+-- and where it stands, at the address of a log
+stands-at : (joint : Joint) (net : NetPlan) (node at : ℕ) (on : Standing)
+    → IsStandingOf joint net node on → Contains net.members at → at ≡ on.node
+    → on.status ≡ status_at net joint.ring at
+stands-at joint net node at on stands member same =
+    let here : at ≡ node = same ∙ stands.node_is in
+    stands.status (subst (Contains net.members) here member)
+    ∙ ap (status_at net joint.ring) (sym here)
+
+node-complete : (items : Items) (fails : ℕ) (b : List RingEntry) → items.fails ≡ fails
+    → IsNodeDone (replies_in items.answers) fails b → NodeIsComplete items b
+node-complete items fails b count d = record {
+  replied = replies-from items b d.fits;
+  done = done-from (replies_in items.answers) b d.fits;
+  noticed = noticed-from items fails b count d.noticed;
 }
 
-complete-node : (net : NetPlan) (ring : List RingEntry) (node : ℕ) (is_done : Bool)
-    → All (λ m. m < addresses) net.members → Contains net.members node
-    → is_done ≡ true → NodeIsComplete net ring node → IsNodeDone is_done (own node ring)
-complete-node net ring node is_done low member done c = record {
-  done = done;
-  fits = node-each (own node ring) c.replied c.done;
-  left = (left-where net ring node low member).1 c.left;
+complete-node : (items : Items) (fails : ℕ) (b : List RingEntry) → items.fails ≡ fails
+    → NodeIsComplete items b → IsNodeDone (replies_in items.answers) fails b
+complete-node items fails b count c = record {
+  fits = node-each items b c.replied c.done;
+  noticed = notices-ended items fails b count c.noticed;
+}
+
+-- a controller and its node are complete where they were done, and the other way
+log-complete : (plant : Plant) (scans : ℕ) (ring : List RingEntry) (plan : ControllerPlan)
+    (log : ControllerLog) (status : NodeStatus) (is_done : Bool)
+    → status ≡ status_at plant.net ring log.node
+    → (is_done ≡ true → ControllerIsComplete (fixed_of plant scans plan) log.entries)
+    → IsControllerDone scans status log is_done (own log.node ring)
+    → IsCompleteLog plant scans ring plan log
+log-complete plant scans ring plan log status is_done at whole d = (
+  whole d.done,
+  subst (λ (s : NodeStatus). (s ≡ Gone)
+      ⊎ ((s ≡ Away) × StaysOff (fixed_of plant scans plan) log.entries)) at
+      (out-from status (fixed_of plant scans plan) log.entries d.out),
+  node-complete (items_of log.entries) _ (own log.node ring) (fails-of log.entries) d.node,
+)
+
+complete-log : (plant : Plant) (scans : ℕ) (ring : List RingEntry) (plan : ControllerPlan)
+    (log : ControllerLog) (status : NodeStatus) (is_done : Bool)
+    → status ≡ status_at plant.net ring log.node
+    → (ControllerIsComplete (fixed_of plant scans plan) log.entries → is_done ≡ true)
+    → IsCompleteLog plant scans ring plan log
+    → IsControllerDone scans status log is_done (own log.node ring)
+complete-log plant scans ring plan log status is_done at whole c = record {
+  done = whole c.0;
+  out =
+      out-by status (fixed_of plant scans plan) log.entries
+      (subst (λ (s : NodeStatus). (s ≡ Gone)
+      ⊎ ((s ≡ Away) × StaysOff (fixed_of plant scans plan) log.entries)) (sym at) c.1);
+  node = complete-node (items_of log.entries) _ (own log.node ring) (fails-of log.entries) c.2;
+}
+
+-- so it is with a host
+host-complete : (plant : Plant) (ring : List RingEntry) (plan : HostPlan) (log : HostLog)
+    (status : NodeStatus) (is_done : Bool) → status ≡ status_at plant.net ring log.node
+    → (is_done ≡ true → EndsEachCall (host_items_of log.entries))
+    → IsHostNodeDone plan status log is_done (own log.node ring)
+    → IsCompleteHostLog plant ring plan log
+host-complete plant ring plan log status is_done at whole d = (
+  record {
+    answered = whole d.done;
+    holds = holds-from plan (own log.node ring) d.asks;
+    asked = all-from plan (own log.node ring) d.asks;
+  },
+  sym at ∙ d.gone,
+  node-complete (host_items_of log.entries) 0 (own log.node ring)
+      (host-fails no_items log.entries) d.node,
+)
+
+complete-host : (plant : Plant) (ring : List RingEntry) (plan : HostPlan) (log : HostLog)
+    (status : NodeStatus) (is_done : Bool) → status ≡ status_at plant.net ring log.node
+    → (EndsEachCall (host_items_of log.entries) → is_done ≡ true)
+    → IsCompleteHostLog plant ring plan log
+    → IsHostNodeDone plan status log is_done (own log.node ring)
+complete-host plant ring plan log status is_done at whole c = record {
+  done = whole c.0.answered;
+  gone = at ∙ c.1;
+  node =
+      complete-node (host_items_of log.entries) 0 (own log.node ring)
+      (host-fails no_items log.entries) c.2;
+  asks = host-each plan (own log.node ring) c.0.holds c.0.asked;
 }
 
 -- all stations of an address are complete where they were done
-pub at-complete : (plant : Plant) (scans : ℕ) (joint : Joint) (done hosts_done : List Bool)
-    (node : ℕ) (b : List RingEntry) → IsPlant plant → HasSections plant joint
-    → AreDone plant scans joint done → AreHostsDone plant joint hosts_done
-    → b ≡ own node joint.ring
-    → AreControllersDone joint.controllers done node b
-    → AreHostNodesDone plant.hosts joint.hosts hosts_done node b
+pub at-complete : (plant : Plant) (scans : ℕ) (joint : Joint) (followed : Followed) (node : ℕ)
+    (on : Standing) → IsPlant plant → HasSections plant joint
+    → IsFollowed plant scans joint followed → IsStandingOf joint plant.net node on
+    → AreControllersDone scans joint.controllers followed.done.now on.node on.status
+    (entries_on on)
+    → AreHostNodesDone plant.hosts joint.hosts followed.hosts_done.now on.node on.status
+    (entries_on on)
     → IsCompleteAt plant scans joint node
-at-complete plant scans joint done hosts_done node b sound sections are hosts_are is controllers
-    hosts = record {
+at-complete plant scans joint followed node on sound sections is stands controllers hosts =
+    let own-is = stands-own joint plant.net node on stands in
+    subst (IsCompleteAt plant scans joint) stands.node_is (record {
       controllers = λ k d low.
           let size = same-size plan_node log_node plant.controllers joint.controllers
           sections.controllers in
           let n = length-zip plant.controllers joint.controllers in
-          subst (λ (of : ControllerPlan × ControllerLog). of.1.node ≡ node
+          subst (λ (of : ControllerPlan × ControllerLog). of.1.node ≡ on.node
           → IsCompleteLog plant scans joint.ring of.0 of.1)
           (sym (get_or-zip plant.controllers joint.controllers k d (omega (arith, size, n))
           (omega (arith, size, n))))
           (λ same.
-          let fits = controllers k d.1 (omega (arith, size, n)) same in
-          let of-own = subst (IsNodeDone (get_or done k false)) is fits in
+          let log = get_or joint.controllers k d.1 in
           let member = controllers-all plant joint sound sections (Contains plant.net.members)
-          (members-in plant.net.members) k d.1 (omega (arith, size, n)) in (
-            (are.each k d.0 d.1 (omega (arith, size, n))).0 fits.done,
-            node-complete plant.net joint.ring (get_or joint.controllers k d.1).node
-                (get_or done k false) (members-low plant sound) member
-                (subst (λ (m : ℕ). IsNodeDone (get_or done k false) (own m joint.ring)) (sym same)
-                of-own),
-          ));
+          (members-in plant.net.members) k d.1 (omega (arith, size, n)) in
+          log-complete plant scans joint.ring (get_or plant.controllers k d.0) log on.status
+          (get_or followed.done.now k false)
+          (stands-at joint plant.net node log.node on stands member same)
+          (is.done.each k d.0 d.1 (omega (arith, size, n))).0
+          (subst (IsControllerDone scans on.status log (get_or followed.done.now k false))
+          (own-is ∙ ap (λ (m : ℕ). own m joint.ring) (sym same))
+          (controllers k d.1 (omega (arith, size, n)) same)));
       hosts = λ k d low.
           let size = same-size host_plan_node host_log_node plant.hosts joint.hosts
           sections.hosts in
           let n = length-zip plant.hosts joint.hosts in
-          subst (λ (of : HostPlan × HostLog). of.1.node ≡ node
+          subst (λ (of : HostPlan × HostLog). of.1.node ≡ on.node
           → IsCompleteHostLog plant joint.ring of.0 of.1)
           (sym (get_or-zip plant.hosts joint.hosts k d (omega (arith, size, n))
           (omega (arith, size, n))))
           (λ same.
-          let fits = hosts k d.0 d.1 (omega (arith, size, n)) same in
-          let of-own = subst (λ (l : List RingEntry). IsHostNodeDone (get_or plant.hosts k d.0)
-          (get_or hosts_done k false) l) (is ∙ ap (λ (m : ℕ). own m joint.ring) (sym same)) fits in
+          let log = get_or joint.hosts k d.1 in
           let member = hosts-all plant joint sound sections (Contains plant.net.members)
-          (members-in plant.net.members) k d.1 (omega (arith, size, n)) in (
-            record {
-              answered = (hosts_are.each k d.1 (omega (arith, size, n))).0 fits.node.done;
-              holds =
-                  holds-from (get_or plant.hosts k d.0)
-                  (own (get_or joint.hosts k d.1).node joint.ring) of-own.asks;
-              asked =
-                  all-from (get_or plant.hosts k d.0)
-                  (own (get_or joint.hosts k d.1).node joint.ring)
-                  of-own.asks;
-            },
-            node-complete plant.net joint.ring (get_or joint.hosts k d.1).node
-                (get_or hosts_done k false) (members-low plant sound) member of-own.node,
-          ));
-    }
+          (members-in plant.net.members) k d.1 (omega (arith, size, n)) in
+          host-complete plant joint.ring (get_or plant.hosts k d.0) log on.status
+          (get_or followed.hosts_done.now k false)
+          (stands-at joint plant.net node log.node on stands member same)
+          (is.hosts.each k d.1 (omega (arith, size, n))).0
+          (subst (IsHostNodeDone (get_or plant.hosts k d.0) on.status log
+          (get_or followed.hosts_done.now k false))
+          (own-is ∙ ap (λ (m : ℕ). own m joint.ring) (sym same))
+          (hosts k d.0 d.1 (omega (arith, size, n)) same)));
+    })
 
 -- what holds of each pair that stands together
 pair-at : {P L : Type 0} (X : P × L → Type 0) (plans : List P) (logs : List L)
@@ -198,69 +280,142 @@ pub item-of : {X : Type 0} (xs : List X) (k : ℕ) → k < length xs → X
 item-of [] k low = absurd (omega arith)
 item-of (x ∷ xs) k low = x
 
+-- a station was done where its node was, beside what its list gives
+node-as : (P Q : List (Option (List ℕ))) (m n : ℕ) (b : List RingEntry) → P ≡ Q → m ≡ n
+    → IsNodeDone P m b → IsNodeDone Q n b
+node-as P Q m n b p q d =
+    subst (λ (replies : List (Option (List ℕ))). IsNodeDone replies n b) p
+    (subst (λ (fails : ℕ). IsNodeDone P fails b) q d)
+
+pub controller-tested : (scans node : ℕ) (status : NodeStatus) (log : ControllerLog)
+    (is_done done : Bool) (b : List RingEntry) (es : List Entry) (P : List (Option (List ℕ)))
+    (n : ℕ) → es ≡ log.entries → P ≡ replies_in (items_of es).answers
+    → n ≡ count_by is_fail es → log.node ≡ node → is_done ≡ true → IsOutBy scans status es
+    → IsTrue done ↔ IsNodeDone P n b
+    → IsTrue done ↔ (log.node ≡ node → IsControllerDone scans status log is_done b)
+controller-tested scans node status log is_done done b es P n entries answers fails same whole out
+    tested =
+    let replies : P ≡ replies_in (items_of log.entries).answers = answers
+    ∙ ap (λ (x : List Entry). replies_in (items_of x).answers) entries in
+    let count : n ≡ count_by is_fail log.entries = fails ∙ ap (count_by is_fail) entries in (
+      λ yes _. record {
+        done = whole;
+        out = subst (IsOutBy scans status) entries out;
+        node = node-as P _ n _ b replies count (tested.0 yes);
+      },
+      λ all. tested.1 (node-as _ P _ n b (sym replies) (sym count) (all same).node),
+    )
+
+pub host-tested : (node : ℕ) (status : NodeStatus) (plan : HostPlan) (log : HostLog)
+    (is_done done : Bool) (b : List RingEntry) (es : List HostEntry)
+    (P : List (Option (List ℕ))) → es ≡ log.entries
+    → P ≡ replies_in (host_items_of es).answers → log.node ≡ node → is_done ≡ true
+    → status ≡ Gone → EachAllows (HostAllows plan) b → IsTrue done ↔ IsNodeDone P 0 b
+    → IsTrue done ↔ (log.node ≡ node → IsHostNodeDone plan status log is_done b)
+host-tested node status plan log is_done done b es P entries answers same whole gone asks tested =
+    let replies : P ≡ replies_in (host_items_of log.entries).answers = answers
+    ∙ ap (λ (x : List HostEntry). replies_in (host_items_of x).answers) entries in (
+      λ yes _. record {
+        done = whole;
+        gone = gone;
+        node = node-as P _ 0 0 b replies refl (tested.0 yes);
+        asks = asks;
+      },
+      λ all. tested.1 (node-as _ P 0 0 b (sym replies) refl (all same).node),
+    )
+
 -- hosts so far, and one more
 pub hosts-more : (plans : List HostPlan) (logs : List HostLog) (done : List Bool) (node : ℕ)
-    (b : List RingEntry) (i : ℕ) (p : HostPlan) (g : HostLog)
+    (status : NodeStatus) (b : List RingEntry) (i : ℕ) (p : HostPlan) (g : HostLog)
     → ((k : ℕ) (q : HostPlan) (d : HostLog) → k < i → (get_or logs k d).node ≡ node
-    → IsHostNodeDone (get_or plans k q) (get_or done k false) b)
+    → IsHostNodeDone (get_or plans k q) status (get_or logs k d) (get_or done k false) b)
     → i < length plans → i < length logs → p ≡ get_or plans i p → g ≡ get_or logs i g
-    → (g.node ≡ node → IsHostNodeDone p (get_or done i false) b)
+    → (g.node ≡ node → IsHostNodeDone p status g (get_or done i false) b)
     → (k : ℕ) (q : HostPlan) (d : HostLog) → k < i + 1 → (get_or logs k d).node ≡ node
-    → IsHostNodeDone (get_or plans k q) (get_or done k false) b
-hosts-more plans logs done node b i p g before low-p low-g is-p is-g here k q d below same =
+    → IsHostNodeDone (get_or plans k q) status (get_or logs k d) (get_or done k false) b
+hosts-more plans logs done node status b i p g before low-p low-g is-p is-g here k q d below same =
     ⊎_elim (λ (l : k < i). before k q d l same)
     (λ (l : i ≤ k).
     let e : i ≡ k = omega arith in
-    let log : (get_or logs k d).node ≡ g.node = ap (λ (n : ℕ). (get_or logs n d).node) (sym e)
-    ∙ ap host_log_node (get_or_default logs i d g low-g ∙ sym is-g) in
+    let log : g ≡ get_or logs i d = is-g ∙ get_or_default logs i g d low-g in
     let plan : p ≡ get_or plans i q = is-p ∙ get_or_default plans i p q low-p in
-    subst (λ (n : ℕ). IsHostNodeDone (get_or plans n q) (get_or done n false) b) e
-    (subst (λ (x : HostPlan). IsHostNodeDone x (get_or done i false) b) plan
-    (here (sym log ∙ same))))
+    let mine : g.node ≡ node = ap host_log_node log
+    ∙ (ap (λ (n : ℕ). (get_or logs n d).node) e ∙ same) in
+    subst (λ (n : ℕ). IsHostNodeDone (get_or plans n q) status (get_or logs n d)
+    (get_or done n false) b) e
+    (subst (λ (x : HostLog). IsHostNodeDone (get_or plans i q) status x (get_or done i false) b)
+    log
+    (subst (λ (x : HostPlan). IsHostNodeDone x status g (get_or done i false) b) plan
+    (here mine))))
+    (cases_lt k i)
+
+-- controllers so far, and one more
+pub controllers-more : (scans : ℕ) (logs : List ControllerLog) (done : List Bool) (node : ℕ)
+    (status : NodeStatus) (b : List RingEntry) (i : ℕ) (g : ControllerLog)
+    → ((k : ℕ) (d : ControllerLog) → k < i → (get_or logs k d).node ≡ node
+    → IsControllerDone scans status (get_or logs k d) (get_or done k false) b)
+    → i < length logs → g ≡ get_or logs i g
+    → (g.node ≡ node → IsControllerDone scans status g (get_or done i false) b)
+    → (k : ℕ) (d : ControllerLog) → k < i + 1 → (get_or logs k d).node ≡ node
+    → IsControllerDone scans status (get_or logs k d) (get_or done k false) b
+controllers-more scans logs done node status b i g before low is here k d below same =
+    ⊎_elim (λ (l : k < i). before k d l same)
+    (λ (l : i ≤ k).
+    let e : i ≡ k = omega arith in
+    let log : g ≡ get_or logs i d = is ∙ get_or_default logs i g d low in
+    let mine : g.node ≡ node = ap log_node log
+    ∙ (ap (λ (n : ℕ). (get_or logs n d).node) e ∙ same) in
+    subst (λ (n : ℕ). IsControllerDone scans status (get_or logs n d) (get_or done n false) b) e
+    (subst (λ (x : ControllerLog). IsControllerDone scans status x (get_or done i false) b) log
+    (here mine)))
     (cases_lt k i)
 
 -- and they were done where they are complete
-pub controllers-done : (plant : Plant) (scans : ℕ) (joint : Joint) (done : List Bool) (node : ℕ)
-    (b : List RingEntry) → IsPlant plant → HasSections plant joint
-    → AreDone plant scans joint done → b ≡ own node joint.ring
-    → IsCompleteAt plant scans joint node → AreControllersDone joint.controllers done node b
-controllers-done plant scans joint done node b sound sections are is complete k d low same =
+pub controllers-done : (plant : Plant) (scans : ℕ) (joint : Joint) (followed : Followed)
+    (node : ℕ) (on : Standing) → IsPlant plant → HasSections plant joint
+    → IsFollowed plant scans joint followed → IsStandingOf joint plant.net node on
+    → IsCompleteAt plant scans joint node
+    → AreControllersDone scans joint.controllers followed.done.now on.node on.status
+    (entries_on on)
+controllers-done plant scans joint followed node on sound sections is stands complete k d low
+    same =
     let size = same-size plan_node log_node plant.controllers joint.controllers
     sections.controllers in
     let plan = item-of plant.controllers k (omega (arith, size)) in
+    let log = get_or joint.controllers k d in
     let pair = pair-at (λ of. of.1.node ≡ node → IsCompleteLog plant scans joint.ring of.0 of.1)
     plant.controllers joint.controllers size complete.controllers k plan d
-    (omega (arith, size)) same in
+    (omega (arith, size)) (same ∙ stands.node_is) in
     let member = controllers-all plant joint sound sections (Contains plant.net.members)
     (members-in plant.net.members) k d low in
-    subst (IsNodeDone (get_or done k false)) (ap (λ (m : ℕ). own m joint.ring) same ∙ sym is)
-    (complete-node plant.net joint.ring (get_or joint.controllers k d).node (get_or done k false)
-    (members-low plant sound) member ((are.each k plan d (omega (arith, size))).1 pair.0)
-    pair.1)
+    subst (IsControllerDone scans on.status log (get_or followed.done.now k false))
+    (ap (λ (m : ℕ). own m joint.ring) same ∙ sym (stands-own joint plant.net node on stands))
+    (complete-log plant scans joint.ring (get_or plant.controllers k plan) log on.status
+    (get_or followed.done.now k false)
+    (stands-at joint plant.net node log.node on stands member same)
+    (is.done.each k plan d (omega (arith, size))).1 pair)
 
-pub hosts-done : (plant : Plant) (scans : ℕ) (joint : Joint) (hosts_done : List Bool) (node : ℕ)
-    (b : List RingEntry) → IsPlant plant → HasSections plant joint
-    → AreHostsDone plant joint hosts_done → b ≡ own node joint.ring
+pub hosts-done : (plant : Plant) (scans : ℕ) (joint : Joint) (followed : Followed) (node : ℕ)
+    (on : Standing) → IsPlant plant → HasSections plant joint
+    → IsFollowed plant scans joint followed → IsStandingOf joint plant.net node on
     → IsCompleteAt plant scans joint node
-    → AreHostNodesDone plant.hosts joint.hosts hosts_done node b
-hosts-done plant scans joint hosts_done node b sound sections are is complete k p d low same =
+    → AreHostNodesDone plant.hosts joint.hosts followed.hosts_done.now on.node on.status
+    (entries_on on)
+hosts-done plant scans joint followed node on sound sections is stands complete k p d low same =
     let size = same-size host_plan_node host_log_node plant.hosts joint.hosts sections.hosts in
+    let log = get_or joint.hosts k d in
     let pair = pair-at (λ of. of.1.node ≡ node → IsCompleteHostLog plant joint.ring of.0 of.1)
-    plant.hosts joint.hosts size complete.hosts k p d (omega (arith, size)) same in
+    plant.hosts joint.hosts size complete.hosts k p d (omega (arith, size))
+    (same ∙ stands.node_is) in
     let member = hosts-all plant joint sound sections (Contains plant.net.members)
     (members-in plant.net.members) k d low in
-    let whole : IsHostNodeDone (get_or plant.hosts k p) (get_or hosts_done k false)
-    (own (get_or joint.hosts k d).node joint.ring) = record {
-      node =
-          complete-node plant.net joint.ring (get_or joint.hosts k d).node
-          (get_or hosts_done k false) (members-low plant sound) member
-          ((are.each k d (omega (arith, size))).1 pair.0.answered) pair.1;
-      asks =
-          host-each (get_or plant.hosts k p) (own (get_or joint.hosts k d).node joint.ring)
-          pair.0.holds pair.0.asked;
-    } in
-    subst (λ (l : List RingEntry). IsHostNodeDone (get_or plant.hosts k p)
-    (get_or hosts_done k false) l) (ap (λ (m : ℕ). own m joint.ring) same ∙ sym is) whole
+    subst (IsHostNodeDone (get_or plant.hosts k p) on.status log
+    (get_or followed.hosts_done.now k false))
+    (ap (λ (m : ℕ). own m joint.ring) same ∙ sym (stands-own joint plant.net node on stands))
+    (complete-host plant joint.ring (get_or plant.hosts k p) log on.status
+    (get_or followed.hosts_done.now k false)
+    (stands-at joint plant.net node log.node on stands member same)
+    (is.hosts.each k d (omega (arith, size))).1 pair)
 
 -- ---- all
 

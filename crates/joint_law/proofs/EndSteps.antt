@@ -10,7 +10,7 @@ use Rattle.ring_core.specs.declared.frame.FrameKind.TheVariants.{Request, Reply}
 use Rattle.ring_core.specs.declared.frame.Frame.{Frame}
 use Rattle.ring_core.specs.declared.entry.RingEntry.{RingEntry}
 use Rattle.ring_core.specs.declared.entry.RingEntry.TheVariants.{Post, Send, Take, Local, GiveUp}
-use Rattle.ring_core.specs.declared.entry.RingEntry.TheVariants.{Pass, Leave}
+use Rattle.ring_core.specs.declared.entry.RingEntry.TheVariants.{Pass, Leave, Join}
 use Rattle.tied_lists.specs.Items.{Asked, Called, Ended, Kind, Station, asked_by, asked_of}
 use Rattle.tied_lists.specs.Items.{ended_by, ended_in, ended_of, kind_in, kind_of_sort, last_asked}
 use Rattle.tied_lists.specs.Items.{or_some}
@@ -113,6 +113,7 @@ of-with station asked (Local n id op result) = refl
 of-with station asked (GiveUp id word) = refl
 of-with station asked (Pass n done words) = refl
 of-with station asked (Leave n cause) = refl
+of-with station asked (Join n) = refl
 
 pub ended-push : (station : Station) (b : List RingEntry) (e : RingEntry)
     (asked : CallId → Option (List ℕ)) → ((q : CallId) → asked q ≡ last_asked q (asked_by b))

@@ -1,9 +1,9 @@
 -- Entries that fit those before them, and what a node has done.
 use Rattle.std.proofs.Common.{◌≡◌, ℕ, ◌+◌, ◌<◌, Bool, true, false, List, [], ◌∷◌, ◌++◌, length}
-use Rattle.std.proofs.Common.{get_or, take, drop}
+use Rattle.std.proofs.Common.{get_or, take, drop, Option}
 use Rattle.std.proofs.Common.{refl, sym, ap, subst, ◌∙◌, append_assoc, arith}
 use Rattle.std.specs.Prelude.{◌||◌}
-use Rattle.std.specs.List.{list_any}
+use Rattle.std.specs.List.{Contains, list_any}
 use Rattle.std.proofs.Common.{suc}
 use Rattle.std.proofs.lemmas.List.{same_from_push, length-append, take-append-drop, drop_more}
 use Rattle.std.proofs.lemmas.List.{get_or_at}
@@ -14,12 +14,15 @@ use Rattle.ring_core.specs.declared.frame.FrameKind.TheVariants.{Request, Reply}
 use Rattle.ring_core.specs.declared.frame.Frame.{Frame}
 use Rattle.ring_core.specs.declared.entry.RingEntry.{RingEntry}
 use Rattle.ring_core.specs.declared.entry.RingEntry.TheVariants.{Post, Send, Take, Local, GiveUp}
-use Rattle.ring_core.specs.declared.entry.RingEntry.TheVariants.{Pass, Leave}
+use Rattle.ring_core.specs.declared.entry.RingEntry.TheVariants.{Pass, Leave, Join}
+use Rattle.ring_core.specs.declared.entry.LeaveCause.TheVariants.{Ended, Spent, Down}
+use Rattle.tied_lists.specs.Items.{Items, latest_down, replies_in, taken_by}
 use Rattle.joint_history.specs.Complete.{AsksAllBeforeDone, AsksInItsHolds, IsOfDone}
-use Rattle.joint_history.specs.Complete.{RepliesBeforePasses}
+use Rattle.joint_history.specs.Complete.{NoticesFailures, RepliesBeforePasses}
 use Rattle.joint_history.specs.Complete.{StandsIn, StaysDone}
 use Rattle.joint_law.specs.Completing.{AskFits, EachAllows, HasReplied, HostAllows}
-use Rattle.joint_law.specs.Completing.{NodeAllows, is_leave, progress_of, says_done}
+use Rattle.joint_law.specs.Completing.{NodeAllows, is_ended, progress_of, says_done}
+use Rattle.joint_law.proofs.Due.{due-counted}
 
 -- the last of a list that isn't empty
 last-split : (x : RingEntry) (xs : List RingEntry)
@@ -69,6 +72,7 @@ said-head (GiveUp id word) xs there rest = said-later (GiveUp id word) xs (rest 
 said-head (Pass n true words) xs there rest = ([], n, words, xs, refl)
 said-head (Pass n false words) xs there rest = said-later (Pass n false words) xs (rest there)
 said-head (Leave n cause) xs there rest = said-later (Leave n cause) xs (rest there)
+said-head (Join n) xs there rest = said-later (Join n) xs (rest there)
 
 said-split : (xs : List RingEntry) → list_any says_done xs ≡ true → Said xs
 said-split [] is = absurd (let no' : false ≡ true = is in cc)
@@ -92,12 +96,15 @@ around xs k d low =
     (drop_more xs k d low)
 
 -- each entry of a node fits where it replies before its Passes, and stays done
-pub replies-from : (b : List RingEntry) → EachAllows NodeAllows b → RepliesBeforePasses b
-replies-from b each before after n done words is =
+pub replies-from : (items : Items) (b : List RingEntry)
+    → EachAllows (NodeAllows (replies_in items.answers)) b → RepliesBeforePasses items b
+replies-from items b each before after n done words is =
     (each before after (Pass n done words) is).replied
+    ∙ sym (due-counted (taken_by before) (replies_in items.answers) b)
 
-pub done-from : (b : List RingEntry) → EachAllows NodeAllows b → StaysDone b
-done-from b each before after n words is k d low =
+pub done-from : (P : List (Option (List ℕ))) (b : List RingEntry) → EachAllows (NodeAllows P) b
+    → StaysDone b
+done-from P b each before after n words is k d low =
     let e = get_or after k d in
     let whole : b ≡ (before ++ Pass n true words ∷ take k after) ++ e ∷ drop (k + 1) after =
     is ∙ (ap (λ (l : List RingEntry). before ++ Pass n true words ∷ l) (around after k d low)
@@ -105,15 +112,19 @@ done-from b each before after n words is k d low =
     (each (before ++ Pass n true words ∷ take k after) (drop (k + 1) after) e whole).done
     (said-any before (take k after) n words)
 
-replied-at : (b : List RingEntry) (before after : List RingEntry) → RepliesBeforePasses b
-    → (e : RingEntry) → StandsIn b before e after → HasReplied (progress_of before) e
-replied-at b before after replies (Post n f) is = tt
-replied-at b before after replies (Send n heard) is = tt
-replied-at b before after replies (Take n f) is = tt
-replied-at b before after replies (Local n id op result) is = tt
-replied-at b before after replies (GiveUp id word) is = tt
-replied-at b before after replies (Pass n done words) is = replies before after n done words is
-replied-at b before after replies (Leave n cause) is = tt
+replied-at : (items : Items) (b : List RingEntry) (before after : List RingEntry)
+    → RepliesBeforePasses items b → (e : RingEntry) → StandsIn b before e after
+    → HasReplied (progress_of (replies_in items.answers) before) e
+replied-at items b before after replies (Post n f) is = tt
+replied-at items b before after replies (Send n heard) is = tt
+replied-at items b before after replies (Take n f) is = tt
+replied-at items b before after replies (Local n id op result) is = tt
+replied-at items b before after replies (GiveUp id word) is = tt
+replied-at items b before after replies (Pass n done words) is =
+    replies before after n done words is
+    ∙ due-counted (taken_by before) (replies_in items.answers) b
+replied-at items b before after replies (Leave n cause) is = tt
+replied-at items b before after replies (Join n) is = tt
 
 done-at : (b : List RingEntry) (before after : List RingEntry) (e : RingEntry) → StaysDone b
     → StandsIn b before e after → list_any says_done before ≡ true → IsOfDone e
@@ -128,11 +139,11 @@ done-at b before after e stays is said =
     subst IsOfDone (get_or_at s.3 e after e (length s.3) refl)
     (all (length s.3) e (omega (arith, size, one)))
 
-pub node-each : (b : List RingEntry) → RepliesBeforePasses b → StaysDone b
-    → EachAllows NodeAllows b
-node-each b replies stays before after e is =
+pub node-each : (items : Items) (b : List RingEntry) → RepliesBeforePasses items b → StaysDone b
+    → EachAllows (NodeAllows (replies_in items.answers)) b
+node-each items b replies stays before after e is =
     record {
-      replied = replied-at b before after replies e is;
+      replied = replied-at items b before after replies e is;
       done = done-at b before after e stays is;
     }
 
@@ -140,7 +151,8 @@ node-each b replies stays before after e is =
 pub holds-from : (plan : HostPlan) (b : List RingEntry) → EachAllows (HostAllows plan) b
     → AsksInItsHolds plan b
 holds-from plan b each before after n f ask is request there =
-    (subst (AskFits plan (progress_of before)) request (each before after (Post n f) is)) ask there
+    (subst (AskFits plan (progress_of [] before)) request (each before after (Post n f) is)) ask
+    there
 
 pub all-from : (plan : HostPlan) (b : List RingEntry) → EachAllows (HostAllows plan) b
     → AsksAllBeforeDone plan b
@@ -149,7 +161,7 @@ all-from plan b each before after n words is = each before after (Pass n true wo
 ask-at : (plan : HostPlan) (b before after : List RingEntry) (n : ℕ) (f : Frame)
     → AsksInItsHolds plan b → StandsIn b before (Post n f) after → (kind : FrameKind)
     → f.kind ≡ kind
-    → AskFits plan (progress_of before) kind
+    → AskFits plan (progress_of [] before) kind
 ask-at plan b before after n f holds is Request kind =
     λ ask there. holds before after n f ask is kind there
 ask-at plan b before after n f holds is Reply kind = tt
@@ -167,19 +179,64 @@ host-at plan b before after holds all (Pass n true words) is = λ done. all befo
 host-at plan b before after holds all (Pass n false words) is =
     λ done. absurd (let no' : false ≡ true = done in cc)
 host-at plan b before after holds all (Leave n cause) is = tt
+host-at plan b before after holds all (Join n) is = tt
 
 pub host-each : (plan : HostPlan) (b : List RingEntry) → AsksInItsHolds plan b
     → AsksAllBeforeDone plan b → EachAllows (HostAllows plan) b
 host-each plan b holds all before after e is = host-at plan b before after holds all e is
 
--- a list that has a Leave
-pub any-leave : (front : List RingEntry) (e : RingEntry) (rest : List RingEntry)
-    → is_leave e ≡ true → list_any is_leave (front ++ e ∷ rest) ≡ true
-any-leave front e rest is =
-    list_any-append is_leave front (e ∷ rest)
-    ∙ (ap (λ b. list_any is_leave front || (b || list_any is_leave rest)) is
-    ∙ or-true (list_any is_leave front))
+-- a list that has a Leave as all was done
+pub any-ended : (front : List RingEntry) (e : RingEntry) (rest : List RingEntry)
+    → is_ended e ≡ true → list_any is_ended (front ++ e ∷ rest) ≡ true
+any-ended front e rest is =
+    list_any-append is_ended front (e ∷ rest)
+    ∙ (ap (λ b. list_any is_ended front || (b || list_any is_ended rest)) is
+    ∙ or-true (list_any is_ended front))
   where
     or-true : (b : Bool) → (b || true) ≡ true
     or-true true = refl
     or-true false = refl
+
+ended-any : (b : List RingEntry) (n : ℕ) → Contains b (Leave n Ended) → list_any is_ended b ≡ true
+ended-any b n there =
+    let whole : b ≡ take there.0 b ++ Leave n Ended ∷ drop (there.0 + 1) b =
+    around b there.0 (Leave n Ended) there.1
+    ∙ ap (λ (e : RingEntry). take there.0 b ++ e ∷ drop (there.0 + 1) b) there.2 in
+    ap (list_any is_ended) whole
+    ∙ any-ended (take there.0 b) (Leave n Ended) (drop (there.0 + 1) b) refl
+
+-- some entry that left as all was done
+abbrev HasEnded : List RingEntry → Type 0
+HasEnded b = (n : ℕ) × Contains b (Leave n Ended)
+
+ended-later : (x : RingEntry) (xs : List RingEntry) → HasEnded xs → HasEnded (x ∷ xs)
+ended-later x xs more = (more.0, (suc more.1.0, let low = more.1.1 in omega (arith, low), more.1.2))
+
+ended-head : (x : RingEntry) (xs : List RingEntry) → (is_ended x || list_any is_ended xs) ≡ true
+    → (list_any is_ended xs ≡ true → HasEnded xs) → HasEnded (x ∷ xs)
+ended-head (Post n f) xs there rest = ended-later (Post n f) xs (rest there)
+ended-head (Send n heard) xs there rest = ended-later (Send n heard) xs (rest there)
+ended-head (Take n f) xs there rest = ended-later (Take n f) xs (rest there)
+ended-head (Local n id op result) xs there rest =
+    ended-later (Local n id op result) xs (rest there)
+ended-head (GiveUp id word) xs there rest = ended-later (GiveUp id word) xs (rest there)
+ended-head (Pass n done words) xs there rest = ended-later (Pass n done words) xs (rest there)
+ended-head (Leave n Ended) xs there rest = (n, (0, omega arith, refl))
+ended-head (Leave n Spent) xs there rest = ended-later (Leave n Spent) xs (rest there)
+ended-head (Leave n (Down number)) xs there rest =
+    ended-later (Leave n (Down number)) xs (rest there)
+ended-head (Join n) xs there rest = ended-later (Join n) xs (rest there)
+
+ended-split : (b : List RingEntry) → list_any is_ended b ≡ true → HasEnded b
+ended-split [] is = absurd (let no' : false ≡ true = is in cc)
+ended-split (x ∷ xs) is = ended-head x xs is (ended-split xs)
+
+-- a node that has ended noticed so many failures
+pub noticed-from : (items : Items) (fails : ℕ) (b : List RingEntry) → items.fails ≡ fails
+    → (list_any is_ended b ≡ true → fails ≡ latest_down b) → NoticesFailures items b
+noticed-from items fails b count notices n there = count ∙ notices (ended-any b n there)
+
+pub notices-ended : (items : Items) (fails : ℕ) (b : List RingEntry) → items.fails ≡ fails
+    → NoticesFailures items b → list_any is_ended b ≡ true → fails ≡ latest_down b
+notices-ended items fails b count notices is =
+    let ended = ended-split b is in sym count ∙ notices ended.0 ended.1

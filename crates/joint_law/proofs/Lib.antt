@@ -1,6 +1,7 @@
 pub mod Lists
-pub mod Agreeing
 pub mod AnswerSteps
+pub mod Due
+pub mod Founded
 pub mod CallKeys
 pub mod CourseEnds
 pub mod CourseSteps
@@ -8,9 +9,10 @@ pub mod EndCounts
 pub mod EndSteps
 pub mod Fitting
 pub mod LawSteps
-pub mod Leaving
 pub mod Progress
 pub mod RingSteps
 pub mod OwnPlaces
+pub mod Outside
 pub mod Verdicts
 pub mod AtNodes
+pub mod Agreeing

@@ -106,7 +106,7 @@ next-answers a entries.Fail = sym (append-nil a.answers)
 next-answers a entries.Dark = sym (append-nil a.answers)
 next-answers a (entries.Collect calls) = sym (append-nil a.answers)
 next-answers a (entries.Peer id request reply) = refl
-next-answers a (entries.Off id request) = sym (append-nil a.answers)
+next-answers a (entries.Off id request) = refl
 next-answers a (entries.Finish id result) = sym (append-nil a.answers)
 
 next-ends : (a : Items) (e : Entry)

@@ -10,7 +10,7 @@ use Rattle.ring_core.specs.Bare.{IsBehind, bare_net}
 use Rattle.ring_core.specs.Legal.{IsLegalRing, IsRingStep, IsRun}
 use Rattle.ring_core.proofs.Runs.{IsLegal-push}
 use Rattle.joint_law.specs.Differing.{BreaksAt}
-use Rattle.joint_law.specs.RingFollowing.{RingFollowed}
+use Rattle.joint_law.specs.RingFollowing.{IsRingBehind, RingFollowed}
 use Rattle.joint_law.proofs.Lists.{not-true, take-push}
 
 -- the last entry of a run is a step
@@ -45,18 +45,12 @@ ring-breaks net entries place e past old new false net-is past-is legal low is f
           (subst (λ (n : NetPlan). IsRingStep n (take place entries) e) (sym net-is) step));
     }
 
--- what holds of a ring behind so many entries
-pub record HasCome (net : NetPlan) (entries : List RingEntry) (place : ℕ) (bare : BareRing)
-    : Type 0 where
-  pub net_is : bare_net bare ≡ net
-  pub behind : IsBehind (take place entries) bare
-  pub legal : IsLegalRing net (take place entries)
-
 pub ring-goes-on : (net : NetPlan) (entries : List RingEntry) (place : ℕ) (e : RingEntry)
     (past : List RingEntry) (old new : BareRing) (b : Bool)
     → bare_net old ≡ net → past ≡ take place entries → IsLegalRing net (take place entries)
     → place < length entries → e ≡ get_or entries place e
-    → RingFollowed past old e new b → b ≡ true → HasCome net entries (place + 1) new
+    → RingFollowed past old e new b → b ≡ true
+    → IsRingBehind net (take (place + 1) entries) new
 ring-goes-on net entries place e past old new true net-is past-is legal low is done sure =
     let push = take-push entries place e low is in
     let step = subst (λ (n : NetPlan). IsRingStep n (take place entries) e) net-is

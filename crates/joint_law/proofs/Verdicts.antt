@@ -33,11 +33,13 @@ use Rattle.joint_law.specs.AllComplete.{IsFirstIncomplete}
 use Rattle.joint_law.specs.Bound.{Bound, BreaksLaw, KeepsLaw, bounds_of, controller_bound}
 use Rattle.joint_law.specs.Bound.{host_bound}
 use Rattle.joint_law.specs.Differing.{BreaksAt, DifferAt}
+use Rattle.joint_law.specs.Failing.{AreFounded}
+use Rattle.tied_lists.specs.Items.{downs_by}
 use Rattle.joint_law.specs.LawEnds.{AllKeep, IsFirstBreak, IsLawsEnd}
 use Rattle.joint_law.specs.Spots.{AreLegalHostLogs, AreLegalLogs, HasSections, IsCompleteAt}
 use Rattle.joint_law.specs.Spots.{IsFirstSpot, IsSpot, IsVerdict, IsWholeRun}
 use Rattle.joint_law.specs.declared.law.Law.{Law}
-use Rattle.joint_law.specs.declared.law.Law.TheVariants.{Asks, Answers, Replies, Ends}
+use Rattle.joint_law.specs.declared.law.Law.TheVariants.{Asks, Answers, Replies, Ends, Downs}
 use Rattle.joint_law.specs.declared.verdict.Spot.{Spot}
 use Rattle.joint_law.specs.declared.verdict.Spot.TheVariants as spots
 use Rattle.joint_law.specs.declared.verdict.Verdict.{Verdict}
@@ -45,6 +47,7 @@ use Rattle.joint_law.specs.declared.verdict.Verdict.TheVariants.{Legal, Illegal}
 use Rattle.joint_law.proofs.AtNodes.{all-complete, bounds-low}
 use Rattle.joint_law.proofs.CourseSteps.{same-size, zip-at, zip-map}
 use Rattle.joint_law.proofs.LawSteps.{keeps-joined}
+use Rattle.joint_law.proofs.Founded.{founded-front}
 
 -- ---- sections
 
@@ -90,6 +93,7 @@ keeps-joint joint all =
     let answers = each-of Answers joint (all Answers) in
     let replies = each-of Replies joint (all Replies) in
     let ends = each-of Ends joint (all Ends) in
+    let downs = each-of Downs joint (all Downs) in
     record {
       controllers = λ k d low. record {
         asks = asks.0 k d low;
@@ -97,6 +101,7 @@ keeps-joint joint all =
         port = (answers.0 k d low).1;
         replies = replies.0 k d low;
         ends = ends.0 k d low;
+        downs = downs.0 k d low;
       };
       hosts = λ k d low. record {
         asks = asks.1 k d low;
@@ -104,6 +109,7 @@ keeps-joint joint all =
         port = (answers.1 k d low).1;
         replies = replies.1 k d low;
         ends = ends.1 k d low;
+        downs = downs.1 k d low;
       };
     }
 
@@ -113,6 +119,7 @@ controller-keeps Asks ring log t = t.asks
 controller-keeps Answers ring log t = (t.peers, t.port)
 controller-keeps Replies ring log t = t.replies
 controller-keeps Ends ring log t = t.ends
+controller-keeps Downs ring log t = t.downs
 
 host-keeps : (law : Law) (ring : List RingEntry) (log : HostLog) → IsTiedHost ring log
     → KeepsLaw law (host_bound ring log)
@@ -120,6 +127,7 @@ host-keeps Asks ring log t = t.asks
 host-keeps Answers ring log t = (t.peers, t.port)
 host-keeps Replies ring log t = t.replies
 host-keeps Ends ring log t = t.ends
+host-keeps Downs ring log t = t.downs
 
 pub joint-keeps : (joint : Joint) (law : Law) → IsJoint joint
     → All (KeepsLaw law) (bounds_of joint)
@@ -228,6 +236,9 @@ kept-unbroken Answers s place keeps breaks =
     no-difference _ _ place (keeps-joined s.items.answers s.ring keeps.0 keeps.1) breaks
 kept-unbroken Replies s place keeps breaks = no-difference _ _ place keeps breaks
 kept-unbroken Ends s place keeps breaks = no-difference _ _ place keeps breaks
+kept-unbroken Downs s place keeps breaks =
+    no-break (AreFounded s.items.fails) (founded-front s.items.fails) (downs_by s.ring) place keeps
+    breaks
 
 -- some pair that stands together
 pub some-pair : {P L : Type 0} (R : P → L → Type 0) (X : P × L → Type 0) (plans : List P)

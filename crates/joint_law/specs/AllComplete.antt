@@ -1,38 +1,110 @@
 -- Which stations were done. This project's own.
-use Rattle.std.specs.Prelude.{◌≡◌, ℕ, ◌<◌, Bool, true, false, List, get_or, length, Option, Some}
-use Rattle.std.specs.Prelude.{None}
+use Rattle.std.specs.Prelude.{◌≡◌, ℕ, ◌<◌, Bool, true, false, List, [], ◌∷◌, get_or, length}
+use Rattle.std.specs.Prelude.{count_by, Option, Some, None}
 use Rattle.std.specs.List.{list_any}
 use Rattle.plant_types.specs.declared.net.HostPlan.{HostPlan}
+use Rattle.plant_types.specs.declared.net.NetPlan.{NetPlan}
 use Rattle.plant_types.specs.declared.plan.Plant.{Plant}
 use Rattle.ring_core.specs.Machine.{addresses}
+use Rattle.ring_core.specs.Legal.{IsMember}
 use Rattle.ring_core.specs.declared.entry.RingEntry.{RingEntry}
+use Rattle.ring_core.specs.declared.status.NodeStatus.{NodeStatus}
+use Rattle.ring_core.specs.declared.status.NodeStatus.TheVariants.{In, Away, Asking, Gone}
+use Rattle.controller_core.specs.declared.entry.Entry.{Entry}
+use Rattle.controller_core.specs.declared.entry.Entry.TheVariants.{Begin, Fail}
+use Rattle.tied_lists.specs.Items.{latest_down, replies_in}
+use Rattle.tied_lists.specs.Waits.{status_at}
 use Rattle.joint_history.specs.declared.joint.ControllerLog.{ControllerLog}
 use Rattle.joint_history.specs.declared.joint.HostLog.{HostLog}
 use Rattle.joint_history.specs.declared.joint.Joint.{Joint}
-use Rattle.joint_law.specs.Completing.{EachAllows, HostAllows, NodeAllows, is_leave}
+use Rattle.joint_history.specs.Complete.{is_scan_end}
+use Rattle.joint_history.specs.Reading.{host_items_of, items_of}
+use Rattle.joint_law.specs.AllCourses.{AreDone, AreHostsDone}
+use Rattle.joint_law.specs.Completing.{EachAllows, HostAllows, NodeAllows, is_ended}
+use Rattle.joint_law.specs.Failing.{is_fail}
+use Rattle.joint_law.specs.Picked.{AreOfNode, picked}
+use Rattle.joint_law.specs.RingFollowing.{IsRingBehind}
 use Rattle.joint_law.specs.Spots.{IsCompleteAt}
+use Rattle.joint_law.specs.declared.complete.Followed.{Followed}
+use Rattle.joint_law.specs.declared.complete.Standing.{Standing}
 
--- A station was done, and its node on the ring.
-pub record IsNodeDone (is_done : Bool) (b : List RingEntry) : Type 0 where
+-- What following all lists has shown is so.
+pub record IsFollowed (plant : Plant) (scans : ℕ) (joint : Joint) (followed : Followed)
+    : Type 0 where
+  pub done : AreDone plant scans joint followed.done.now
+  pub hosts : AreHostsDone plant joint followed.hosts_done.now
+  pub ring : IsRingBehind plant.net joint.ring followed.ring.now
+
+-- The entries of a node on the ring.
+abbrev pub entries_on : Standing → List RingEntry
+entries_on on = picked on.ring.now on.places.now
+
+-- A node stands so behind the ring's whole list, if it is a member.
+pub record IsStandingOf (joint : Joint) (net : NetPlan) (node : ℕ) (on : Standing) : Type 0 where
+  pub node_is : on.node ≡ node
+  pub ring_is : on.ring.now ≡ joint.ring
+  pub places : AreOfNode on.ring.now node on.places.now
+  pub status : IsMember net node → on.status ≡ status_at net joint.ring node
+
+-- A node was done on the ring, whose station gave such replies and lost its power so often.
+pub record IsNodeDone (answers : List (Option (List ℕ))) (fails : ℕ) (b : List RingEntry)
+    : Type 0 where
+  pub fits : EachAllows (NodeAllows answers) b
+  pub noticed : list_any is_ended b ≡ true → fails ≡ latest_down b
+
+-- There is power behind an entry, or none.
+abbrev pub powered_next : Bool → Entry → Bool
+powered_next powered Begin = true
+powered_next powered Fail = false
+powered_next powered _ = powered
+
+-- There is power behind these entries, or none.
+abbrev pub powered_from : Bool → List Entry → Bool
+powered_from powered [] = powered
+powered_from powered (e ∷ es) = powered_from (powered_next powered e) es
+
+-- All scans of a controller are gone, and there is no power.
+pub record IsWithoutPower (scans : ℕ) (entries : List Entry) : Type 0 where
+  pub scans_gone : count_by is_scan_end entries ≡ scans
+  pub off : powered_from true entries ≡ false
+
+-- A controller with these entries is out of the ring: its node is gone, or it is away and stays
+-- without power.
+abbrev pub IsOutBy : ℕ → NodeStatus → List Entry → Type 0
+IsOutBy scans In entries = ⊥
+IsOutBy scans Away entries = IsWithoutPower scans entries
+IsOutBy scans Asking entries = ⊥
+IsOutBy scans Gone entries = Unit {0}
+
+-- A controller was done, and its node on the ring.
+pub record IsControllerDone (scans : ℕ) (status : NodeStatus) (log : ControllerLog)
+    (is_done : Bool) (b : List RingEntry) : Type 0 where
   pub done : is_done ≡ true
-  pub fits : EachAllows NodeAllows b
-  pub left : list_any is_leave b ≡ true
+  pub out : IsOutBy scans status log.entries
+  pub node : IsNodeDone (replies_in (items_of log.entries).answers)
+      (count_by is_fail log.entries) b
 
--- A host's station was done, its node on the ring, and it asked nothing too early.
-pub record IsHostNodeDone (plan : HostPlan) (is_done : Bool) (b : List RingEntry) : Type 0 where
-  pub node : IsNodeDone is_done b
+-- A host was done, its node on the ring, and it asked nothing too early.
+pub record IsHostNodeDone (plan : HostPlan) (status : NodeStatus) (log : HostLog)
+    (is_done : Bool) (b : List RingEntry) : Type 0 where
+  pub done : is_done ≡ true
+  pub gone : status ≡ Gone
+  pub node : IsNodeDone (replies_in (host_items_of log.entries).answers) 0 b
   pub asks : EachAllows (HostAllows plan) b
 
 -- Each controller of a node was done, and its node on the ring.
-abbrev pub AreControllersDone : List ControllerLog → List Bool → ℕ → List RingEntry → Type 0
-AreControllersDone logs done node b = (k : ℕ) (d : ControllerLog) → k < length logs
-    → (get_or logs k d).node ≡ node → IsNodeDone (get_or done k false) b
+abbrev pub AreControllersDone : ℕ → List ControllerLog → List Bool → ℕ → NodeStatus
+    → List RingEntry → Type 0
+AreControllersDone scans logs done node status b = (k : ℕ) (d : ControllerLog) → k < length logs
+    → (get_or logs k d).node ≡ node
+    → IsControllerDone scans status (get_or logs k d) (get_or done k false) b
 
 -- Each host of a node was done, its node on the ring, and it asked nothing too early.
-abbrev pub AreHostNodesDone : List HostPlan → List HostLog → List Bool → ℕ → List RingEntry
-    → Type 0
-AreHostNodesDone plans logs done node b = (k : ℕ) (p : HostPlan) (d : HostLog) → k < length logs
-    → (get_or logs k d).node ≡ node → IsHostNodeDone (get_or plans k p) (get_or done k false) b
+abbrev pub AreHostNodesDone : List HostPlan → List HostLog → List Bool → ℕ → NodeStatus
+    → List RingEntry → Type 0
+AreHostNodesDone plans logs done node status b = (k : ℕ) (p : HostPlan) (d : HostLog)
+    → k < length logs → (get_or logs k d).node ≡ node
+    → IsHostNodeDone (get_or plans k p) status (get_or logs k d) (get_or done k false) b
 
 -- The first node whose stations are not complete; none where all are.
 abbrev pub IsFirstIncomplete : Plant → ℕ → Joint → Option ℕ → Type 0

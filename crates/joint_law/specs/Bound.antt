@@ -1,19 +1,21 @@
--- The four laws of a station, by the two lists that each compares. This project's own.
+-- The five laws of a station, by what each compares. This project's own.
 use Rattle.std.specs.Prelude.{ℕ, Bool, true, false, List, [], ◌++◌, map, filter_map}
 use Rattle.ring_core.specs.declared.entry.RingEntry.{RingEntry}
 use Rattle.tied_lists.specs.Own.{own}
 use Rattle.tied_lists.specs.Items.{AController, AHost, Answered, Item, Items, Station, asked_by}
+use Rattle.tied_lists.specs.Items.{downs_by}
 use Rattle.tied_lists.specs.Items.{due_replies, ended_by, item_of, net_ask, plain_items}
 use Rattle.tied_lists.specs.Items.{port_answers, replied_by, replies_in, stats_items, taken_by}
 use Rattle.tied_lists.specs.Tied.{AsksAreCalls, PeersAreTaken, PortIsTaken, RepliesAreDue}
-use Rattle.tied_lists.specs.Tied.{EndsAreMet}
+use Rattle.tied_lists.specs.Tied.{EndsAreMet, DownsAreFails}
 use Rattle.joint_history.specs.declared.joint.ControllerLog.{ControllerLog}
 use Rattle.joint_history.specs.declared.joint.HostLog.{HostLog}
 use Rattle.joint_history.specs.declared.joint.Joint.{Joint}
 use Rattle.joint_history.specs.Reading.{items_of, host_items_of}
-use Rattle.joint_law.specs.Differing.{DifferAt}
+use Rattle.joint_law.specs.Differing.{BreaksAt, DifferAt}
+use Rattle.joint_law.specs.Failing.{AreFounded}
 use Rattle.joint_law.specs.declared.law.Law.{Law}
-use Rattle.joint_law.specs.declared.law.Law.TheVariants.{Asks, Answers, Replies, Ends}
+use Rattle.joint_law.specs.declared.law.Law.TheVariants.{Asks, Answers, Replies, Ends, Downs}
 
 -- A station with what the laws read: the items of its list, and its node's entries on the ring.
 pub record Bound : Type 0 where
@@ -52,6 +54,7 @@ number_of Asks = 1
 number_of Answers = 2
 number_of Replies = 3
 number_of Ends = 4
+number_of Downs = 5
 
 -- A request that was answered, and whether it asked for statistics.
 pub record Sorted : Type 0 where
@@ -83,8 +86,10 @@ KeepsLaw Asks s = AsksAreCalls s.items s.ring
 KeepsLaw Answers s = PeersAreTaken s.items s.ring × PortIsTaken s.ring
 KeepsLaw Replies s = RepliesAreDue s.items s.ring
 KeepsLaw Ends s = EndsAreMet s.station s.items s.ring
+KeepsLaw Downs s = DownsAreFails s.items s.ring
 
--- A station breaks a law at a place, the first at which the two lists of the law differ.
+-- A station breaks a law at a place: the first at which the two lists of the law differ, or the
+-- first of the node's Downs that no power failure founds.
 abbrev pub BreaksLaw : Law → Bound → ℕ → Type 0
 BreaksLaw Asks s place = DifferAt (asked_by s.ring) (filter_map net_ask s.items.calls) place
 BreaksLaw Answers s place =
@@ -94,3 +99,4 @@ BreaksLaw Replies s place =
     (due_replies (taken_by s.ring) (replies_in s.items.answers) (replies_in (port_answers s.ring)))
     place
 BreaksLaw Ends s place = DifferAt s.items.ends (ended_by s.station [] s.ring) place
+BreaksLaw Downs s place = BreaksAt (AreFounded s.items.fails) (downs_by s.ring) place

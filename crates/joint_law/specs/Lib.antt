@@ -1,11 +1,11 @@
 pub mod Agreement
-pub mod AllComplete
-pub mod AllCourses
+pub mod Differing
+pub mod Failing
+pub mod Taking
+pub mod Completing
 pub mod Bound
 pub mod Comparing
-pub mod Completing
 pub mod Courses
-pub mod Differing
 pub mod Endings
 pub mod Ends
 pub mod Judgements
@@ -16,4 +16,5 @@ pub mod Picked
 pub mod Readings
 pub mod RingFollowing
 pub mod Spots
-pub mod Taking
+pub mod AllCourses
+pub mod AllComplete

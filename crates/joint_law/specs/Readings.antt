@@ -20,11 +20,13 @@ host_call_in _ = None
 -- The answer that an entry of a controller adds.
 abbrev pub answer_in : Entry → Option Answered
 answer_in (entries.Peer id request reply) =
-    Some (record { id = id; request = Some request; reply = reply })
+    Some (record { id = id; request = Some request; reply = Some reply })
+answer_in (entries.Off id request) =
+    Some (record { id = id; request = Some request; reply = None })
 answer_in _ = None
 
 -- The answer that an entry of a host adds.
 abbrev pub host_answer_in : HostEntry → Option Answered
 host_answer_in (host_entries.Served id request reply) =
-    Some (record { id = id; request = Some request; reply = reply })
+    Some (record { id = id; request = Some request; reply = Some reply })
 host_answer_in _ = None

@@ -1,7 +1,8 @@
 -- Requests that are taken, and what is due to them. This project's own.
-use Rattle.std.specs.Prelude.{◌≡◌, ℕ, Bool, true, false, List, [], ◌∷◌, ◌++◌}
-use Rattle.tied_lists.specs.Items.{ForStats, Item, Plain, Taken, due_replies, plain_items, rest_of}
-use Rattle.tied_lists.specs.Items.{stats_items}
+use Rattle.std.specs.Prelude.{◌≡◌, ℕ, ◌+◌, Bool, true, false, List, [], ◌∷◌, ◌++◌, Option}
+use Rattle.std.specs.Prelude.{Some, None}
+use Rattle.tied_lists.specs.Items.{ForStats, Item, Plain, Taken, due_replies, first_reply}
+use Rattle.tied_lists.specs.Items.{plain_items, rest_of, stats_items}
 
 -- The requests that were taken for the port, or those for the station.
 abbrev pub items_for : Bool → List Taken → List Item
@@ -9,20 +10,33 @@ items_for true taken = stats_items taken
 items_for false taken = plain_items taken
 
 -- What is left of the answers of a station behind those to some requests.
-abbrev pub left_plain : List Taken → List (List ℕ) → List (List ℕ)
+abbrev pub left_plain : List Taken → List (Option (List ℕ)) → List (Option (List ℕ))
 left_plain [] peers = peers
 left_plain (Plain id pdu ∷ ts) peers = left_plain ts (rest_of peers)
 left_plain (ForStats id pdu ∷ ts) peers = left_plain ts peers
 
 -- What is left of the answers of a port behind those to some requests.
-abbrev pub left_stats : List Taken → List (List ℕ) → List (List ℕ)
+abbrev pub left_stats : List Taken → List (Option (List ℕ)) → List (Option (List ℕ))
 left_stats [] locals = locals
 left_stats (Plain id pdu ∷ ts) locals = left_stats ts locals
 left_stats (ForStats id pdu ∷ ts) locals = left_stats ts (rest_of locals)
 
+-- How many Replies an answer of a station makes due: none where there was no power.
+abbrev pub one_due : Option (Option (List ℕ)) → ℕ
+one_due None = 1
+one_due (Some None) = 0
+one_due (Some (Some reply)) = 1
+
+-- How many Replies are due for some requests, where the port answers each of its own.
+abbrev pub due_count : List Taken → List (Option (List ℕ)) → ℕ
+due_count [] answers = 0
+due_count (Plain id pdu ∷ ts) answers =
+    one_due (first_reply answers) + due_count ts (rest_of answers)
+due_count (ForStats id pdu ∷ ts) answers = 1 + due_count ts answers
+
 -- What is due to some more of them was added, and their answers were used.
-pub record DueNext (taken : List Taken) (list : List Item) (peers locals : List (List ℕ))
-    (list' : List Item) (peers' locals' : List (List ℕ)) : Type 0 where
+pub record DueNext (taken : List Taken) (list : List Item) (peers locals : List (Option (List ℕ)))
+    (list' : List Item) (peers' locals' : List (Option (List ℕ))) : Type 0 where
   pub list_is : list' ≡ list ++ due_replies taken peers locals
   pub peers_are : peers' ≡ left_plain taken peers
   pub locals_are : locals' ≡ left_stats taken locals

@@ -58,7 +58,7 @@ fn add_answer(alloc: Global, list: &mut Vec<Served>, entry: &Entry) -> Result<()
         ≡ list.old.items ++ map (sorted_answer false) (cons_option (answer_in entry.now) [])) }
 {
     match entry {
-        Entry::Peer { id, request, .. } => {
+        Entry::Peer { id, request, .. } | Entry::Off { id, request } => {
             list.push(serving(alloc, false, *id, request)?)?;
             Ok(())
         }

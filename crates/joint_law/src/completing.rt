@@ -1,15 +1,22 @@
 //! Whether a node was done on the ring.
-ghost use Rattle.std.specs.Prelude.{◌≡◌, ◌↔◌, [], IsTrue};
-ghost use Rattle.std.specs.List.{list_any};
+ghost use Rattle.std.specs.Prelude.{◌≡◌, ◌↔◌, ◌≤◌, ℕ, List, Option, [], true, IfOk, IsTrue};
+ghost use Rattle.std.specs.List.{cons_option, list_any};
 ghost use Rattle.joint_history.specs.Complete.{IsOfDone};
+ghost use Rattle.tied_lists.specs.Items.{first_reply, last_from, latest_down, rest_of, taken_in};
+ghost use Rattle.tied_lists.specs.Items.{taken_of};
 ghost use Rattle.joint_law.specs.Completing.{EachAllows, HostAllows, HostFits, IsInHold};
-ghost use Rattle.joint_law.specs.Completing.{IsShort, NodeAllows, NodeFits, is_leave};
+ghost use Rattle.joint_law.specs.Completing.{IsShort, NodeAllows, NodeFits, is_ended};
 ghost use Rattle.joint_law.specs.Completing.{passed_next, posted_next, progress_next};
 ghost use Rattle.joint_law.specs.Completing.{progress_of, taken_next};
 ghost use Rattle.joint_law.specs.Picked.{AreWithin, picked};
+ghost use Rattle.joint_law.specs.Taking.{due_count, left_plain, one_due};
 
+use crate::failing::downs;
+use crate::replying::Replies;
 use plant_types::HostPlan;
-use ring_core::{FrameKind, RingEntry};
+use ring_core::{Frame, FrameKind, LeaveCause, RingEntry, is_stats};
+use std::alloc::{AllocError, Global};
+use std::collections::VecDeque;
 
 /// What a node has done so far.
 #[derive(Clone, Copy, Drop)]
@@ -17,19 +24,20 @@ pub(crate) struct Progress {
     passes: u64,
     asked: u64,
     replied: u64,
-    taken: u64,
+    /// How many Replies are due for what it took.
+    due: u64,
     /// Whether it has said that it is done.
     is_done: bool,
 }
 
 fn no_progress() -> Progress
-    ensures { result ≡ progress_of [] }
+    ensures { (answers : List (Option (List ℕ))) → result ≡ progress_of answers [] }
 {
     Progress {
         passes: 0,
         asked: 0,
         replied: 0,
-        taken: 0,
+        due: 0,
         is_done: false,
     }
 }
@@ -45,14 +53,34 @@ fn posted(mut progress: Progress, kind: FrameKind) -> Progress
     progress
 }
 
-fn took(mut progress: Progress, kind: FrameKind) -> Progress
-    requires { IsShort progress }
-    ensures { result ≡ taken_next progress kind }
+/// How many Replies the next answer of a station makes due.
+fn due_next(answers: &mut Replies) -> u64
+    ensures due { result ≡ one_due (first_reply answers.old.items) }
+    ensures left { answers.new.items ≡ rest_of answers.old.items }
 {
-    if let FrameKind::Request = kind {
-        progress.taken += 1;
+    match answers.pop_front() {
+        Some(None) => 0,
+        _ => 1,
     }
-    progress
+}
+
+/// How many Replies a Request makes due: one where it is for the port.
+fn due_for(answers: &mut Replies, frame: &Frame) -> u64
+    ensures due { result
+        ≡ due_count (cons_option (taken_in frame.now.kind frame.now) []) answers.old.items }
+    ensures left { answers.new.items
+        ≡ left_plain (cons_option (taken_in frame.now.kind frame.now) []) answers.old.items }
+{
+    match frame.kind {
+        FrameKind::Reply => 0,
+        FrameKind::Request => {
+            if is_stats(&frame.pdu) {
+                1
+            } else {
+                due_next(answers)
+            }
+        }
+    }
 }
 
 fn passed(mut progress: Progress, done: bool) -> Progress
@@ -64,14 +92,25 @@ fn passed(mut progress: Progress, done: bool) -> Progress
     progress
 }
 
-/// What a node has done behind an entry.
-fn next(progress: Progress, entry: &RingEntry) -> Progress
+fn took(mut progress: Progress, due: u64) -> Progress
+    requires short { IsShort progress }
+    requires due { due ≤ 1 }
+    ensures { result ≡ taken_next progress due }
+{
+    progress.due += due;
+    progress
+}
+
+/// What a node has done behind an entry, with these answers left before and behind it.
+fn next(progress: Progress, answers: &mut Replies, entry: &RingEntry) -> Progress
     requires { IsShort progress }
-    ensures { result ≡ progress_next progress entry.now }
+    ensures next { result ≡ progress_next answers.old.items progress entry.now }
+    ensures left { answers.new.items
+        ≡ left_plain (cons_option (taken_of entry.now) []) answers.old.items }
 {
     match entry {
         RingEntry::Post { frame, .. } => posted(progress, frame.kind),
-        RingEntry::Take { frame, .. } => took(progress, frame.kind),
+        RingEntry::Take { frame, .. } => took(progress, due_for(answers, frame)),
         RingEntry::Pass { done, .. } => passed(progress, *done),
         _ => progress,
     }
@@ -90,8 +129,8 @@ fn is_of_done(entry: &RingEntry) -> bool
     }
 }
 
-/// Whether an entry fits what its node has done: it passes the token on only once it has replied to
-/// all, and what it does fits a node that is done, if it is.
+/// Whether an entry fits what its node has done: it passes the token on only once it has posted all
+/// Replies that are due, and what it does fits a node that is done, if it is.
 fn fits(progress: Progress, entry: &RingEntry) -> bool
     ensures { IsTrue result ↔ NodeFits progress entry.now }
 {
@@ -99,15 +138,15 @@ fn fits(progress: Progress, entry: &RingEntry) -> bool
         return false;
     }
     match entry {
-        RingEntry::Pass { .. } => progress.replied == progress.taken,
+        RingEntry::Pass { .. } => progress.replied == progress.due,
         _ => true,
     }
 }
 
-/// Whether all entries of a node fit.
-pub(crate) fn all_fit(ring: &[RingEntry], places: &[usize]) -> bool
+/// Whether all entries of a node fit, whose station answered so.
+pub(crate) fn all_fit(ring: &[RingEntry], places: &[usize], mut answers: Replies) -> bool
     requires { AreWithin ring.now places.now }
-    ensures { IsTrue result ↔ EachAllows NodeAllows (picked ring.now places.now) }
+    ensures { IsTrue result ↔ EachAllows (NodeAllows answers.items) (picked ring.now places.now) }
 {
     let mut progress = no_progress();
     for place in places {
@@ -115,28 +154,64 @@ pub(crate) fn all_fit(ring: &[RingEntry], places: &[usize]) -> bool
         if !fits(progress, entry) {
             return false;
         }
-        progress = next(progress, entry);
+        progress = next(progress, &mut answers, entry);
     }
     true
 }
 
-fn is_leave(entry: &RingEntry) -> bool
-    ensures { result ≡ is_leave entry.now }
+fn is_ended(entry: &RingEntry) -> bool
+    ensures { result ≡ is_ended entry.now }
 {
-    matches!(entry, RingEntry::Leave { .. })
+    matches!(
+        entry,
+        RingEntry::Leave {
+            cause: LeaveCause::Ended,
+            ..
+        }
+    )
 }
 
-/// Whether a node has left.
-pub(crate) fn has_left(ring: &[RingEntry], places: &[usize]) -> bool
+/// Whether a node has left as all was done.
+fn has_ended(ring: &[RingEntry], places: &[usize]) -> bool
     requires { AreWithin ring.now places.now }
-    ensures { result ≡ list_any is_leave (picked ring.now places.now) }
+    ensures { result ≡ list_any is_ended (picked ring.now places.now) }
 {
     for place in places {
-        if is_leave(&ring[*place]) {
+        if is_ended(&ring[*place]) {
             return true;
         }
     }
     false
+}
+
+/// The last of some numbers; 0 for none.
+fn last_of(numbers: &[u32]) -> u32
+    ensures { result ≡ last_from 0 numbers.now }
+{
+    let mut last = 0;
+    for number in numbers {
+        last = *number;
+    }
+    last
+}
+
+/// Whether a node that left as all was done had noticed so many power failures.
+pub(crate) fn notices(
+    alloc: Global,
+    ring: &[RingEntry],
+    places: &[usize],
+    fails: usize,
+) -> Result<bool, AllocError>
+    requires { AreWithin ring.now places.now }
+    ensures { IfOk result (λ all. IsTrue all
+        ↔ (list_any is_ended (picked ring.now places.now) ≡ true
+        → fails ≡ latest_down (picked ring.now places.now))) }
+{
+    if !has_ended(ring, places) {
+        return Ok(true);
+    }
+    let downs = downs(alloc, ring, places)?;
+    Ok(fails == last_of(downs.as_slice()) as usize)
 }
 
 /// Whether a request comes no sooner than its hold.
@@ -168,17 +243,23 @@ fn host_fits(plan: &HostPlan, progress: Progress, entry: &RingEntry) -> bool
 }
 
 /// Whether all entries of a host fit.
-pub(crate) fn all_fit_host(plan: &HostPlan, ring: &[RingEntry], places: &[usize]) -> bool
+pub(crate) fn all_fit_host(
+    alloc: Global,
+    plan: &HostPlan,
+    ring: &[RingEntry],
+    places: &[usize],
+) -> bool
     requires { AreWithin ring.now places.now }
     ensures { IsTrue result ↔ EachAllows (HostAllows plan.now) (picked ring.now places.now) }
 {
     let mut progress = no_progress();
+    let mut answers = VecDeque::new(alloc);
     for place in places {
         let entry = &ring[*place];
         if !host_fits(plan, progress, entry) {
             return false;
         }
-        progress = next(progress, entry);
+        progress = next(progress, &mut answers, entry);
     }
     true
 }

@@ -54,7 +54,7 @@ fn follow_entries(
 }
 
 /// How many scans are gone.
-fn count_scans(entries: &[Entry]) -> usize
+pub(crate) fn count_scans(entries: &[Entry]) -> usize
     ensures { result ≡ count_by is_scan_end entries.now }
 {
     entries

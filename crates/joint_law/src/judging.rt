@@ -3,15 +3,16 @@ ghost use Rattle.std.specs.Prelude.{◌≡◌, ◌↔◌, IfOk};
 ghost use Rattle.plant_types.specs.Plans.{IsPlant};
 ghost use Rattle.joint_history.specs.JointLaws.{IsLegalJoint};
 ghost use Rattle.effect_laws.specs.Effects.{EffectsAreRight};
+ghost use Rattle.joint_law.specs.AllComplete.{IsFollowed};
 ghost use Rattle.joint_law.specs.AllCourses.{AreDone, AreHostsDone, AreWholeCourses};
 ghost use Rattle.joint_law.specs.Judgements.{HasNotes, IsJudgement, verdict_of};
 ghost use Rattle.joint_law.specs.Spots.{AreLegalHostLogs, AreLegalLogs, CanBeJudged, HasSections};
 ghost use Rattle.joint_law.specs.Spots.{IsFirstSpot, IsVerdict, IsWholeRun};
 
-use crate::complete::first_incomplete;
+use crate::complete::{Followed, first_incomplete};
 use crate::courses::{ControllerCourses, HostCourses, controllers_course, hosts_course};
 use crate::law_spots::{laws_spot, number};
-use crate::ring_following::first_illegal;
+use crate::ring_following::{RingCourse, ring_course};
 use crate::sections::has_sections;
 use crate::verdict::{Judgement, Spot, Verdict};
 use controller_core::{Notes, fronts_are_legal};
@@ -28,20 +29,18 @@ fn spot_from_laws(
     plant: &Plant,
     joint: &Joint,
     scans: u32,
-    done: &List<bool>,
-    hosts_done: &List<bool>,
+    followed: Followed,
 ) -> Result<Option<Spot>, AllocError>
     requires sound { IsPlant plant.now }
     requires legal { IsLegalJoint plant.now scans joint.now }
-    requires done { AreDone plant.now scans joint.now done.now }
-    requires hosts { AreHostsDone plant.now joint.now hosts_done.now }
+    requires followed { IsFollowed plant.now scans joint.now followed }
     ensures { IfOk result (IsFirstSpot plant.now scans joint.now) }
 {
     let own = OwnPlaces::of(alloc, joint.ring.as_slice())?;
     if let Some(spot) = laws_spot(alloc, joint, &own)? {
         return Ok(Some(spot));
     }
-    match first_incomplete(plant, joint, &own, done.as_slice(), hosts_done.as_slice()) {
+    match first_incomplete(alloc, plant, joint, &own, scans, followed)? {
         Some(node) => Ok(Some(Spot::Incomplete(node))),
         None => Ok(None),
     }
@@ -63,11 +62,20 @@ fn spot_from_ring(
     requires hosts { AreHostsDone plant.now joint.now hosts_done.now }
     ensures { IfOk result (IsFirstSpot plant.now scans joint.now) }
 {
-    if let Some(place) = first_illegal(alloc, &plant.net, joint.ring.as_slice())? {
-        let entry = number(place)?;
-        return Ok(Some(Spot::Ring(entry)));
+    match ring_course(alloc, &plant.net, joint.ring.as_slice())? {
+        RingCourse::Breaks(place) => {
+            let entry = number(place)?;
+            Ok(Some(Spot::Ring(entry)))
+        }
+        RingCourse::Whole(ring) => {
+            let followed = Followed {
+                done: done.as_slice(),
+                hosts_done: hosts_done.as_slice(),
+                ring: &ring,
+            };
+            spot_from_laws(alloc, plant, joint, scans, followed)
+        }
     }
-    spot_from_laws(alloc, plant, joint, scans, done, hosts_done)
 }
 
 /// The first spot of legal lists of the controllers: in a host's list, or behind those.

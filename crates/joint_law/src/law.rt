@@ -11,4 +11,6 @@ pub enum Law {
     Replies,
     /// What ended is what came of it.
     Ends,
+    /// It went down no oftener than its power failed.
+    Downs,
 }

@@ -22,6 +22,7 @@ fn number_of(law: Law) -> u8
         Law::Answers => 2,
         Law::Replies => 3,
         Law::Ends => 4,
+        Law::Downs => 5,
     }
 }
 
@@ -174,5 +175,9 @@ pub(crate) fn laws_spot(
     if replies.is_some() {
         return Ok(replies);
     }
-    law_spot(alloc, Law::Ends, joint, own)
+    let ends = law_spot(alloc, Law::Ends, joint, own)?;
+    if ends.is_some() {
+        return Ok(ends);
+    }
+    law_spot(alloc, Law::Downs, joint, own)
 }

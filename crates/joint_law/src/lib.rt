@@ -11,6 +11,7 @@ mod courses;
 mod differing;
 mod ended;
 mod ending;
+mod failing;
 mod following;
 mod judging;
 mod law;

@@ -2,9 +2,9 @@
 ghost use Rattle.std.specs.Prelude.{◌≡◌, ◌++◌, ◌∷◌, [], IfOk, OnOk};
 ghost use Rattle.modbus_pdu.specs.Bytes.{words_bytes};
 ghost use Rattle.std.specs.List.{cons_option};
-ghost use Rattle.tied_lists.specs.Items.{answered_of, due_replies, port_answers, replied_by};
-ghost use Rattle.tied_lists.specs.Items.{replied_of, replies_in, reply_of, taken_by, taken_in};
-ghost use Rattle.tied_lists.specs.Items.{taken_of};
+ghost use Rattle.tied_lists.specs.Items.{answered_of, due_replies, due_reply, port_answers};
+ghost use Rattle.tied_lists.specs.Items.{replied_by, replied_of, replies_in, reply_of, taken_by};
+ghost use Rattle.tied_lists.specs.Items.{taken_in, taken_of};
 ghost use Rattle.joint_history.specs.Reading.{host_items_of, items_of};
 ghost use Rattle.joint_law.specs.Readings.{answer_in, host_answer_in};
 ghost use Rattle.joint_law.specs.Picked.{AreWithin, picked};
@@ -76,28 +76,32 @@ pub(crate) fn replied(
     Ok(list)
 }
 
+/// The replies of answers, in their order: none where a request came without power.
+pub(crate) type Replies = VecDeque<Option<Pdu>>;
+
 /// One more answer.
-fn push(list: &mut VecDeque<Pdu>, pdu: Pdu) -> Result<(), AllocError>
-    ensures { OnOk result (list.new.items ≡ list.old.items ++ pdu ∷ []) }
+fn push(list: &mut Replies, reply: Option<Pdu>) -> Result<(), AllocError>
+    ensures { OnOk result (list.new.items ≡ list.old.items ++ reply ∷ []) }
 {
-    match list.push_back(pdu) {
+    match list.push_back(reply) {
         Ok(()) => Ok(()),
         Err(_) => Err(AllocError),
     }
 }
 
-fn add_answer(alloc: Global, list: &mut VecDeque<Pdu>, entry: &Entry) -> Result<(), AllocError>
+fn add_answer(alloc: Global, list: &mut Replies, entry: &Entry) -> Result<(), AllocError>
     ensures { OnOk result (list.new.items
         ≡ list.old.items ++ replies_in (cons_option (answer_in entry.now) [])) }
 {
     match entry {
-        Entry::Peer { reply, .. } => push(list, reply.copied(alloc)?),
+        Entry::Peer { reply, .. } => push(list, Some(reply.copied(alloc)?)),
+        Entry::Off { .. } => push(list, None),
         _ => Ok(()),
     }
 }
 
 /// The replies that a controller gave.
-pub(crate) fn answers(alloc: Global, entries: &[Entry]) -> Result<VecDeque<Pdu>, AllocError>
+pub(crate) fn answers(alloc: Global, entries: &[Entry]) -> Result<Replies, AllocError>
     ensures { IfOk result (λ list. list.items ≡ replies_in (items_of entries.now).answers) }
 {
     let mut list = VecDeque::new(alloc);
@@ -107,25 +111,18 @@ pub(crate) fn answers(alloc: Global, entries: &[Entry]) -> Result<VecDeque<Pdu>,
     Ok(list)
 }
 
-fn add_host_answer(
-    alloc: Global,
-    list: &mut VecDeque<Pdu>,
-    entry: &HostEntry,
-) -> Result<(), AllocError>
+fn add_host_answer(alloc: Global, list: &mut Replies, entry: &HostEntry) -> Result<(), AllocError>
     ensures { OnOk result (list.new.items
         ≡ list.old.items ++ replies_in (cons_option (host_answer_in entry.now) [])) }
 {
     match entry {
-        HostEntry::Served { reply, .. } => push(list, reply.copied(alloc)?),
+        HostEntry::Served { reply, .. } => push(list, Some(reply.copied(alloc)?)),
         _ => Ok(()),
     }
 }
 
 /// The replies that a host gave.
-pub(crate) fn host_answers(
-    alloc: Global,
-    entries: &[HostEntry],
-) -> Result<VecDeque<Pdu>, AllocError>
+pub(crate) fn host_answers(alloc: Global, entries: &[HostEntry]) -> Result<Replies, AllocError>
     ensures { IfOk result
         (λ list. list.items ≡ replies_in (host_items_of entries.now).answers) }
 {
@@ -161,11 +158,7 @@ fn reply_of(alloc: Global, outcome: &MstrResult) -> Result<Pdu, AllocError>
     }
 }
 
-fn add_port_answer(
-    alloc: Global,
-    list: &mut VecDeque<Pdu>,
-    entry: &RingEntry,
-) -> Result<(), AllocError>
+fn add_port_answer(alloc: Global, list: &mut Replies, entry: &RingEntry) -> Result<(), AllocError>
     ensures { OnOk result (list.new.items
         ≡ list.old.items ++ replies_in (cons_option (answered_of entry.now) [])) }
 {
@@ -181,14 +174,10 @@ fn add_port_answer(
     if id.node == *node {
         return Ok(());
     }
-    push(list, reply_of(alloc, result)?)
+    push(list, Some(reply_of(alloc, result)?))
 }
 
-fn port_answers(
-    alloc: Global,
-    ring: &[RingEntry],
-    places: &[usize],
-) -> Result<VecDeque<Pdu>, AllocError>
+fn port_answers(alloc: Global, ring: &[RingEntry], places: &[usize]) -> Result<Replies, AllocError>
     requires { AreWithin ring.now places.now }
     ensures { IfOk result (λ list. list.items
         ≡ replies_in (port_answers (picked ring.now places.now))) }
@@ -200,11 +189,30 @@ fn port_answers(
     Ok(list)
 }
 
-/// What is due to a frame that was taken: the next answer of its sort.
+/// Adds the Reply that an answer makes due: none where there was no power, and one that nobody can
+/// post where the answer is missing.
+fn push_due(
+    list: &mut Vec<Replying>,
+    id: CallId,
+    answer: Option<Option<Pdu>>,
+) -> Result<(), AllocError>
+    ensures { OnOk result (list.new.items
+        ≡ list.old.items ++ cons_option (due_reply id answer) []) }
+{
+    let reply = match answer {
+        None => None,
+        Some(None) => return Ok(()),
+        Some(reply) => reply,
+    };
+    list.push(Replying { id, reply })?;
+    Ok(())
+}
+
+/// What is due to a frame that was taken: what the next answer of its sort makes due.
 fn add_due_to(
     list: &mut Vec<Replying>,
-    peers: &mut VecDeque<Pdu>,
-    locals: &mut VecDeque<Pdu>,
+    peers: &mut Replies,
+    locals: &mut Replies,
     frame: &Frame,
 ) -> Result<(), AllocError>
     ensures { OnOk result (DueNext (cons_option (taken_in frame.now.kind frame.now) [])
@@ -214,22 +222,18 @@ fn add_due_to(
     if let FrameKind::Reply = frame.kind {
         return Ok(());
     }
-    let reply = if is_stats(&frame.pdu) {
+    let answer = if is_stats(&frame.pdu) {
         locals.pop_front()
     } else {
         peers.pop_front()
     };
-    list.push(Replying {
-        id: frame.id,
-        reply,
-    })?;
-    Ok(())
+    push_due(list, frame.id, answer)
 }
 
 fn add_due(
     list: &mut Vec<Replying>,
-    peers: &mut VecDeque<Pdu>,
-    locals: &mut VecDeque<Pdu>,
+    peers: &mut Replies,
+    locals: &mut Replies,
     entry: &RingEntry,
 ) -> Result<(), AllocError>
     ensures { OnOk result (DueNext (cons_option (taken_of entry.now) [])
@@ -247,8 +251,8 @@ fn due_of(
     alloc: Global,
     ring: &[RingEntry],
     places: &[usize],
-    mut peers: VecDeque<Pdu>,
-    mut locals: VecDeque<Pdu>,
+    mut peers: Replies,
+    mut locals: Replies,
 ) -> Result<Vec<Replying>, AllocError>
     requires { AreWithin ring.now places.now }
     ensures { IfOk result (λ list. list.items
@@ -266,7 +270,7 @@ pub(crate) fn due(
     alloc: Global,
     ring: &[RingEntry],
     places: &[usize],
-    peers: VecDeque<Pdu>,
+    peers: Replies,
 ) -> Result<Vec<Replying>, AllocError>
     requires { AreWithin ring.now places.now }
     ensures { IfOk result (λ list. list.items

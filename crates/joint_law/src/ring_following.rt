@@ -1,12 +1,10 @@
 //! Following the ring's list, by the calls of a ring that keeps none.
-ghost use Rattle.std.specs.Prelude.{◌≡◌, ◌↔◌, ◌+◌, ◌<◌, None, All, IfOk, IfSome};
-ghost use Rattle.std.specs.Prelude.{IsTrue, length};
-ghost use Rattle.ring_core.specs.Legal.{HasRoom, IsLegalRing};
+ghost use Rattle.std.specs.Prelude.{◌≡◌, ◌↔◌, ◌<◌, None, All, IfOk, IsTrue, length};
+ghost use Rattle.ring_core.specs.Legal.{HasRoom};
 ghost use Rattle.ring_core.specs.Machine.{addresses};
 ghost use Rattle.ring_core.specs.Bare.{IsBehind};
 ghost use Rattle.ring_core.specs.declared.entry.RingEntry.TheVariants as entries;
-ghost use Rattle.joint_law.specs.Differing.{BreaksAt};
-ghost use Rattle.joint_law.specs.RingFollowing.{RingFollowed};
+ghost use Rattle.joint_law.specs.RingFollowing.{IsRingCourse, RingFollowed};
 
 use crate::same::{same_frame, same_result, same_words};
 use mstr_block::{CallId, MstrResult};
@@ -34,10 +32,8 @@ fn follow_post(
     if ring.post_no(past, node, frame).is_some() {
         return Ok(false);
     }
-    match ring.post(past, node, frame.copied(alloc)?) {
-        Ok(()) => Ok(true),
-        Err(_) => Err(AllocError),
-    }
+    ring.post(past, node, frame.copied(alloc)?)?;
+    Ok(true)
 }
 
 fn follow_send(
@@ -55,10 +51,8 @@ fn follow_send(
     let Some(frame) = ring.head(past, node)? else {
         return Ok(false);
     };
-    match ring.send(past, node, frame) {
-        Ok(told) => Ok(told == heard),
-        Err(_) => Err(AllocError),
-    }
+    let told = ring.send(past, node, frame)?;
+    Ok(told == heard)
 }
 
 fn follow_take(
@@ -161,6 +155,17 @@ fn follow_leave(ring: &mut BareRing, past: &[RingEntry], node: u8, cause: LeaveC
     true
 }
 
+fn follow_join(ring: &mut BareRing, past: &[RingEntry], node: u8) -> bool
+    requires { IsBehind past.now ring.old }
+    ensures { RingFollowed past.now ring.old (entries.Join node) ring.new result }
+{
+    if !ring.is_member(past, node) || ring.join_no(past, node).is_some() {
+        return false;
+    }
+    ring.join(past, node);
+    true
+}
+
 /// Makes the call of an entry behind these entries, and answers whether the ring says the same.
 /// Where the answer is false, the entry isn't legal here.
 fn follow(
@@ -185,26 +190,34 @@ fn follow(
         RingEntry::GiveUp { id, word } => Ok(follow_give_up(ring, past, *id, *word)),
         RingEntry::Pass { node, done, words } => follow_pass(ring, past, *node, *done, words),
         RingEntry::Leave { node, cause } => Ok(follow_leave(ring, past, *node, *cause)),
+        RingEntry::Join { node } => Ok(follow_join(ring, past, *node)),
     }
 }
 
-/// The first entry, counted from 0, that makes a list no legal one.
-pub(crate) fn first_illegal(
+/// How the ring's list goes.
+#[derive(Drop)]
+pub(crate) enum RingCourse {
+    /// The entry, counted from 0, makes it no legal one.
+    Breaks(usize),
+    /// It is legal, and the ring is behind it.
+    Whole(BareRing),
+}
+
+/// Follows the ring's list.
+pub(crate) fn ring_course(
     alloc: Global,
     plan: &NetPlan,
     entries: &[RingEntry],
-) -> Result<Option<usize>, AllocError>
+) -> Result<RingCourse, AllocError>
     requires members { All (λ m. m < addresses) plan.now.members }
     requires fates { 0 < length plan.now.fates }
-    ensures legal { IfOk result (λ first. first ≡ None → IsLegalRing plan.now entries.now) }
-    ensures broken { IfOk result (λ first. IfSome first
-        (λ place. BreaksAt (IsLegalRing plan.now) entries.now (place + 1))) }
+    ensures { IfOk result (IsRingCourse plan.now entries.now) }
 {
     let mut ring = BareRing::new(alloc, plan)?;
     for place in 0..entries.len() {
         if !follow(alloc, &mut ring, &entries[..place], &entries[place])? {
-            return Ok(Some(place));
+            return Ok(RingCourse::Breaks(place));
         }
     }
-    Ok(None)
+    Ok(RingCourse::Whole(ring))
 }

@@ -1,9 +1,10 @@
 //! The laws at one station.
 ghost use Rattle.std.specs.Prelude.{◌≡◌, ◌++◌, [], true, map, IfOk};
-ghost use Rattle.tied_lists.specs.Items.{AController, AHost, asked_by, due_replies, ended_by};
-ghost use Rattle.tied_lists.specs.Items.{port_answers, replied_by, replies_in, taken_by};
+ghost use Rattle.tied_lists.specs.Items.{AController, AHost, asked_by, downs_by, due_replies};
+ghost use Rattle.tied_lists.specs.Items.{ended_by, port_answers, replied_by, replies_in, taken_by};
 ghost use Rattle.joint_history.specs.Reading.{host_items_of, items_of};
 ghost use Rattle.joint_law.specs.Bound.{sorted_answer, taken_in_order};
+ghost use Rattle.joint_law.specs.Failing.{GoUpTo};
 ghost use Rattle.joint_law.specs.Comparing.{Compared, IsLawEnd};
 ghost use Rattle.joint_law.specs.Kinds.{station_of};
 ghost use Rattle.joint_law.specs.Picked.{AreWithin, picked};
@@ -12,14 +13,13 @@ use crate::answering::{Served, add_port_answers, answered, host_answered, taken_
 use crate::asking::{Asking, asked, called, host_called};
 use crate::differing::first_difference;
 use crate::ending::{Ending, Sort, ends, host_ends, met};
+use crate::failing::{count_fails, downs, first_unfounded};
 use crate::law::Law;
-use crate::replying::{answers, due, host_answers, replied};
+use crate::replying::{Replies, answers, due, host_answers, replied};
 use controller_core::Entry;
 use host_port::HostEntry;
-use plant_types::Pdu;
 use ring_core::RingEntry;
 use std::alloc::{AllocError, Global};
-use std::collections::VecDeque;
 
 fn compare_asks(
     alloc: Global,
@@ -54,7 +54,7 @@ fn compare_replies(
     alloc: Global,
     ring: &[RingEntry],
     places: &[usize],
-    peers: VecDeque<Pdu>,
+    peers: Replies,
 ) -> Result<Option<usize>, AllocError>
     requires { AreWithin ring.now places.now }
     ensures { IfOk result (Compared (replied_by (picked ring.now places.now))
@@ -81,6 +81,19 @@ fn compare_ends(
     Ok(first_difference(ended.as_slice(), came.as_slice()))
 }
 
+fn judge_downs(
+    alloc: Global,
+    ring: &[RingEntry],
+    places: &[usize],
+    fails: usize,
+) -> Result<Option<usize>, AllocError>
+    requires { AreWithin ring.now places.now }
+    ensures { IfOk result (GoUpTo fails (downs_by (picked ring.now places.now))) }
+{
+    let downs = downs(alloc, ring, places)?;
+    Ok(first_unfounded(downs.as_slice(), fails))
+}
+
 /// Where a controller breaks a law, counted from 0.
 pub(crate) fn controller_breaks(
     alloc: Global,
@@ -98,6 +111,7 @@ pub(crate) fn controller_breaks(
         Law::Answers => compare_answers(alloc, ring, places, answered(alloc, entries)?),
         Law::Replies => compare_replies(alloc, ring, places, answers(alloc, entries)?),
         Law::Ends => compare_ends(alloc, Sort::Controller, ring, places, ends(alloc, entries)?),
+        Law::Downs => judge_downs(alloc, ring, places, count_fails(entries)),
     }
 }
 
@@ -118,5 +132,6 @@ pub(crate) fn host_breaks(
         Law::Answers => compare_answers(alloc, ring, places, host_answered(alloc, entries)?),
         Law::Replies => compare_replies(alloc, ring, places, host_answers(alloc, entries)?),
         Law::Ends => compare_ends(alloc, Sort::Host, ring, places, host_ends(alloc, entries)?),
+        Law::Downs => judge_downs(alloc, ring, places, 0),
     }
 }

@@ -13,8 +13,9 @@ pub enum Spot {
     Host { node: u8, entry: u32 },
     /// The entry makes the ring's list no legal one.
     Ring(u32),
-    /// A law, 1 to 4, is broken between a station's list and its node's entries on the ring: the
-    /// two lists that it compares differ at the place.
+    /// A law, 1 to 5, is broken between a station's list and its node's entries on the ring: the
+    /// two lists that it compares differ at the place, and of the fifth the place is that of the
+    /// first Down, counted among the node's own, that has no power failure of its own.
     Law { law: u8, node: u8, place: u32 },
     /// The station was not done.
     Incomplete(u8),

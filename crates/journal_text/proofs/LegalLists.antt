@@ -1,8 +1,7 @@
 -- Each legal joint history is plain.
-use Rattle.std.proofs.Common.{◌≡◌, ◌≢◌, ℕ, zero, suc, ◌++◌, true, false, List, [], ◌∷◌, map, is_some, refl}
+use Rattle.std.proofs.Common.{◌≡◌, ◌≢◌, ℕ, zero, suc, ◌++◌, true, List, [], ◌∷◌, map, is_some, refl}
 use Rattle.std.proofs.Common.{sym, ◌∙◌, subst, arith, inr}
 use Rattle.std.specs.List.{All, AllZip, Contains, slice_get, slice_index_or}
-use Rattle.std.specs.List.{AllByRecursion as Each}
 use Rattle.std.specs.List.Sorted.{IsStrictlyIncreasing}
 use Rattle.std.proofs.lemmas.Bool.{false≢true}
 use Rattle.std.proofs.lemmas.List.Elements.{Contains-get_or}
@@ -10,7 +9,6 @@ use Rattle.plant_types.specs.declared.net.NetPlan.{NetPlan}
 use Rattle.plant_types.specs.declared.net.HostPlan.{HostPlan}
 use Rattle.plant_types.specs.declared.plan.ControllerPlan.{ControllerPlan}
 use Rattle.plant_types.specs.declared.plan.Plant.{Plant}
-use Rattle.plant_types.specs.Plans.{KeepsPower}
 use Rattle.mstr_block.specs.declared.call.MstrAsk.{MstrAsk}
 use Rattle.mstr_block.specs.declared.call.MstrAsk.TheVariants.{Write, Read, LocalStats, ClearLocal}
 use Rattle.mstr_block.specs.declared.call.MstrAsk.TheVariants.{PutGlobal, GetGlobal, RemoteStats}
@@ -23,7 +21,7 @@ use Rattle.ring_core.specs.declared.frame.FrameKind.TheVariants.{Request, Reply}
 use Rattle.ring_core.specs.declared.frame.Frame.{Frame}
 use Rattle.ring_core.specs.declared.entry.RingEntry.{RingEntry}
 use Rattle.ring_core.specs.declared.entry.RingEntry.TheVariants.{Post, Send, Take, Local, GiveUp}
-use Rattle.ring_core.specs.declared.entry.RingEntry.TheVariants.{Pass, Leave}
+use Rattle.ring_core.specs.declared.entry.RingEntry.TheVariants.{Pass, Leave, Join}
 use Rattle.ring_core.specs.Legal.{IsFrom, IsLawful, IsRun}
 use Rattle.ring_laws.specs.Once.{IsRingHistory, OnlyItsTarget, ReplyToItsCaller}
 use Rattle.controller_core.specs.declared.call.Call.{Call}
@@ -32,11 +30,10 @@ use Rattle.controller_core.specs.declared.entry.Entry.{Entry}
 use Rattle.controller_core.specs.declared.entry.Entry.TheVariants as entries
 use Rattle.controller_core.specs.Calls.{call_of, calls_of, kind_of}
 use Rattle.controller_core.specs.Controller.{EachFits, Fits}
-use Rattle.controller_core.specs.Laws.{KeptPowerIsOn, is_of_failure}
 use Rattle.controller_core.specs.Replay.{ControllerState, apply, start, table_of}
 use Rattle.joint_history.specs.declared.joint.ControllerLog.{ControllerLog}
 use Rattle.joint_history.specs.declared.joint.HostLog.{HostLog}
-use Rattle.joint_history.specs.JointLaws.{IsLegalLog, IsLegalHostLog, fixed_of}
+use Rattle.joint_history.specs.JointLaws.{IsLegalLog, IsLegalHostLog}
 use Rattle.journal_text.specs.Journal.{IsPlainCall, IsPlainEntry, IsPlainFrame, IsPlainGot}
 use Rattle.journal_text.specs.Journal.{IsPlainKind, IsPlainRing}
 use Rattle.journal_text.specs.Laws.{LegalIsPlain}
@@ -80,44 +77,40 @@ some_calls order table started none =
 
 -- an entry that fits is plain, and so is each of a legal list
 plain_entry : CallsAreTakenInOrder → (fixed : Fixed) (s : ControllerState) (entry : Entry)
-    → Fits fixed s entry → is_of_failure entry ≡ false → IsPlainEntry entry
-plain_entry order fixed s entries.Begin fits kept = tt
-plain_entry order fixed s (entries.Input row) fits kept = tt
-plain_entry order fixed s (entries.Solve row) fits kept = tt
-plain_entry order fixed s (entries.Output row words) fits kept = tt
-plain_entry order fixed s entries.End fits kept = tt
-plain_entry order fixed s entries.Fail fits kept = false≢true (sym kept)
-plain_entry order fixed s entries.Dark fits kept = false≢true (sym kept)
-plain_entry order fixed s (entries.Collect calls) fits kept =
+    → Fits fixed s entry → IsPlainEntry entry
+plain_entry order fixed s entries.Begin fits = tt
+plain_entry order fixed s (entries.Input row) fits = tt
+plain_entry order fixed s (entries.Solve row) fits = tt
+plain_entry order fixed s (entries.Output row words) fits = tt
+plain_entry order fixed s entries.End fits = tt
+plain_entry order fixed s entries.Fail fits = tt
+plain_entry order fixed s entries.Dark fits = tt
+plain_entry order fixed s (entries.Collect calls) fits =
     subst (λ (cs : List Call). (cs ≢ []) × All IsPlainCall cs) (sym fits.1)
     (some_calls order (table_of s) fits.0, plain_calls (started_calls (table_of s)))
-plain_entry order fixed s (entries.Peer id request reply) fits kept = tt
-plain_entry order fixed s (entries.Off id request) fits kept = false≢true (sym kept)
-plain_entry order fixed s (entries.Finish id result) fits kept = tt
+plain_entry order fixed s (entries.Peer id request reply) fits = tt
+plain_entry order fixed s (entries.Off id request) fits = tt
+plain_entry order fixed s (entries.Finish id result) fits = tt
 
 plain_entries : CallsAreTakenInOrder → (fixed : Fixed) (s : ControllerState) (list : List Entry)
-    → EachFits fixed s list → Each (λ (e : Entry). is_of_failure e ≡ false) list
-    → All IsPlainEntry list
+    → EachFits fixed s list → All IsPlainEntry list
 unfolding EachFits
-plain_entries order fixed s [] each kept k d within = absurd (omega arith)
-plain_entries order fixed s (e ∷ es) each kept zero d within =
-    plain_entry order fixed s e each.0 kept.0
-plain_entries order fixed s (e ∷ es) each kept (suc k) d within =
-    plain_entries order fixed (apply fixed s e) es each.1 kept.1 k d (omega arith)
+plain_entries order fixed s [] each k d within = absurd (omega arith)
+plain_entries order fixed s (e ∷ es) each zero d within = plain_entry order fixed s e each.0
+plain_entries order fixed s (e ∷ es) each (suc k) d within =
+    plain_entries order fixed (apply fixed s e) es each.1 k d (omega arith)
 
-plain_logs : CallsAreTakenInOrder → KeptPowerIsOn → (plant : Plant) (scans : ℕ)
-    (ps : List ControllerPlan) (ls : List ControllerLog) → All KeepsPower ps
+plain_logs : CallsAreTakenInOrder → (plant : Plant) (scans : ℕ)
+    (ps : List ControllerPlan) (ls : List ControllerLog)
     → AllZip (IsLegalLog plant scans) ps ls
     → All (λ (log : ControllerLog). All IsPlainEntry log.entries) ls
-plain_logs order on plant scans [] [] keep all k d within = absurd (omega arith)
-plain_logs order on plant scans [] (l ∷ ls) keep all k d within = absurd all
-plain_logs order on plant scans (p ∷ ps) [] keep all k d within = absurd all
-plain_logs order on plant scans (p ∷ ps) (l ∷ ls) keep all zero d within =
+plain_logs order plant scans [] [] all k d within = absurd (omega arith)
+plain_logs order plant scans [] (l ∷ ls) all k d within = absurd all
+plain_logs order plant scans (p ∷ ps) [] all k d within = absurd all
+plain_logs order plant scans (p ∷ ps) (l ∷ ls) all zero d within =
     plain_entries order _ (start p) l.entries all.0.1.each
-    (on (fixed_of plant scans p) l.entries (keep 0 p (omega arith)) all.0.1).entries
-plain_logs order on plant scans (p ∷ ps) (l ∷ ls) keep all (suc k) d within =
-    plain_logs order on plant scans ps ls (λ j e low. keep (suc j) e (omega arith)) all.1 k d
-    (omega arith)
+plain_logs order plant scans (p ∷ ps) (l ∷ ls) all (suc k) d within =
+    plain_logs order plant scans ps ls all.1 k d (omega arith)
 
 -- each entry of a legal history of the ring is lawful
 lawful : (net : NetPlan) (past list : List RingEntry) → IsRun net past list
@@ -151,10 +144,10 @@ plain_ring net history (Local n id op result) target caller is there law = tt
 plain_ring net history (GiveUp id word) target caller is there law = tt
 plain_ring net history (Pass n done words) target caller is there law = tt
 plain_ring net history (Leave n cause) target caller is there law = tt
+plain_ring net history (Join n) target caller is there law = tt
 
-pub legal-is_plain : CallsAreTakenInOrder → OnlyItsTarget → ReplyToItsCaller → KeptPowerIsOn
-    → LegalIsPlain
-legal-is_plain order target caller on plant scans joint is keep legal =
+pub legal-is_plain : CallsAreTakenInOrder → OnlyItsTarget → ReplyToItsCaller → LegalIsPlain
+legal-is_plain order target caller plant scans joint is legal =
     let history : IsRingHistory plant.net joint.ring = record {
       members =
           λ k d within. (let node = is.net.members k d within in let most = node.to in omega arith);
@@ -168,7 +161,7 @@ legal-is_plain order target caller on plant scans joint is keep legal =
       hosts = subst IsStrictlyIncreasing
           (sym (same_nodes IsLegalHostLog (λ (p : HostPlan). p.node) (λ (l : HostLog). l.node)
           (λ p l r. r.0) plant.hosts joint.hosts legal.hosts)) is.hosts_rise;
-      entries = plain_logs order on plant scans plant.controllers joint.controllers keep
+      entries = plain_logs order plant scans plant.controllers joint.controllers
           legal.controllers;
       ring = λ k d within. plain_ring plant.net joint.ring (slice_index_or joint.ring k d) target
           caller history

@@ -111,7 +111,7 @@ word_number_field = record {
   lie = λ n less. decimal_lies n (omega arith);
 }
 
-long_field : IsField read_long decimal IsLong 48 57
+pub long_field : IsField read_long decimal IsLong 48 57
 unfolding read_long
 long_field = record {
   takes = λ text n e. number_takes (2 ^ 32) text n (omega arith) e;

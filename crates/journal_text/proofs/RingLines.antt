@@ -1,6 +1,6 @@
 -- The lines of the ring are read as they are written.
 use Rattle.std.proofs.Common.{◌≡◌, ℕ, Bool, true, false, cond, inl, inr, List, [], ◌∷◌, ◌++◌, Some}
-use Rattle.std.proofs.Common.{None, refl, sym, ap, ◌∙◌, append_assoc}
+use Rattle.std.proofs.Common.{None, refl, sym, ap, subst, ◌∙◌, append_assoc}
 use Rattle.std.specs.Prelude.{codes}
 use Rattle.std.specs.Fmt.{decimal}
 use Rattle.std.specs.List.{AllByRecursion}
@@ -12,7 +12,7 @@ use Rattle.ring_core.specs.declared.frame.Frame.{Frame}
 use Rattle.ring_core.specs.declared.entry.Heard.{Heard}
 use Rattle.ring_core.specs.declared.entry.Heard.TheVariants.{Acked, Silent, Busy}
 use Rattle.ring_core.specs.declared.entry.LeaveCause.{LeaveCause}
-use Rattle.ring_core.specs.declared.entry.LeaveCause.TheVariants.{Ended, Spent}
+use Rattle.ring_core.specs.declared.entry.LeaveCause.TheVariants.{Ended, Spent, Down}
 use Rattle.ring_core.specs.declared.entry.RingEntry.{RingEntry}
 use Rattle.ring_core.specs.declared.entry.RingEntry.TheVariants as ring
 use Rattle.journal_text.specs.Fields.{hex_bytes, hex_words, hex_word, id_text, op_text}
@@ -21,18 +21,19 @@ use Rattle.journal_text.specs.Lines.{sent_text, got_text, heard_text, cause_text
 use Rattle.journal_text.specs.Lines.{ring_line}
 use Rattle.journal_text.specs.Journal.{IsPlainFrame, IsPlainGot, IsPlainRing}
 use Rattle.journal_text.specs.Sizes.{IsId, IsPdu, IsSmall, IsWord, AreWords, FitsOp, FitsResult}
-use Rattle.journal_text.specs.Sizes.{FitsFrame, FitsRingEntry}
+use Rattle.journal_text.specs.Sizes.{FitsCause, FitsFrame, FitsRingEntry}
 use Rattle.journal_text.specs.Fronts.{with_feed}
 use Rattle.journal_text.specs.Reading.{behind, read_pair, read_small, read_id, read_hex_word}
 use Rattle.journal_text.specs.Reading.{read_hex_words}
 use Rattle.journal_text.specs.ReadLines.{read_op, read_result, sent_forms, read_sent, got_from}
 use Rattle.journal_text.specs.ReadLines.{got_forms, read_got, target_of, taken, sent_request}
 use Rattle.journal_text.specs.ReadLines.{sent_reply, read_heard, read_cause, read_done, ring_forms}
-use Rattle.journal_text.specs.ReadLines.{read_ring_entry}
+use Rattle.journal_text.specs.ReadLines.{read_bare_cause, cause_forms, read_ring_entry}
 use Rattle.journal_text.proofs.Ranges.{chosen, all_lie}
 use Rattle.journal_text.proofs.Cuts.{some_is, none_some, text_is}
 use Rattle.journal_text.proofs.ReadLaws.{IsField, IsForm, two_fields, form_of_field, first_takes}
-use Rattle.journal_text.proofs.Numbers.{small_field, id_field}
+use Rattle.journal_text.proofs.ReadLaws.{lie_in}
+use Rattle.journal_text.proofs.Numbers.{small_field, long_field, id_field}
 use Rattle.journal_text.proofs.Digits.{words_field, word_field}
 use Rattle.journal_text.proofs.Calls.{op_field, result_field, named_field, asked_field}
 
@@ -175,31 +176,50 @@ heard_lie Busy is = refl
 heard_field : IsField read_heard heard_text (λ heard. Unit {0}) 48 102
 heard_field = record { takes = heard_takes; again = heard_again; lie = heard_lie }
 
-cause_takes : (text : List ℕ) (cause : LeaveCause) → read_cause text ≡ Some cause
-    → (text ≡ cause_text cause) × Unit {0}
-unfolding read_cause
-cause_takes text cause e =
+-- a cause that is a letter alone, and one with a number behind its letter
+bare_cause_takes : (text : List ℕ) (cause : LeaveCause) → read_bare_cause text ≡ Some cause
+    → (text ≡ cause_text cause) × FitsCause cause
+bare_cause_takes text cause e =
     elim (chosen (bytes_eq text (codes "E")) (Some Ended)
     (cond (bytes_eq text (codes "S")) (Some Spent) None) (Some cause) e) [
-      | inl a ↦ (text_is text (codes "E") a.0 ∙ ap cause_text (some_is Ended cause a.1), tt)
+      | inl a ↦
+          subst (λ (c : LeaveCause). (text ≡ cause_text c) × FitsCause c)
+          (some_is Ended cause a.1) (text_is text (codes "E") a.0, tt)
       | inr rest ↦
           elim (chosen (bytes_eq text (codes "S")) (Some Spent) None (Some cause) rest.1) [
-            | inl s ↦ (text_is text (codes "S") s.0 ∙ ap cause_text (some_is Spent cause s.1), tt)
-            | inr none ↦ none_some ((text ≡ cause_text cause) × Unit {0}) cause none.1
+            | inl s ↦
+                subst (λ (c : LeaveCause). (text ≡ cause_text c) × FitsCause c)
+                (some_is Spent cause s.1) (text_is text (codes "S") s.0, tt)
+            | inr none ↦ none_some ((text ≡ cause_text cause) × FitsCause cause) cause none.1
           ]
     ]
 
-cause_again : (cause : LeaveCause) → Unit {0} → read_cause (cause_text cause) ≡ Some cause
-unfolding read_cause
+cause_kinds_take : AllByRecursion (IsForm cause_text FitsCause) cause_forms
+cause_kinds_take = (
+  form_of_field long_field cause_text FitsCause (codes "D") (λ number. Down number)
+      (λ number fits. refl) (λ number fits. fits),
+  tt,
+)
+
+cause_again : (cause : LeaveCause) → FitsCause cause → read_cause (cause_text cause) ≡ Some cause
+unfolding read_cause behind
 cause_again Ended is = refl
 cause_again Spent is = refl
+cause_again (Down number) is = rw (long_field.again number is) refl
 
-cause_lie : (cause : LeaveCause) → Unit {0} → all_lie 48 102 (cause_text cause) ≡ true
+cause_lie : (cause : LeaveCause) → FitsCause cause → all_lie 48 102 (cause_text cause) ≡ true
 cause_lie Ended is = refl
 cause_lie Spent is = refl
+cause_lie (Down number) is = lie_in long_field 48 102 refl number is
 
-cause_field : IsField read_cause cause_text (λ cause. Unit {0}) 48 102
-cause_field = record { takes = cause_takes; again = cause_again; lie = cause_lie }
+cause_field : IsField read_cause cause_text FitsCause 48 102
+unfolding read_cause
+cause_field = record {
+  takes = λ text cause e. first_takes cause_text FitsCause cause_forms (read_bare_cause text)
+      text cause cause_kinds_take (bare_cause_takes text cause) e;
+  again = cause_again;
+  lie = cause_lie;
+}
 
 done_takes : (text : List ℕ) (done : Bool) → read_done text ≡ Some done
     → (text ≡ done_text done) × Unit {0}
@@ -240,6 +260,7 @@ ring_body (ring.GiveUp id word) = codes "GU " ++ (id_text id ++ 32 ∷ hex_word 
 ring_body (ring.Pass node done words) =
     codes "PA " ++ (decimal node ++ 32 ∷ (done_text done ++ 32 ∷ hex_words words))
 ring_body (ring.Leave node cause) = codes "LE " ++ (decimal node ++ 32 ∷ cause_text cause)
+ring_body (ring.Join node) = codes "JN " ++ decimal node
 
 abbrev pub IsRingEntry : RingEntry → Type 0
 IsRingEntry entry = FitsRingEntry entry × IsPlainRing entry
@@ -274,6 +295,7 @@ ring_ended (ring.GiveUp id word) = parts (codes "GU ") (id_text id) (hex_word wo
 ring_ended (ring.Pass node done words) =
     parts_three (codes "PA ") (decimal node) (done_text done) (hex_words words)
 ring_ended (ring.Leave node cause) = parts (codes "LE ") (decimal node) (cause_text cause)
+ring_ended (ring.Join node) = refl
 
 -- what stands behind the letters
 post_field : IsField (read_pair read_small read_sent 32) (λ p. decimal p.0 ++ 32 ∷ sent_body p.1)
@@ -310,7 +332,7 @@ pass_field =
     two_fields 32 32 102 small_field last refl refl refl refl
 
 leave_field : IsField (read_pair read_small read_cause 32) (λ p. decimal p.0 ++ 32 ∷ cause_text p.1)
-    (λ p. IsSmall p.0 × Unit {0}) 32 102
+    (λ p. IsSmall p.0 × FitsCause p.1) 32 102
 leave_field = two_fields 32 32 102 small_field cause_field refl refl refl refl
 
 -- a frame that was taken is plain, and so are its numbers
@@ -352,8 +374,12 @@ ring_kinds_take = (
                 ring.Pass p.0 p.1.0 p.1.1) (λ p fits. refl) (λ p fits. ((fits.0, fits.1.1), tt)),
             (
               form_of_field leave_field ring_body IsRingEntry (codes "LE ")
-                  (λ p. ring.Leave p.0 p.1) (λ p fits. refl) (λ p fits. (fits.0, tt)),
-              tt,
+                  (λ p. ring.Leave p.0 p.1) (λ p fits. refl) (λ p fits. (fits, tt)),
+              (
+                form_of_field small_field ring_body IsRingEntry (codes "JN ")
+                    (λ node. ring.Join node) (λ node fits. refl) (λ node fits. (fits, tt)),
+                tt,
+              ),
             ),
           ),
         ),
@@ -384,7 +410,8 @@ ring_again (ring.Local node id op result) is =
 ring_again (ring.GiveUp id word) is = rw (give_up_field.again (id, word) is.0) refl
 ring_again (ring.Pass node done words) is =
     rw (pass_field.again (node, (done, words)) (is.0.0, (tt, is.0.1))) refl
-ring_again (ring.Leave node cause) is = rw (leave_field.again (node, cause) (is.0, tt)) refl
+ring_again (ring.Leave node cause) is = rw (leave_field.again (node, cause) is.0) refl
+ring_again (ring.Join node) is = rw (small_field.again node is.0) refl
 
 ring_lie : (entry : RingEntry) → IsRingEntry entry → all_lie 32 102 (ring_body entry) ≡ true
 ring_lie (ring.Post node frame) is = post_field.lie (node, frame) (is.0.0, (is.0.1, is.1))
@@ -396,7 +423,8 @@ ring_lie (ring.Local node id op result) is =
 ring_lie (ring.GiveUp id word) is = give_up_field.lie (id, word) is.0
 ring_lie (ring.Pass node done words) is =
     pass_field.lie (node, (done, words)) (is.0.0, (tt, is.0.1))
-ring_lie (ring.Leave node cause) is = leave_field.lie (node, cause) (is.0, tt)
+ring_lie (ring.Leave node cause) is = leave_field.lie (node, cause) is.0
+ring_lie (ring.Join node) is = lie_in small_field 32 102 refl node is.0
 
 pub ring_field : IsField read_ring_entry ring_body IsRingEntry 32 102
 unfolding read_ring_entry

@@ -1,7 +1,7 @@
 -- The lines of controllers and hosts are read as they are written.
-use Rattle.std.proofs.Common.{◌≡◌, ℕ, true, cond, inl, inr, List, [], ◌∷◌, ◌++◌, Some, None, All}
+use Rattle.std.proofs.Common.{◌≡◌, ℕ, true, inl, inr, List, [], ◌∷◌, ◌++◌, Option, Some, None, All}
 use Rattle.std.proofs.Common.{refl, sym, ap, subst, ◌∙◌, append_assoc}
-use Rattle.std.specs.Prelude.{codes}
+use Rattle.std.specs.Prelude.{codes, if◌then◌else◌}
 use Rattle.std.specs.Fmt.{decimal}
 use Rattle.std.specs.List.{flat_map, AllByRecursion}
 use Rattle.std.specs.Str.{bytes_eq}
@@ -30,7 +30,7 @@ use Rattle.journal_text.proofs.ReadLaws.{first_takes}
 use Rattle.journal_text.proofs.Numbers.{word_number_field, id_field}
 use Rattle.journal_text.proofs.Digits.{pdu_field, word_field, block_field}
 use Rattle.journal_text.proofs.Calls.{IsCall, AreCalls, calls_body, next_is, result_field}
-use Rattle.journal_text.proofs.Calls.{calls_field, served_field, asked_field}
+use Rattle.journal_text.proofs.Calls.{calls_field, served_field, asked_field, named_field}
 
 -- the line of an entry without its line feed
 abbrev peer_body : CallId → List ℕ → List ℕ → List ℕ
@@ -109,9 +109,13 @@ entry_kinds_take = (
           form_of_field served_field entry_body IsEntry (codes "P ") (λ p. entries.Peer p.0 p.1.0
               p.1.1) (λ p fits. refl) (λ p fits. ((fits.0, fits.1.0, fits.1.1), tt)),
           (
-            form_of_field finish_field entry_body IsEntry (codes "F ") (λ p. entries.Finish p.0 p.1)
+            form_of_field named_field entry_body IsEntry (codes "N ") (λ p. entries.Off p.0 p.1)
                 (λ p fits. refl) (λ p fits. (fits, tt)),
-            tt,
+            (
+              form_of_field finish_field entry_body IsEntry (codes "F ")
+                  (λ p. entries.Finish p.0 p.1) (λ p fits. refl) (λ p fits. (fits, tt)),
+              tt,
+            ),
           ),
         ),
       ),
@@ -119,22 +123,28 @@ entry_kinds_take = (
   ),
 )
 
+-- a line that is one letter, or else another one
+letter_takes : (letter line : List ℕ) (of_letter entry : Entry) (other : Option Entry)
+    → letter ≡ entry_body of_letter → IsEntry of_letter
+    → (other ≡ Some entry → (line ≡ entry_body entry) × IsEntry entry)
+    → (if bytes_eq line letter then Some of_letter else other) ≡ Some entry
+    → (line ≡ entry_body entry) × IsEntry entry
+letter_takes letter line of_letter entry other told is more e =
+    elim (chosen (bytes_eq line letter) (Some of_letter) other (Some entry) e) [
+      | inl found ↦
+          subst (λ (x : Entry). (line ≡ entry_body x) × IsEntry x)
+          (some_is of_letter entry found.1) (text_is line letter found.0 ∙ told, is)
+      | inr rest ↦ more rest.1
+    ]
+
 bare_entry_takes : (line : List ℕ) (entry : Entry) → read_bare_entry line ≡ Some entry
     → (line ≡ entry_body entry) × IsEntry entry
-bare_entry_takes line entry e =
-    elim (chosen (bytes_eq line (codes "B")) (Some entries.Begin)
-    (cond (bytes_eq line (codes "E")) (Some entries.End) None) (Some entry) e) [
-      | inl begin ↦
-          subst (λ (x : Entry). (line ≡ entry_body x) × IsEntry x)
-          (some_is entries.Begin entry begin.1) (text_is line (codes "B") begin.0, (tt, tt))
-      | inr more ↦
-          elim (chosen (bytes_eq line (codes "E")) (Some entries.End) None (Some entry) more.1) [
-            | inl last ↦
-                subst (λ (x : Entry). (line ≡ entry_body x) × IsEntry x)
-                (some_is entries.End entry last.1) (text_is line (codes "E") last.0, (tt, tt))
-            | inr none ↦ none_some ((line ≡ entry_body entry) × IsEntry entry) entry none.1
-          ]
-    ]
+bare_entry_takes line entry =
+    letter_takes (codes "B") line entries.Begin entry _ refl (tt, tt)
+    (letter_takes (codes "E") line entries.End entry _ refl (tt, tt)
+    (letter_takes (codes "X") line entries.Fail entry _ refl (tt, tt)
+    (letter_takes (codes "K") line entries.Dark entry None refl (tt, tt)
+    (none_some ((line ≡ entry_body entry) × IsEntry entry) entry))))
 
 collect_again : (calls : List Call) → AreCalls calls
     → read_entry (entry_body (entries.Collect calls)) ≡ Some (entries.Collect calls)
@@ -149,12 +159,12 @@ entry_again (entries.Input row) is = rw (word_number_field.again row is.0) refl
 entry_again (entries.Solve row) is = rw (word_number_field.again row is.0) refl
 entry_again (entries.Output row words) is = rw (output_field.again (row, words) is.0) refl
 entry_again entries.End is = refl
-entry_again entries.Fail is = absurd is.1
-entry_again entries.Dark is = absurd is.1
+entry_again entries.Fail is = refl
+entry_again entries.Dark is = refl
 entry_again (entries.Collect calls) is = collect_again calls (calls_of_entry calls is)
 entry_again (entries.Peer id request reply) is =
     rw (served_field.again (id, (request, reply)) (is.0.0, (is.0.1, is.0.2))) refl
-entry_again (entries.Off id request) is = absurd is.1
+entry_again (entries.Off id request) is = rw (named_field.again (id, request) is.0) refl
 entry_again (entries.Finish id result) is = rw (finish_field.again (id, result) is.0) refl
 
 entry_lie : (entry : Entry) → IsEntry entry → all_lie 32 102 (entry_body entry) ≡ true
@@ -163,15 +173,15 @@ entry_lie (entries.Input row) is = lie_in word_number_field 32 102 refl row is.0
 entry_lie (entries.Solve row) is = lie_in word_number_field 32 102 refl row is.0
 entry_lie (entries.Output row words) is = output_field.lie (row, words) is.0
 entry_lie entries.End is = refl
-entry_lie entries.Fail is = absurd is.1
-entry_lie entries.Dark is = absurd is.1
+entry_lie entries.Fail is = refl
+entry_lie entries.Dark is = refl
 entry_lie (entries.Collect calls) is =
     let are = calls_of_entry calls is in
     subst (λ (t : List ℕ). all_lie 32 102 t ≡ true) (calls_front calls are)
     (calls_field.lie calls are)
 entry_lie (entries.Peer id request reply) is =
     served_field.lie (id, (request, reply)) (is.0.0, (is.0.1, is.0.2))
-entry_lie (entries.Off id request) is = absurd is.1
+entry_lie (entries.Off id request) is = named_field.lie (id, request) is.0
 entry_lie (entries.Finish id result) is = finish_field.lie (id, result) is.0
 
 pub entry_field : IsField read_entry entry_body IsEntry 32 102

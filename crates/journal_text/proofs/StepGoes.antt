@@ -128,6 +128,7 @@ ring_no_end (ring.Local node id op result) = refl
 ring_no_end (ring.GiveUp id word) = refl
 ring_no_end (ring.Pass node done words) = refl
 ring_no_end (ring.Leave node cause) = refl
+ring_no_end (ring.Join node) = refl
 
 above : (a b : ℕ) → a < b → nat_lt a b ≡ true
 above a b less = grind (arith, nat_tests)

@@ -14,7 +14,7 @@ use Rattle.controller_core.specs.declared.call.Call.{Call}
 use Rattle.controller_core.specs.declared.call.CallKind.{CallKind}
 use Rattle.controller_core.specs.declared.call.CallKind.TheVariants.{Net, Local}
 use Rattle.controller_core.specs.declared.entry.Entry.{Entry}
-use Rattle.controller_core.specs.declared.entry.Entry.TheVariants.{Collect, Fail, Dark, Off}
+use Rattle.controller_core.specs.declared.entry.Entry.TheVariants.{Collect}
 use Rattle.joint_history.specs.declared.joint.ControllerLog.{ControllerLog}
 use Rattle.joint_history.specs.declared.joint.HostLog.{HostLog}
 use Rattle.joint_history.specs.declared.joint.Joint.{Joint}
@@ -48,13 +48,9 @@ IsPlainKind (Local op) = IsOwnOp op
 abbrev pub IsPlainCall : Call → Type 0
 IsPlainCall call = IsPlainKind call.kind
 
--- A controller hands on one call at least. The lines of power failures are not read back yet, so a
--- plain joint history has none.
+-- A controller hands on one call at least.
 abbrev pub IsPlainEntry : Entry → Type 0
 IsPlainEntry (Collect calls) = (calls ≢ []) × All IsPlainCall calls
-IsPlainEntry Fail = ⊥
-IsPlainEntry Dark = ⊥
-IsPlainEntry (Off id request) = ⊥
 IsPlainEntry _ = Unit {0}
 
 -- A Reply that is posted goes to the node that asked.

@@ -1,15 +1,15 @@
 -- Which joint histories have a journal. This project's own.
 use Rattle.std.specs.Prelude.{◌≡◌, ℕ, List, ◌++◌}
 use Rattle.plant_types.specs.declared.plan.Plant.{Plant}
-use Rattle.plant_types.specs.Plans.{IsPlant, AllKeepPower}
+use Rattle.plant_types.specs.Plans.{IsPlant}
 use Rattle.joint_history.specs.declared.joint.Joint.{Joint}
 use Rattle.joint_history.specs.JointLaws.{IsLegalJoint}
 use Rattle.journal_text.specs.Journal.{IsPlain}
 use Rattle.journal_text.specs.Fronts.{IsJournalOf}
 
--- The legal ones of a plant whose controllers keep their power are plain.
+-- The legal ones of a plant are plain.
 abbrev pub LegalIsPlain : Type 0
-LegalIsPlain = (plant : Plant) (scans : ℕ) (joint : Joint) → IsPlant plant → AllKeepPower plant
+LegalIsPlain = (plant : Plant) (scans : ℕ) (joint : Joint) → IsPlant plant
     → IsLegalJoint plant scans joint → IsPlain joint
 
 -- One text is the journal of one plain joint history.

@@ -8,7 +8,7 @@ use Rattle.ring_core.specs.declared.frame.FrameKind.TheVariants.{Request, Reply}
 use Rattle.ring_core.specs.declared.entry.Heard.{Heard}
 use Rattle.ring_core.specs.declared.entry.Heard.TheVariants.{Acked, Silent, Busy}
 use Rattle.ring_core.specs.declared.entry.LeaveCause.{LeaveCause}
-use Rattle.ring_core.specs.declared.entry.LeaveCause.TheVariants.{Ended, Spent}
+use Rattle.ring_core.specs.declared.entry.LeaveCause.TheVariants.{Ended, Spent, Down}
 use Rattle.ring_core.specs.declared.entry.RingEntry.{RingEntry}
 use Rattle.ring_core.specs.declared.entry.RingEntry.TheVariants as ring
 use Rattle.controller_core.specs.declared.call.Call.{Call}
@@ -89,6 +89,7 @@ heard_text Busy = codes "B"
 abbrev pub cause_text : LeaveCause → List ℕ
 cause_text Ended = codes "E"
 cause_text Spent = codes "S"
+cause_text (Down number) = codes "D" ++ decimal number
 
 abbrev pub done_text : Bool → List ℕ
 done_text true = codes "1"
@@ -114,3 +115,4 @@ ring_line (ring.Pass node done words) =
     ++ codes "\n"
 ring_line (ring.Leave node cause) =
     codes "LE " ++ decimal node ++ codes " " ++ cause_text cause ++ codes "\n"
+ring_line (ring.Join node) = codes "JN " ++ decimal node ++ codes "\n"

@@ -15,7 +15,7 @@ use Rattle.ring_core.specs.declared.entry.LocalOp.TheVariants as ops
 use Rattle.ring_core.specs.declared.entry.Heard.{Heard}
 use Rattle.ring_core.specs.declared.entry.Heard.TheVariants.{Acked, Silent, Busy}
 use Rattle.ring_core.specs.declared.entry.LeaveCause.{LeaveCause}
-use Rattle.ring_core.specs.declared.entry.LeaveCause.TheVariants.{Ended, Spent}
+use Rattle.ring_core.specs.declared.entry.LeaveCause.TheVariants.{Ended, Spent, Down}
 use Rattle.ring_core.specs.declared.entry.RingEntry.{RingEntry}
 use Rattle.ring_core.specs.declared.entry.RingEntry.TheVariants as ring
 use Rattle.controller_core.specs.declared.call.Call.{Call}
@@ -29,7 +29,7 @@ use Rattle.host_port.specs.declared.entry.HostEntry.{HostEntry}
 use Rattle.host_port.specs.declared.entry.HostEntry.TheVariants as host_entries
 use Rattle.journal_text.specs.Reading.{◌>>=◌, Form, read_first, read_as, read_pair, read_small}
 use Rattle.journal_text.specs.Reading.{read_word, read_id, read_pdu, read_hex_words, read_hex_word}
-use Rattle.journal_text.specs.Reading.{read_block}
+use Rattle.journal_text.specs.Reading.{read_block, read_long}
 
 -- What is asked of a port: for the own station, and for another one too.
 abbrev pub read_put_global : List ℕ → Option LocalOp
@@ -111,6 +111,9 @@ read_output text =
 abbrev pub read_peer : List ℕ → Option Entry
 read_peer text = read_as (λ parts. entries.Peer parts.0 parts.1.0 parts.1.1) read_served text
 
+abbrev pub read_off : List ℕ → Option Entry
+read_off text = read_as (λ parts. entries.Off parts.0 parts.1) read_named text
+
 abbrev pub read_finish : List ℕ → Option Entry
 read_finish text =
     read_as (λ parts. entries.Finish parts.0 parts.1) (read_pair read_id read_result 32) text
@@ -122,6 +125,7 @@ entry_forms =
     ∷ (codes "O ", read_output)
     ∷ (codes "L ", read_as (λ calls. entries.Collect calls) read_calls)
     ∷ (codes "P ", read_peer)
+    ∷ (codes "N ", read_off)
     ∷ (codes "F ", read_finish)
     ∷ []
 
@@ -129,6 +133,8 @@ abbrev pub read_bare_entry : List ℕ → Option Entry
 read_bare_entry line =
     if bytes_eq line (codes "B") then Some entries.Begin
     else if bytes_eq line (codes "E") then Some entries.End
+    else if bytes_eq line (codes "X") then Some entries.Fail
+    else if bytes_eq line (codes "K") then Some entries.Dark
     else None
 
 unfoldable pub read_entry : List ℕ → Option Entry
@@ -207,11 +213,17 @@ read_heard text =
     else if bytes_eq text (codes "B") then Some Busy
     else None
 
-unfoldable pub read_cause : List ℕ → Option LeaveCause
-read_cause text =
+abbrev pub read_bare_cause : List ℕ → Option LeaveCause
+read_bare_cause text =
     if bytes_eq text (codes "E") then Some Ended
     else if bytes_eq text (codes "S") then Some Spent
     else None
+
+abbrev pub cause_forms : List (Form LeaveCause)
+cause_forms = (codes "D", read_as (λ number. Down number) read_long) ∷ []
+
+unfoldable pub read_cause : List ℕ → Option LeaveCause
+read_cause text = read_first cause_forms (read_bare_cause text) text
 
 unfoldable pub read_done : List ℕ → Option Bool
 read_done text =
@@ -258,6 +270,7 @@ ring_forms =
     ∷ (codes "GU ", read_give_up)
     ∷ (codes "PA ", read_pass)
     ∷ (codes "LE ", read_leave)
+    ∷ (codes "JN ", read_as (λ node. ring.Join node) read_small)
     ∷ []
 
 unfoldable pub read_ring_entry : List ℕ → Option RingEntry

@@ -8,6 +8,8 @@ use Rattle.mstr_block.specs.declared.call.MstrResult.TheVariants.{Good, Bad}
 use Rattle.ring_core.specs.declared.frame.Frame.{Frame}
 use Rattle.ring_core.specs.declared.entry.LocalOp.{LocalOp}
 use Rattle.ring_core.specs.declared.entry.LocalOp.TheVariants.{PutGlobal, GetGlobal}
+use Rattle.ring_core.specs.declared.entry.LeaveCause.{LeaveCause}
+use Rattle.ring_core.specs.declared.entry.LeaveCause.TheVariants.{Down}
 use Rattle.ring_core.specs.declared.entry.RingEntry.{RingEntry}
 use Rattle.ring_core.specs.declared.entry.RingEntry.TheVariants as ring
 use Rattle.controller_core.specs.declared.call.Call.{Call}
@@ -69,7 +71,7 @@ FitsKind (Local op) = FitsOp op
 abbrev pub FitsCall : Call → Type 0
 FitsCall call = IsId call.id × FitsKind call.kind
 
--- An entry of a controller, of a host and of the ring.
+-- An entry of a controller, and of a host.
 abbrev pub FitsEntry : Entry → Type 0
 FitsEntry (entries.Input row) = IsWord row
 FitsEntry (entries.Solve row) = IsWord row
@@ -92,6 +94,12 @@ FitsHostEntry (host_entries.Served id request reply) = IsId id × IsPdu request 
 abbrev pub FitsFrame : Frame → Type 0
 FitsFrame frame = IsSmall frame.to × IsId frame.id × IsPdu frame.pdu
 
+-- Why a node leaves: its power failed so many times.
+abbrev pub FitsCause : LeaveCause → Type 0
+FitsCause (Down number) = IsLong number
+FitsCause _ = Unit {0}
+
+-- An entry of the ring.
 abbrev pub FitsRingEntry : RingEntry → Type 0
 FitsRingEntry (ring.Post node frame) = IsSmall node × FitsFrame frame
 FitsRingEntry (ring.Send node heard) = IsSmall node
@@ -100,7 +108,8 @@ FitsRingEntry (ring.Local node id op result) =
     IsSmall node × IsId id × FitsOp op × FitsResult result
 FitsRingEntry (ring.GiveUp id word) = IsId id × IsWord word
 FitsRingEntry (ring.Pass node done words) = IsSmall node × AreWords words
-FitsRingEntry (ring.Leave node cause) = IsSmall node
+FitsRingEntry (ring.Leave node cause) = IsSmall node × FitsCause cause
+FitsRingEntry (ring.Join node) = IsSmall node
 
 -- A joint history with numbers and lists of its types.
 abbrev pub FitsLog : ControllerLog → Type 0

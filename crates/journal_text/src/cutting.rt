@@ -124,7 +124,7 @@ pub(crate) fn read_word(text: &[u8]) -> Result<u16, LineFault>
 }
 
 #[tactic(auto, unfolding(crate::specs::Reading::read_long))]
-fn read_long(text: &[u8]) -> Result<u32, LineFault>
+pub(crate) fn read_long(text: &[u8]) -> Result<u32, LineFault>
     ensures { Reads (λ number. number) result (read_long text.now) }
 {
     let number = read_number(text, 1 << 32)?;

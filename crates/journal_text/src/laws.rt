@@ -1,19 +1,16 @@
 //! Which joint histories have a journal.
 ghost use Rattle.journal_text.specs.Laws.{LegalIsPlain, OneHistoryOfAText, OneJournalInFront};
 
-use controller_core::kept_power_is_on;
 use mstr_block::calls_are_taken_in_order;
 use ring_laws::{only_its_target, reply_to_its_caller};
 
-/// Each legal joint history of a plant whose controllers keep their power is plain, so it has a
-/// journal.
+/// Each legal joint history of a plant is plain, so it has a journal.
 pub fn legal_is_plain()
     ensures { LegalIsPlain }
 {
     calls_are_taken_in_order();
     only_its_target();
     reply_to_its_caller();
-    kept_power_is_on();
 }
 
 /// A journal is that of one joint history.

@@ -50,7 +50,6 @@ fn is_plain_entry(entry: &Entry) -> bool
             let calls = calls.as_slice();
             !calls.is_empty() && are_plain_calls(calls)
         }
-        Entry::Fail | Entry::Dark | Entry::Off { .. } => false,
         _ => true,
     }
 }

@@ -1,14 +1,17 @@
 //! The lines of the ring that are read back.
 ghost use Rattle.std.specs.Prelude.{◌≡◌};
-ghost use Rattle.journal_text.specs.Reading.{Reads, read_as};
-ghost use Rattle.journal_text.specs.ReadLines.{read_asked, read_cause, read_done, read_give_up};
+ghost use Rattle.ring_core.specs.declared.entry.LeaveCause.TheVariants.{Down};
+ghost use Rattle.ring_core.specs.declared.entry.RingEntry.TheVariants as ring;
+ghost use Rattle.journal_text.specs.Reading.{Reads, read_as, read_long, read_small};
+ghost use Rattle.journal_text.specs.ReadLines.{read_asked, read_bare_cause, read_cause, read_done};
+ghost use Rattle.journal_text.specs.ReadLines.{read_give_up};
 ghost use Rattle.journal_text.specs.ReadLines.{got_from, read_got, read_heard, read_leave};
 ghost use Rattle.journal_text.specs.ReadLines.{read_local, read_named, read_pass, read_post};
 ghost use Rattle.journal_text.specs.ReadLines.{sent_reply, sent_request, read_ring_entry};
 ghost use Rattle.journal_text.specs.ReadLines.{read_send, read_sent, read_take, target_of};
 
 use crate::calls_read::{read_asked, read_named, read_op, read_result};
-use crate::cutting::{LineFault, behind, cut, is_text, read_id, read_small};
+use crate::cutting::{LineFault, behind, cut, is_text, read_id, read_long, read_small};
 use crate::words_read::{read_hex_word, read_hex_words};
 use mstr_block::CallId;
 use plant_types::{Pdu, Words};
@@ -97,9 +100,9 @@ fn read_heard(text: &[u8]) -> Result<Heard, LineFault>
     }
 }
 
-#[tactic(auto, unfolding(crate::specs::ReadLines::read_cause))]
-fn read_cause(text: &[u8]) -> Result<LeaveCause, LineFault>
-    ensures { Reads (λ cause. cause) result (read_cause text.now) }
+/// The causes that are a letter alone.
+fn read_bare_cause(text: &[u8]) -> Result<LeaveCause, LineFault>
+    ensures { Reads (λ cause. cause) result (read_bare_cause text.now) }
 {
     if is_text(text, "E") {
         Ok(LeaveCause::Ended)
@@ -107,6 +110,24 @@ fn read_cause(text: &[u8]) -> Result<LeaveCause, LineFault>
         Ok(LeaveCause::Spent)
     } else {
         Err(LineFault::Wrong)
+    }
+}
+
+fn read_down(text: &[u8]) -> Result<LeaveCause, LineFault>
+    ensures { Reads (λ cause. cause) result
+        (read_as (λ number. Down number) read_long text.now) }
+{
+    let number = read_long(text)?;
+    Ok(LeaveCause::Down(number))
+}
+
+#[tactic(auto, unfolding(crate::specs::ReadLines::read_cause))]
+fn read_cause(text: &[u8]) -> Result<LeaveCause, LineFault>
+    ensures { Reads (λ cause. cause) result (read_cause text.now) }
+{
+    match behind(text, "D") {
+        Some(number) => read_down(number),
+        None => read_bare_cause(text),
     }
 }
 
@@ -200,6 +221,14 @@ fn read_leave(text: &[u8]) -> Result<RingEntry, LineFault>
     Ok(RingEntry::Leave { node, cause })
 }
 
+fn read_join(text: &[u8]) -> Result<RingEntry, LineFault>
+    ensures { Reads (λ entry. entry) result
+        (read_as (λ node. ring.Join node) read_small text.now) }
+{
+    let node = read_small(text)?;
+    Ok(RingEntry::Join { node })
+}
+
 /// The entry of the ring that a line tells.
 #[tactic(auto, unfolding(crate::specs::ReadLines::read_ring_entry))]
 pub(crate) fn read_ring_entry(alloc: Global, line: &[u8]) -> Result<RingEntry, LineFault>
@@ -225,6 +254,9 @@ pub(crate) fn read_ring_entry(alloc: Global, line: &[u8]) -> Result<RingEntry, L
     }
     if let Some(rest) = behind(line, "LE ") {
         return read_leave(rest);
+    }
+    if let Some(rest) = behind(line, "JN ") {
+        return read_join(rest);
     }
     Err(LineFault::Wrong)
 }

@@ -4,8 +4,7 @@ ghost use Rattle.std.specs.Fmt.{decimal};
 ghost use Rattle.std.specs.List.{flat_map};
 ghost use Rattle.journal_text.specs.Fields.{call_result_text, hex_bytes, hex_words, id_text};
 ghost use Rattle.journal_text.specs.Fields.{op_text};
-ghost use Rattle.journal_text.specs.Lines.{cause_text, done_text, got_text, heard_text, ring_line};
-ghost use Rattle.journal_text.specs.Lines.{sent_text};
+ghost use Rattle.journal_text.specs.Lines.{done_text, got_text, heard_text, ring_line, sent_text};
 
 use crate::fields::{HexWord, Name, push_bytes, push_op, push_result, push_words};
 use crate::hosts::push_request;
@@ -22,15 +21,6 @@ fn heard_text(heard: Heard) -> &'static str
         Heard::Acked => "A",
         Heard::Silent => "S",
         Heard::Busy => "B",
-    }
-}
-
-fn cause_text(cause: LeaveCause) -> &'static str
-    ensures { result.now ≡ cause_text cause }
-{
-    match cause {
-        LeaveCause::Ended => "E",
-        LeaveCause::Spent => "S",
     }
 }
 
@@ -124,6 +114,17 @@ fn push_pass(text: &mut String, node: u8, done: bool, words: &[u16]) -> Result<(
     text.push_str("\n")
 }
 
+fn push_leave(text: &mut String, node: u8, cause: LeaveCause) -> Result<(), AllocError>
+    ensures { OnOk result (string_bytes text.new ≡ string_bytes text.old
+        ++ ring_line (RingEntry.Leave node cause)) }
+{
+    match cause {
+        LeaveCause::Ended => write!(text, "LE {node} E\n"),
+        LeaveCause::Spent => write!(text, "LE {node} S\n"),
+        LeaveCause::Down(number) => write!(text, "LE {node} D{number}\n"),
+    }
+}
+
 fn push_entry(text: &mut String, entry: &RingEntry) -> Result<(), AllocError>
     ensures { OnOk result (string_bytes text.new ≡ string_bytes text.old ++ ring_line entry.now) }
 {
@@ -142,10 +143,8 @@ fn push_entry(text: &mut String, entry: &RingEntry) -> Result<(), AllocError>
         } => push_local(text, *node, *id, op, result),
         RingEntry::GiveUp { id, word } => push_give_up(text, *id, *word),
         RingEntry::Pass { node, done, words } => push_pass(text, *node, *done, words.words()),
-        RingEntry::Leave { node, cause } => {
-            let cause = cause_text(*cause);
-            write!(text, "LE {node} {cause}\n")
-        }
+        RingEntry::Leave { node, cause } => push_leave(text, *node, *cause),
+        RingEntry::Join { node } => write!(text, "JN {node}\n"),
     }
 }
 

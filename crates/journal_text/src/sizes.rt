@@ -1,6 +1,7 @@
 //! That a joint history has numbers and lists of its types. A call made for the prover alone.
 ghost use Rattle.std.specs.Prelude.{All};
-ghost use Rattle.journal_text.specs.Sizes.{AreWords, FitsAnswer, FitsCall, FitsEntry, FitsFrame};
+ghost use Rattle.journal_text.specs.Sizes.{AreWords, FitsAnswer, FitsCall, FitsCause, FitsEntry};
+ghost use Rattle.journal_text.specs.Sizes.{FitsFrame};
 ghost use Rattle.journal_text.specs.Sizes.{FitsHostEntry, FitsHostLog, FitsJoint, FitsKind};
 ghost use Rattle.journal_text.specs.Sizes.{FitsLog, FitsOp, FitsResult, FitsRingEntry};
 ghost use Rattle.journal_text.specs.Sizes.{AreBlockWords, IsId, IsLong, IsPdu, IsSmall, IsWord};
@@ -10,7 +11,7 @@ use host_port::{HostEntry, HostResult};
 use joint_history::{ControllerLog, HostLog, Joint};
 use mstr_block::{CallId, MstrResult};
 use plant_types::{Block, Pdu};
-use ring_core::{Frame, LocalOp, RingEntry};
+use ring_core::{Frame, LeaveCause, LocalOp, RingEntry};
 
 fn small(number: u8)
     ensures { IsSmall number }
@@ -216,6 +217,15 @@ fn frame(frame: &Frame)
     pdu(&frame.pdu);
 }
 
+fn cause(cause: LeaveCause)
+    ensures { FitsCause cause }
+{
+    match cause {
+        LeaveCause::Ended | LeaveCause::Spent => {}
+        LeaveCause::Down(number) => long(number),
+    }
+}
+
 fn ring_entry(entry: &RingEntry)
     ensures { FitsRingEntry entry.now }
 {
@@ -224,7 +234,7 @@ fn ring_entry(entry: &RingEntry)
             small(*node);
             frame(sent);
         }
-        RingEntry::Send { node, .. } | RingEntry::Leave { node, .. } => small(*node),
+        RingEntry::Send { node, .. } | RingEntry::Join { node } => small(*node),
         RingEntry::Local {
             node,
             id,
@@ -247,6 +257,10 @@ fn ring_entry(entry: &RingEntry)
         } => {
             small(*node);
             words(global.words());
+        }
+        RingEntry::Leave { node, cause: told } => {
+            small(*node);
+            cause(*told);
         }
     }
 }

@@ -6,9 +6,9 @@ ghost use Rattle.journal_text.specs.Reading.{Reads, read_as, read_pdu, read_word
 ghost use Rattle.journal_text.specs.ReadLines.{read_answer, read_ask, read_bare_entry, read_calls};
 ghost use Rattle.journal_text.specs.ReadLines.{read_entry, read_finish, read_host_entry};
 ghost use Rattle.journal_text.specs.ReadLines.{read_host_served, read_outcome, read_output};
-ghost use Rattle.journal_text.specs.ReadLines.{read_peer};
+ghost use Rattle.journal_text.specs.ReadLines.{read_off, read_peer};
 
-use crate::calls_read::{read_asked, read_calls, read_result, read_served};
+use crate::calls_read::{read_asked, read_calls, read_named, read_result, read_served};
 use crate::cutting::{LineFault, behind, cut, is_text, read_id, read_word};
 use crate::words_read::{read_block, read_hex_word, read_pdu};
 use controller_core::Entry;
@@ -55,6 +55,13 @@ fn read_peer(alloc: Global, text: &[u8]) -> Result<Entry, LineFault>
     Ok(Entry::Peer { id, request, reply })
 }
 
+fn read_off(alloc: Global, text: &[u8]) -> Result<Entry, LineFault>
+    ensures { Reads (λ entry. entry) result (read_off text.now) }
+{
+    let (id, request) = read_named(alloc, text)?;
+    Ok(Entry::Off { id, request })
+}
+
 fn read_finish(alloc: Global, text: &[u8]) -> Result<Entry, LineFault>
     ensures { Reads (λ entry. entry) result (read_finish text.now) }
 {
@@ -75,6 +82,10 @@ fn read_bare_entry(line: &[u8]) -> Result<Entry, LineFault>
         Ok(Entry::Begin)
     } else if is_text(line, "E") {
         Ok(Entry::End)
+    } else if is_text(line, "X") {
+        Ok(Entry::Fail)
+    } else if is_text(line, "K") {
+        Ok(Entry::Dark)
     } else {
         Err(LineFault::Wrong)
     }
@@ -99,6 +110,9 @@ pub(crate) fn read_entry(alloc: Global, line: &[u8]) -> Result<Entry, LineFault>
     }
     if let Some(rest) = behind(line, "P ") {
         return read_peer(alloc, rest);
+    }
+    if let Some(rest) = behind(line, "N ") {
+        return read_off(alloc, rest);
     }
     if let Some(rest) = behind(line, "F ") {
         return read_finish(alloc, rest);

@@ -39,7 +39,7 @@ net-sound = record {
       (from-to 1 64 2 (omega arith) (omega arith));
   rising = two-rise;
   fates = from-to 1 1000 1 (omega arith) (omega arith);
-  answer = from-to 2 1000 20 (omega arith) (omega arith);
+  answer = from-to 2 1000 2 (omega arith) (omega arith);
   rotations = from-to 1 10 2 (omega arith) (omega arith);
   rounds = from-to 1 100 1 (omega arith) (omega arith);
   holds = from-to 1 100000 1000 (omega arith) (omega arith);
@@ -60,17 +60,18 @@ controller-passes : PassesTests controller_plan
 unfolding tests_behind
 controller-passes = refl
 
-controller-runs : IsRunnable (fixed_of example_plant 1 controller_plan)
+controller-runs : (scans : ℕ) → 1 ≤ scans → scans ≤ 2000
+    → IsRunnable (fixed_of example_plant scans controller_plan)
 unfolding no_two
-controller-runs = record {
+controller-runs scans from to = record {
   plan = record { passes = refl; messages = omega arith; count = omega arith; rows = tt };
   scan_time = omega arith;
   watchdog = omega arith;
   scans = omega arith;
 }
 
-pub example-judged : CanBeJudged example_plant 1
-example-judged = record {
+pub example-judged : (scans : ℕ) → 1 ≤ scans → scans ≤ 2000 → CanBeJudged example_plant scans
+example-judged scans from to = record {
   sound = record {
     scan_time = from-to 1 1000 10 (omega arith) (omega arith);
     watchdog = from-to 1 10000 500 (omega arith) (omega arith);
@@ -84,5 +85,6 @@ example-judged = record {
     members = IsPermutation-refl (1 ∷ 2 ∷ []);
   };
   runs =
-      all-one (λ plan. IsRunnable (fixed_of example_plant 1 plan)) controller_plan controller-runs;
+      all-one (λ plan. IsRunnable (fixed_of example_plant scans plan)) controller_plan
+      (controller-runs scans from to);
 }

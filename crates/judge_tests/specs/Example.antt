@@ -6,7 +6,7 @@ use Rattle.plant_types.specs.declared.net.NetPlan.{NetPlan}
 use Rattle.plant_types.specs.declared.plan.ControllerPlan.{ControllerPlan}
 use Rattle.plant_types.specs.declared.plan.Plant.{Plant}
 
--- A controller of 16 registers, which solves nothing.
+-- A controller of 16 registers, which solves nothing, and whose power fails in its second scan.
 abbrev pub controller_plan : ControllerPlan
 controller_plan = record {
   node = 1;
@@ -16,7 +16,7 @@ controller_plan = record {
   registers = 16;
   panel = [];
   orders = [];
-  power = [];
+  power = record { scan = 2; row = 0; dark = 0 } ∷ [];
   drops = [];
   segments = [];
 }
@@ -33,7 +33,7 @@ abbrev pub net_plan : NetPlan
 net_plan = record {
   members = 1 ∷ 2 ∷ [];
   fates = D ∷ [];
-  answer = 20;
+  answer = 2;
   rotations = 2;
   rounds = 1;
   holds = 1000;

@@ -1,6 +1,6 @@
 //! Joint histories of a controller and of a host that asks it for a register, and what one change
 //! makes of them.
-ghost use Rattle.std.specs.Prelude.{◌≡◌, ◌∷◌, [], IfOk};
+ghost use Rattle.std.specs.Prelude.{◌≡◌, ◌≤◌, ℕ, ◌∷◌, [], IfOk};
 ghost use Rattle.judge_tests.specs.Example.{controller_plan, host_plan, net_plan};
 ghost use Rattle.joint_law.specs.Spots.{CanBeJudged};
 
@@ -9,7 +9,9 @@ use host_port::{HostEntry, HostResult};
 use joint_history::{ControllerLog, HostLog, Joint};
 use joint_law::{Judgement, Spot, Verdict, judge, judge_noted};
 use mstr_block::CallId;
-use plant_types::{ControllerPlan, Fate, HostAsk, HostPlan, List, NetPlan, Pdu, Plant, Words};
+use plant_types::{
+    ControllerPlan, Fate, HostAsk, HostPlan, List, NetPlan, Pdu, Plant, PowerRow, Words,
+};
 use ring_core::{Frame, FrameKind, Heard, LeaveCause, RingEntry};
 use std::alloc::{AllocError, Global};
 
@@ -33,6 +35,36 @@ enum Change {
     NoAnswer,
     NoEnd,
     NoLeave,
+    /// A second scan, in which power fails behind the reply, and nobody notices.
+    Unnoticed,
+    /// A second scan, in which power fails before the request comes.
+    Failing,
+    /// The same, but the node left for the second failure.
+    DownAsSecond,
+    /// The same, but it replied without power.
+    ReplyWithoutPower,
+}
+
+impl Change {
+    /// Power fails before the request comes.
+    fn fails(self) -> bool {
+        match self {
+            Change::Failing | Change::DownAsSecond | Change::ReplyWithoutPower => true,
+            _ => false,
+        }
+    }
+
+    /// How many scans it has.
+    fn scans(self) -> u32
+        ensures from { 1 ≤ result }
+        ensures to { result ≤ 2000 }
+    {
+        if self.fails() || self == Change::Unnoticed {
+            2
+        } else {
+            1
+        }
+    }
 }
 
 const CALL: CallId = CallId {
@@ -56,11 +88,24 @@ fn pdu_of(alloc: Global, bytes: &[u8]) -> Result<Pdu, AllocError>
     }
 }
 
-/// A controller of 16 registers, which solves nothing.
+fn power(alloc: Global) -> Result<List<PowerRow>, AllocError>
+    ensures { IfOk result (λ rows. rows ≡ controller_plan.power) }
+{
+    let mut rows = List::new(alloc);
+    rows.push(PowerRow {
+        scan: 2,
+        row: 0,
+        dark: 0,
+    })?;
+    Ok(rows)
+}
+
+/// A controller of 16 registers, which solves nothing, and whose power fails in its second scan.
 fn controllers(alloc: Global) -> Result<List<ControllerPlan>, AllocError>
     ensures { IfOk result (λ plans. plans ≡ controller_plan ∷ []) }
 {
     let mut plans = List::new(alloc);
+    let power = power(alloc)?;
     plans.push(ControllerPlan {
         node: 1,
         coils: 16,
@@ -69,7 +114,7 @@ fn controllers(alloc: Global) -> Result<List<ControllerPlan>, AllocError>
         registers: 16,
         panel: List::new(alloc),
         orders: List::new(alloc),
-        power: List::new(alloc),
+        power,
         drops: List::new(alloc),
         segments: List::new(alloc),
     })?;
@@ -109,7 +154,7 @@ fn net(alloc: Global) -> Result<NetPlan, AllocError>
     Ok(NetPlan {
         members,
         fates,
-        answer: 20,
+        answer: 2,
         rotations: 2,
         rounds: 1,
         holds: 1000,
@@ -117,7 +162,8 @@ fn net(alloc: Global) -> Result<NetPlan, AllocError>
 }
 
 fn plant(alloc: Global) -> Result<Plant, AllocError>
-    ensures { IfOk result (λ plant. CanBeJudged plant 1) }
+    ensures { IfOk result (λ plant. (scans : ℕ) → 1 ≤ scans → scans ≤ 2000
+        → CanBeJudged plant scans) }
 {
     Ok(Plant {
         scan_time: 10,
@@ -141,13 +187,28 @@ fn peer(alloc: Global, change: Change) -> Result<Entry, AllocError> {
     })
 }
 
+/// A scan in which power fails, and a request that comes then.
+fn push_failure(
+    alloc: Global,
+    entries: &mut List<Entry>,
+    change: Change,
+) -> Result<(), AllocError> {
+    entries.push(Entry::Begin)?;
+    entries.push(Entry::Fail)?;
+    if change.fails() {
+        let request = pdu_of(alloc, &REQUEST)?;
+        entries.push(Entry::Off { id: CALL, request })?;
+    }
+    Ok(())
+}
+
 /// A scan, and a request that is answered in it.
 fn scan(alloc: Global, change: Change) -> Result<List<Entry>, AllocError> {
     let mut entries = List::new(alloc);
     if change != Change::NoBegin {
         entries.push(Entry::Begin)?;
     }
-    if change != Change::NoPeer {
+    if change != Change::NoPeer && !change.fails() {
         entries.push(peer(alloc, change)?)?;
     }
     if change == Change::TwoPeers {
@@ -155,6 +216,9 @@ fn scan(alloc: Global, change: Change) -> Result<List<Entry>, AllocError> {
     }
     if change != Change::NoEnd {
         entries.push(Entry::End)?;
+    }
+    if change.scans() == 2 {
+        push_failure(alloc, &mut entries, change)?;
     }
     Ok(entries)
 }
@@ -164,10 +228,12 @@ fn answer(alloc: Global, change: Change) -> Result<HostEntry, AllocError> {
         Change::AnotherAnswer | Change::AnotherPost => pdu_of(alloc, &ANOTHER_REPLY)?,
         _ => pdu_of(alloc, &REPLY)?,
     };
-    Ok(HostEntry::Answer {
-        id: CALL,
-        result: HostResult::Reply(pdu),
-    })
+    let result = if change.fails() {
+        HostResult::Bad(0x6103)
+    } else {
+        HostResult::Reply(pdu)
+    };
+    Ok(HostEntry::Answer { id: CALL, result })
 }
 
 /// A request, and what it came to.
@@ -266,9 +332,32 @@ fn push_end(alloc: Global, ring: &mut List<RingEntry>, change: Change) -> Result
     ring.push(RingEntry::Leave { node: 2, cause })
 }
 
+/// The second, where power failed: the controller takes the request, leaves, and the host gives up.
+fn push_down(alloc: Global, ring: &mut List<RingEntry>, change: Change) -> Result<(), AllocError> {
+    let frame = request(alloc)?;
+    ring.push(RingEntry::Take { node: 1, frame })?;
+    if change == Change::ReplyWithoutPower {
+        let frame = reply(alloc, change)?;
+        ring.push(RingEntry::Post { node: 1, frame })?;
+    }
+    let number = if change == Change::DownAsSecond { 2 } else { 1 };
+    let cause = LeaveCause::Down(number);
+    ring.push(RingEntry::Leave { node: 1, cause })?;
+    ring.push(pass(alloc, 2, false)?)?;
+    let word = 0x6103;
+    ring.push(RingEntry::GiveUp { id: CALL, word })?;
+    ring.push(pass(alloc, 2, true)?)?;
+    let cause = LeaveCause::Ended;
+    ring.push(RingEntry::Leave { node: 2, cause })
+}
+
 fn ring(alloc: Global, change: Change) -> Result<List<RingEntry>, AllocError> {
     let mut ring = List::new(alloc);
     push_request(alloc, &mut ring, change)?;
+    if change.fails() {
+        push_down(alloc, &mut ring, change)?;
+        return Ok(ring);
+    }
     push_reply(alloc, &mut ring, change)?;
     push_end(alloc, &mut ring, change)?;
     Ok(ring)
@@ -301,11 +390,11 @@ fn joint(alloc: Global, change: Change) -> Result<Joint, AllocError> {
 fn judged(alloc: Global, change: Change) -> Result<Verdict, AllocError> {
     let plant = plant(alloc)?;
     let joint = joint(alloc, change)?;
-    judge(alloc, &plant, &joint, 1)
+    judge(alloc, &plant, &joint, change.scans())
 }
 
 /// What each change comes to.
-const SPOTS: [(Change, Spot); 16] = [
+const SPOTS: [(Change, Spot); 19] = [
     (Change::NoHost, Spot::Sections),
     (Change::AnotherHost, Spot::Sections),
     (Change::NoBegin, Spot::Controller { node: 1, entry: 2 }),
@@ -364,11 +453,36 @@ const SPOTS: [(Change, Spot); 16] = [
     ),
     (Change::NoEnd, Spot::Incomplete(1)),
     (Change::NoLeave, Spot::Incomplete(2)),
+    (Change::Unnoticed, Spot::Incomplete(1)),
+    (
+        Change::DownAsSecond,
+        Spot::Law {
+            law: 5,
+            node: 1,
+            place: 1,
+        },
+    ),
+    (
+        Change::ReplyWithoutPower,
+        Spot::Law {
+            law: 3,
+            node: 1,
+            place: 1,
+        },
+    ),
 ];
 
 #[test]
 fn a_whole_run_is_legal(rt: HostRuntime) -> Result<(), AllocError> {
     let verdict = judged(rt.alloc(), Change::Nothing)?;
+    assert!(rt; verdict == Verdict::Legal);
+    Ok(())
+}
+
+/// A request that comes without power has no reply, and a node that stays without power is done.
+#[test]
+fn a_run_with_a_power_failure_is_legal(rt: HostRuntime) -> Result<(), AllocError> {
+    let verdict = judged(rt.alloc(), Change::Failing)?;
     assert!(rt; verdict == Verdict::Legal);
     Ok(())
 }

@@ -1,12 +1,13 @@
 -- The closed ring: what stations told of what they had seen holds of it.
 use Rattle.std.proofs.Common.{◌≡◌, ℕ, zero, suc, ◌<◌, List, [], ◌∷◌, ◌++◌, All, Contains, ⊎_elim}
-use Rattle.std.proofs.Common.{get_or}
+use Rattle.std.proofs.Common.{Bool, true, false, get_or}
 use Rattle.std.proofs.Common.{length, map, sym, ap, subst, ◌∙◌, arith}
 use Rattle.std.proofs.lemmas.List.Elements.{All-contains, Contains-append_cases}
 use Rattle.std.proofs.lemmas.List.Sorted.{Contains-permutation, IsPermutation-sym}
 use Rattle.std.specs.List.{AllZip}
 use Rattle.turn_gate.specs.Known.{Owns, PassFacts, StartsWith, made_by}
 use Rattle.plant_types.specs.declared.net.HostPlan.{HostPlan}
+use Rattle.plant_types.specs.declared.net.NetPlan.{NetPlan}
 use Rattle.plant_types.specs.declared.plan.ControllerPlan.{ControllerPlan}
 use Rattle.plant_types.specs.declared.plan.Plant.{Plant}
 use Rattle.plant_types.specs.Plans.{IsPlant, controller_nodes, host_nodes}
@@ -18,12 +19,13 @@ use Rattle.joint_history.specs.declared.joint.HostLog.{HostLog}
 use Rattle.joint_history.specs.declared.joint.Joint.{Joint}
 use Rattle.joint_history.specs.JointLaws.{IsJoint, IsLegalHostLog, IsLegalJoint, IsLegalLog}
 use Rattle.joint_history.specs.JointLaws.{IsTiedController, IsTiedHost, fixed_of}
-use Rattle.joint_history.specs.Reading.{host_items_of}
+use Rattle.joint_history.specs.Reading.{host_items_of, is_off_at}
 use Rattle.tied_lists.specs.Items.{AHost}
 use Rattle.tied_lists.specs.Own.{own}
 use Rattle.tied_lists.specs.Tied.{Tied}
-use Rattle.tied_lists.proofs.Turns.{own-found}
-use Rattle.turn_laws.specs.KeepsOn.{HasFinished, HostHasFinished, NoneSpent}
+use Rattle.tied_lists.specs.Waits.{status_at}
+use Rattle.tied_lists.proofs.Turns.{membership-kept, own-found}
+use Rattle.turn_laws.specs.KeepsOn.{HasFinished, HostHasFinished, NoneSpent, is_out_of_ring}
 use Rattle.turn_laws.proofs.HostOthers.{host-others}
 use Rattle.turn_laws.proofs.Others.{others}
 use Rattle.turn_laws.proofs.Spent.{nobody-spends}
@@ -62,6 +64,14 @@ seen-of p h node C unopened owns heard b =
     ∙ ap (made_by maker node) made in
     (b.seen, begins.0, b.holds, begins.1, rest-others maker node h b.seen begins.0 begins.1 same)
 
+-- who is out of the ring stays out while others write
+out-kept : (stays : Bool) (net : NetPlan) (n : ℕ) (seen rest : List RingEntry) → own n rest ≡ []
+    → is_out_of_ring stays (status_at net seen n) ≡ true
+    → is_out_of_ring stays (status_at net (seen ++ rest) n) ≡ true
+out-kept stays net n seen rest none out =
+    ap (is_out_of_ring stays) (membership-kept net n seen rest none (λ asks.
+    let no' : false ≡ true = ap (is_out_of_ring stays) (sym asks) ∙ out in absurd (cc))) ∙ out
+
 ended : (plant : Plant) (scans : ℕ) (plan : ControllerPlan) (log : ControllerLog)
     (h seen rest : List RingEntry) → IsLegalRing plant.net h → h ≡ seen ++ rest
     → own plan.node rest ≡ [] → CameToEnd plant scans plan log seen → EndedOn plant scans h plan log
@@ -75,10 +85,11 @@ ended plant scans plan log h seen rest legal is none c =
       finished = record {
         stands = stands-others f plant.net log.node log.entries seen rest good mine
             c.finished.stands;
-        keeps = others f plant.net log.node log.entries seen rest Rattle.std.specs.Prelude.true mine
+        keeps = others f plant.net log.node log.entries seen rest true mine
             c.finished.keeps;
         ended = c.finished.ended;
         collected = c.finished.collected;
+        out = out-kept (is_off_at f log.entries) plant.net log.node seen rest mine c.finished.out;
       };
       unspent = subst NoneSpent (sym (own-found plan.node seen rest none)) c.unspent;
     })
@@ -94,7 +105,7 @@ host-ended plant plan log h seen rest legal is none c =
         node = c.finished.node;
         stands = host-stands-others plan plant.net log.entries seen rest good none
             c.finished.stands;
-        keeps = host-others plan plant.net log.entries seen rest Rattle.std.specs.Prelude.true none
+        keeps = host-others plan plant.net log.entries seen rest true none
             c.finished.keeps;
       };
       unspent = subst NoneSpent (sym (own-found plan.node seen rest none)) c.unspent;

@@ -13,18 +13,19 @@ use Rattle.controller_core.specs.Controller.{IsLegal}
 use Rattle.controller_core.proofs.NextEntry.{front_legal}
 use Rattle.joint_history.specs.declared.joint.ControllerLog.{ControllerLog}
 use Rattle.joint_history.specs.JointLaws.{fixed_of}
-use Rattle.joint_history.specs.Reading.{is_ours}
+use Rattle.joint_history.specs.Reading.{has_ended_at, has_started_at, is_off_at, is_ours}
 use Rattle.comm_port.specs.Sides.{RingSideIs}
 use Rattle.comm_port.specs.Worker.{WorkerIs}
-use Rattle.turn_laws.specs.KeepsOn.{KeepsOn, NoneSpent}
-use Rattle.turn_laws.specs.KeepsOn.{StandsTied}
+use Rattle.turn_laws.specs.KeepsOn.{KeepsOn, NoneSpent, StandsTied, is_out_of_ring}
 use Rattle.turn_laws.proofs.Passes.{cancel-none}
 use Rattle.turn_laws.proofs.Rests.{ended-alone}
 use Rattle.tied_lists.specs.Own.{own}
+use Rattle.tied_lists.specs.Waits.{status_at}
 use Rattle.live_run.specs.Cells.{maker_number}
 use Rattle.live_run.specs.Pairs.{IsBack, ram_side}
 use Rattle.live_run.specs.Stations.{CameToEnd}
-use Rattle.live_run.specs.Talking.{TalksOn}
+use Rattle.live_run.specs.Talking.{IsOver, SoFar, TalksOn}
+use Rattle.live_run.specs.declared.talking.Stage.TheVariants.{Over}
 use Rattle.live_run.proofs.Stays.{none-ours}
 
 -- what a pass brought back is all of its number, so the list went on by others alone
@@ -58,12 +59,15 @@ came-to-end {Q} plant scans plan gate w side ring p h log unopened fixed node ne
             (subst (λ x. KeepsOn f side.net x h ring true) node
             (subst (λ x. KeepsOn x side.net w.node h ring true) fixed
             (subst (λ l. KeepsOn gate.fixed side.net w.node l ring true) (sym same) s.keeps)));
-        ended = subst (λ x. Rattle.joint_history.specs.Reading.has_ended_at x h ≡ true) fixed
-            (subst (λ l. Rattle.joint_history.specs.Reading.has_ended_at gate.fixed l ≡ true)
-            (sym same) (s.ended refl));
-        collected = subst (λ x. Rattle.joint_history.specs.Reading.has_started_at x h ≡ false) fixed
-            (subst (λ l. Rattle.joint_history.specs.Reading.has_started_at gate.fixed l ≡ false)
-            (sym same) (s.collected refl));
+        ended = subst (λ x. has_ended_at x h ≡ true) fixed
+            (subst (λ l. has_ended_at gate.fixed l ≡ true) (sym same) over.ended);
+        collected = subst (λ x. has_started_at x h ≡ false) fixed
+            (subst (λ l. has_started_at gate.fixed l ≡ false) (sym same) over.collected);
+        out = subst (λ x. is_out_of_ring (is_off_at f h) (status_at x ring plan.node) ≡ true) net
+            (subst (λ x. is_out_of_ring (is_off_at f h) (status_at side.net ring x) ≡ true) node
+            (subst (λ x. is_out_of_ring (is_off_at x h) (status_at side.net ring w.node) ≡ true)
+            fixed (subst (λ l. is_out_of_ring (is_off_at gate.fixed l)
+            (status_at side.net ring w.node) ≡ true) (sym same) over.out)));
       };
       unspent = subst (λ n. NoneSpent (own n ring)) node t.unspent;
     })
@@ -71,7 +75,7 @@ came-to-end {Q} plant scans plan gate w side ring p h log unopened fixed node ne
     f : Fixed
     f = fixed_of plant scans plan
 
-    t : TalksOn w (ram_side gate) b.talked side ring true
+    t : TalksOn w (ram_side gate) b.talked side ring Over
     t = b.talks refl
 
     begins : StartsWith h b.talked
@@ -93,13 +97,16 @@ came-to-end {Q} plant scans plan gate w side ring p h log unopened fixed node ne
     legal_gate : IsLegal gate.fixed h
     legal_gate = subst (λ x. IsLegal x h) (sym fixed) legal
 
-    s : Rattle.live_run.specs.Talking.SoFar w (ram_side gate) b.talked side ring true
+    s : SoFar w (ram_side gate) b.talked side ring Over
     s = t.so_far (front_legal gate.fixed b.talked begins.0
         (subst (IsLegal gate.fixed) begins.1 legal_gate))
 
+    over : IsOver gate.fixed side.net w.node b.talked ring
+    over = s.over refl
+
     same : h ≡ b.talked
     same = begins.1 ∙ ap (λ l. b.talked ++ l) (ended-alone gate.fixed b.talked begins.0
-        (s.ended refl) (subst (IsLegal gate.fixed) begins.1 legal_gate) none)
+        over.ended (subst (IsLegal gate.fixed) begins.1 legal_gate) none)
         ∙ append-nil b.talked
 
 -- pass 0 of a controller's gate, once both passes are back
@@ -113,7 +120,7 @@ pub back : {Q : Type 0} (gate : GateFacts Entry Fixed) (w : WorkerIs) (side : Ri
     → Rattle.turn_gate.specs.Known.IsPassReady maker_number 2 ram_gate.name two
     → two.seen ≡ talked → one-back ≡ Rattle.turn_gate.specs.Known.with_pass second one
     → two-back ≡ Rattle.turn_gate.specs.Known.with_pass one-back two
-    → (talked' ≡ true → TalksOn w (ram_side ram_gate) talked side ring true)
+    → (talked' ≡ true → TalksOn w (ram_side ram_gate) talked side ring Over)
     → IsBack gate w side ring two-back (Rattle.std.specs.Prelude.◌&&◌ scanned' talked')
 back {Q} gate w side ring zero-p first second one-back two-back one two ram_gate talked scanned'
     talked' z f s one-ready same two-ready seen j k t =
@@ -129,7 +136,7 @@ back {Q} gate w side ring zero-p first second one-back two-back one two ram_gate
       joined_is = λ i. (one-ready.number_is i, one.mine)
           ∷ (joined-one i ++ ((two-ready.number_is i, two.mine) ∷ two-ready.unjoined i));
       heard_is = λ i. one.seen ∷ (one-ready.unheard i ++ (seen i ∷ two-ready.unheard i));
-      talks = λ is. subst (λ g. TalksOn w (ram_side g) talked side ring true) same
+      talks = λ is. subst (λ g. TalksOn w (ram_side g) talked side ring Over) same
           (t (second-true scanned' talked' is));
       owns = λ unopened. mine unopened;
     })

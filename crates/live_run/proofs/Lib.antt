@@ -1,7 +1,9 @@
 pub mod Raising
+pub mod Numbers
 pub mod Stays
 pub mod Scans
 pub mod Keeping
+pub mod Coming
 pub mod Starting
 pub mod Closing
 pub mod Gathering

@@ -1,22 +1,22 @@
 -- Workers before their first turn.
-use Rattle.std.proofs.Common.{◌≡◌, ℕ, ◌<◌, true, false, List, [], ◌∷◌, ◌++◌, replicate, Option}
-use Rattle.std.proofs.Common.{Some, None, refl, sym, subst, arith}
+use Rattle.std.proofs.Common.{◌≡◌, ℕ, ◌<◌, false, List, [], ◌∷◌, ◌++◌, Option, Some, refl, sym}
+use Rattle.std.proofs.Common.{ap, subst, arith}
 use Rattle.std.specs.List.{All}
 use Rattle.plant_types.specs.declared.net.HostPlan.{HostPlan}
 use Rattle.plant_types.specs.declared.net.NetPlan.{NetPlan}
 use Rattle.plant_types.specs.declared.plan.Plant.{Plant}
-use Rattle.plant_types.specs.Plans.{IsNetPlan, KeepsPower}
+use Rattle.plant_types.specs.Plans.{IsNetPlan}
 use Rattle.ring_core.specs.declared.entry.RingEntry.{RingEntry}
 use Rattle.ring_core.specs.Legal.{IsMember}
-use Rattle.ring_core.specs.Machine.{addresses, path_places}
+use Rattle.ring_core.specs.Machine.{addresses, is_in}
 use Rattle.std.proofs.lemmas.List.Elements.{All-contains}
 use Rattle.controller_core.specs.declared.entry.Entry.{Entry}
 use Rattle.host_port.specs.Host.{HostIs}
 use Rattle.host_port.specs.Legal.{questions_of}
-use Rattle.tied_lists.specs.Waits.{IsOnRing}
+use Rattle.tied_lists.specs.Waits.{IsOnRing, has_left, status_at}
 use Rattle.comm_port.specs.HostTurns.{HostWorkerIs}
 use Rattle.comm_port.specs.Sides.{RamSideIs, RingSideIs, MayWrite}
-use Rattle.comm_port.specs.Worker.{WorkerIs}
+use Rattle.comm_port.specs.Worker.{WorkerIs, new_worker}
 use Rattle.comm_port.proofs.HostTurnLaws.{host-ties-new}
 use Rattle.comm_port.proofs.Standings.{standing-new}
 use Rattle.turn_laws.proofs.HostOthers.{host-starts}
@@ -25,6 +25,7 @@ use Rattle.turn_laws.proofs.Passes.{nil-cons}
 use Rattle.turn_laws.proofs.Stands.{stands-start}
 use Rattle.live_run.specs.Stations.{IsUnused}
 use Rattle.live_run.specs.Talking.{AttendsOn, TalksOn}
+use Rattle.live_run.specs.declared.talking.Stage.TheVariants.{There, Over}
 use Rattle.turn_laws.proofs.Holders.{member-there}
 
 low-members : (net : NetPlan) → IsNetPlan net → All (λ m. m < addresses) net.members
@@ -35,7 +36,12 @@ low-member net n s member =
     All-contains (λ m. m < addresses) net.members n (low-members net s) member
 
 on-start : (net : NetPlan) (n : ℕ) → IsNetPlan net → IsMember net n → IsOnRing net [] n
-on-start net n s member = record { members = low-members net s; legal = tt; member = member }
+on-start net n s member = record {
+  members = low-members net s;
+  legal = tt;
+  member = member;
+  patient = tt;
+}
 
 serves-as : (writer : Option ℕ) (n : ℕ) → writer ≡ Some n → MayWrite writer n
 serves-as writer n is = subst (λ w. MayWrite w n) (sym is) refl
@@ -60,7 +66,7 @@ host-talks plan net side sound member same writer =
           (let from = sound.answer.from in omega (arith, from)));
       counts = refl;
       here = λ is. subst (λ m. Rattle.comm_port.specs.Leaving.IsHere m [] n) (sym same)
-          (member-there net n (low-member net n sound member) member);
+          (ap is_in (member-there net n (low-member net n sound member) member));
       unspent = λ k d within. absurd (omega (arith, within));
       keeps = host-starts plan side.net [] refl;
     }
@@ -83,11 +89,10 @@ attends-start plant plan w host side ring u host_is worker_is =
     (host-talks plan plant.net side u.sound u.member u.net u.writer)))
 
 controller-talks : {P Q : Type 0} (n : ℕ) (net : NetPlan) (ram : RamSideIs P) (side : RingSideIs Q)
-    → ram.fixed.plan.node ≡ n → KeepsPower ram.fixed.plan → IsNetPlan net → IsMember net n
+    → ram.fixed.plan.node ≡ n → IsNetPlan net → IsMember net n
     → side.net ≡ net → side.writer ≡ Some n
-    → TalksOn (record { node = n; net = net; budget = false; waiting = replicate path_places None })
-    ram [] side [] false
-controller-talks n net ram side node power sound member same writer =
+    → TalksOn (new_worker n net false) ram [] side [] There
+controller-talks n net ram side node sound member same writer =
     let on : IsOnRing side.net [] n = subst (λ m. IsOnRing m [] n) (sym same)
     (on-start net n sound member) in
     record {
@@ -98,27 +103,24 @@ controller-talks n net ram side node power sound member same writer =
             (let low = sound.answer.from in omega (arith, low));
       };
       budget = refl;
-      standing = standing-new n net false ram [] side node power same
-          (serves-as side.writer n writer) refl;
-      here = λ is. subst (λ m. Rattle.comm_port.specs.Leaving.IsHere m [] n) (sym same)
-          (member-there net n (low-member net n sound member) member);
+      standing = standing-new n net false ram [] side node same (serves-as side.writer n writer)
+          refl;
+      stands_at = subst (λ m. has_left (status_at m [] n) ≡ false) (sym same)
+          (ap has_left (member-there net n (low-member net n sound member) member));
       unspent = λ k d within. absurd (omega (arith, within));
       so_far = λ legal. record {
         stands = stands-start ram.fixed side.net n [] node on refl;
         keeps = starts ram.fixed side.net n [] refl;
-        ended = λ is. absurd (let no' : false ≡ true = is in cc);
-        collected = λ is. absurd (let no' : false ≡ true = is in cc);
+        over = λ is. absurd (let no' : There ≡ Over = is in cc);
       };
     }
 
 pub talks-start : {P Q : Type 0} (plant : Plant) (n : ℕ) (w : WorkerIs) (ram : RamSideIs P)
     (known : List Entry) (side : RingSideIs Q) (ring : List RingEntry)
-    → ram.fixed.plan.node ≡ n → KeepsPower ram.fixed.plan → known ≡ []
-    → IsUnused plant n side ring
-    → w ≡ record { node = n; net = plant.net; budget = false; waiting = replicate path_places None }
-    → TalksOn w ram known side ring false
-talks-start plant n w ram known side ring node power none u worker_is =
-    subst (λ l. TalksOn w ram known side l false) (sym u.nothing)
-    (subst (λ l. TalksOn w ram l side [] false) (sym none)
-    (subst (λ v. TalksOn v ram [] side [] false) (sym worker_is)
-    (controller-talks n plant.net ram side node power u.sound u.member u.net u.writer)))
+    → ram.fixed.plan.node ≡ n → known ≡ [] → IsUnused plant n side ring
+    → w ≡ new_worker n plant.net false → TalksOn w ram known side ring There
+talks-start plant n w ram known side ring node none u worker_is =
+    subst (λ l. TalksOn w ram known side l There) (sym u.nothing)
+    (subst (λ l. TalksOn w ram l side [] There) (sym none)
+    (subst (λ v. TalksOn v ram [] side [] There) (sym worker_is)
+    (controller-talks n plant.net ram side node u.sound u.member u.net u.writer)))

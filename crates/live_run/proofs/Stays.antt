@@ -12,8 +12,8 @@ use Rattle.ring_core.specs.declared.frame.Frame.{Frame}
 use Rattle.ring_core.specs.Scratch.{words_put}
 use Rattle.comm_port.specs.Sides.{taken_entries}
 use Rattle.comm_port.proofs.TurnEnds.{words-as}
-use Rattle.ring_core.specs.Machine.{addresses, ring_after, ring_node, path_of, path_places}
-use Rattle.ring_core.specs.Legal.{IsLegalRing, IsFrom, IsMember, IsPath, IsNextNumber}
+use Rattle.ring_core.specs.Machine.{ring_after, ring_node}
+use Rattle.ring_core.specs.Legal.{IsNextNumber}
 use Rattle.ring_core.specs.Words.{maker}
 use Rattle.controller_core.specs.declared.entry.Entry.{Entry}
 use Rattle.controller_core.specs.declared.entry.Entry.TheVariants.{Begin, Input, Solve, Output, End}
@@ -21,11 +21,10 @@ use Rattle.controller_core.specs.declared.entry.Entry.TheVariants.{Collect, Peer
 use Rattle.controller_core.specs.declared.entry.Entry.TheVariants.{Fail, Dark, Off}
 use Rattle.turn_gate.specs.Known.{PassFacts, PassFinds, PassAdds, made_by}
 use Rattle.tied_lists.specs.Own.{is_of, own, added_if, WentOn}
-use Rattle.tied_lists.specs.Waits.{IsOnRing, last_number}
-use Rattle.tied_lists.proofs.Turns.{legal-parts, own-found}
-use Rattle.tied_lists.proofs.Histories.{legal-follows}
+use Rattle.tied_lists.proofs.Turns.{own-found}
 use Rattle.joint_history.specs.Reading.{is_ours}
 use Rattle.live_run.specs.Cells.{maker_number}
+use Rattle.live_run.proofs.Numbers.{number-others}
 use Rattle.controller_core.specs.declared.fixed.Fixed.{Fixed}
 use Rattle.controller_core.specs.declared.call.Call.{Call}
 use Rattle.controller_core.specs.declared.entry.Maker.TheVariants.{Scan}
@@ -97,51 +96,21 @@ pub others-scan : (p : PassFacts Entry) (found : List Entry) (f : PassFinds make
 others-scan p found f number =
     ours-filter f.between ∙ subst (λ n. made_by maker_number n f.between ≡ []) number f.not_mine
 
--- a path's last number is not changed by others
-posted-as : (net : NetPlan) (n p : ℕ) (known between : List RingEntry)
-    → All (λ m. m < addresses) net.members
-    → IsMember net n → IsLegalRing net (known ++ between) → own n between ≡ [] → p < path_places
-    → (path_of (ring_node (ring_after net (known ++ between)) n) p).posted
-    ≡ (path_of (ring_node (ring_after net known) n) p).posted
-posted-as net n p known between members member legal none low =
-    let now : IsOnRing net (known ++ between) n =
-    record { members = members; legal = legal; member = member } in
-    let then' : IsOnRing net known n = record {
-      members = members;
-      legal = (legal-parts net known between legal).0;
-      member = member;
-    } in
-    (legal-follows net (known ++ between) n now).node.part.numbers p low
-    ∙ (ap (last_number p) (own-found n known between none)
-    ∙ sym ((legal-follows net known n then').node.part.numbers p low))
-
 next-as : (net : NetPlan) (n : ℕ) (kind : FrameKind) (id : CallId) (known between : List RingEntry)
-    → All (λ m. m < addresses) net.members
-    → IsMember net n → IsLegalRing net (known ++ between) → own n between ≡ []
-    → (kind ≡ Request → IsPath id.path)
-    → IsNextNumber (ring_node (ring_after net known) n) kind id
+    → own n between ≡ [] → IsNextNumber (ring_node (ring_after net known) n) kind id
     → IsNextNumber (ring_node (ring_after net (known ++ between)) n) kind id
-next-as net n Request id known between members member legal none path next =
-    let q = path refl in
-    let same = posted-as net n id.path known between members member legal none (omega (arith, q)) in
-    subst (λ k. k < id.seq) (sym same) next
-next-as net n Reply id known between members member legal none path next = tt
+next-as net n Request id known between none next =
+    subst (λ k. k < id.seq) (sym (number-others net n id.path known between none)) next
+next-as net n Reply id known between none next = tt
 
 -- a number that was the next one still is
-pub next-found : (net : NetPlan) (n : ℕ) (f : Frame) (known found between : List RingEntry)
-    → All (λ m. m < addresses) net.members
-    → IsMember net n → IsLegalRing net found → found ≡ known ++ between → own n between ≡ []
-    → IsFrom n f.kind f
+next-found : (net : NetPlan) (n : ℕ) (f : Frame) (known found between : List RingEntry)
+    → found ≡ known ++ between → own n between ≡ []
     → IsNextNumber (ring_node (ring_after net known) n) f.kind f.id
     → IsNextNumber (ring_node (ring_after net found) n) f.kind f.id
-next-found net n f known found between members member legal begins none from next =
+next-found net n f known found between begins none next =
     subst (λ l. IsNextNumber (ring_node (ring_after net l) n) f.kind f.id) (sym begins)
-    (next-as net n f.kind f.id known between members member (subst (IsLegalRing net) begins legal)
-    none (path-from f.kind from) next)
-  where
-    path-from : (kind : FrameKind) → IsFrom n kind f → kind ≡ Request → IsPath f.id.path
-    path-from Request from is = from.2
-    path-from Reply from is = absurd (cc)
+    (next-as net n f.kind f.id known between none next)
 
 module _ {E : Type 0} (maker : E → ℕ) (ours : E → Bool) where
   -- a call behind the gate leaves what the pass found, and then its own
@@ -219,13 +188,14 @@ fresh-as (Ok calls) f g known found same w new =
     subst (λ (x : Fixed). AreNewCalls x.plan.node (items_of known).calls (items_of known).ends
     (map called_of calls)) same
     (subst (λ (a : Items). AreNewCalls f.plan.node a.calls a.ends (map called_of calls))
-    (items-same false known found w) new)
+    (items-same false known found w).items_are new)
 fresh-as (Err why) f g known found same w new = tt
 
 pub out-as : (id : CallId) (known found : List Entry) → WentOn false is_ours known [] found
     → IsOut (items_of known) id → IsOut (items_of found) id
 out-as id known found w out =
-    subst (λ (a : Items). IsOut a id) (sym (items-same false known found w)) out
+    subst (λ (a : Items). IsOut a id) (sym (items-same false known found w).items_are)
+    (out.0, record { made = out.1.made; unended = out.1.unended })
 
 -- a Take added at most one entry of its node
 pub all_taken : {X : Type 0} (n : ℕ) (r : Result (Option Frame) X)
@@ -246,17 +216,14 @@ others-own n p known entered found number f was same = (
 
 -- the next number of a path is so behind the gate too
 pub next-in : (net net' : NetPlan) (n : ℕ) (f : Frame) (p : PassFacts RingEntry)
-    (known entered found : List RingEntry)
-    → All (λ m. m < addresses) net.members → IsMember net n → net' ≡ net → IsLegalRing net' found
-    → p.number ≡ n → PassFinds maker p entered
-    → p.seen ≡ known → found ≡ entered → IsFrom n f.kind f
+    (known entered found : List RingEntry) → net' ≡ net → p.number ≡ n → PassFinds maker p entered
+    → p.seen ≡ known → found ≡ entered
     → IsNextNumber (ring_node (ring_after net known) n) f.kind f.id
     → IsNextNumber (ring_node (ring_after net' found) n) f.kind f.id
-next-in net net' n f p known entered found members member same legal number finds was is from next =
+next-in net net' n f p known entered found same number finds was is next =
     let o = others-own n p known entered found number finds was is in
     subst (λ (x : NetPlan). IsNextNumber (ring_node (ring_after x found) n) f.kind f.id) (sym same)
-    (next-found net n f known found finds.between members member
-    (subst (λ x. IsLegalRing x found) same legal) o.1 o.0 from next)
+    (next-found net n f known found finds.between o.1 o.0 next)
 
 -- and so are the words that a node has put
 pub words-in : (n : ℕ) (p : PassFacts RingEntry) (known entered found : List RingEntry)

@@ -1,5 +1,5 @@
 -- All stations ran and all passes of the ring are back.
-use Rattle.std.proofs.Common.{◌≡◌, ℕ, ◌&&◌, Bool, true, false, List, [], ◌∷◌, ◌++◌, All, Contains}
+use Rattle.std.proofs.Common.{◌≡◌, ℕ, ◌&&◌, Bool, true, false, List, [], ◌++◌, All, Contains}
 use Rattle.std.proofs.Common.{map, reverse, refl, sym, ap, subst, ◌∙◌, ◌≤◌}
 use Rattle.std.proofs.lemmas.List.{map-append}
 use Rattle.std.proofs.lemmas.List.Elements.{Contains-append_left, Contains-append_right}
@@ -173,11 +173,8 @@ through-all plant scans gate zero one two three four old new host_old host_new l
 pub can-run : (plant : Plant) (scans : ℕ) → CanRunPlant plant → scans ≤ 2000
     → CanRunAll plant scans plant.controllers
 can-run plant scans can few k d within = record {
-  program = record {
-    plan = can.controllers k d within;
-    scan_time = can.sound.scan_time.to;
-    watchdog = can.sound.watchdog.from;
-    scans = few;
-  };
-  power = can.power k d within;
+  plan = can.controllers k d within;
+  scan_time = can.sound.scan_time.to;
+  watchdog = can.sound.watchdog.from;
+  scans = few;
 }

@@ -9,15 +9,17 @@ use Rattle.comm_port.specs.Worker.{WorkerIs}
 use Rattle.live_run.specs.Cells.{maker_number}
 use Rattle.live_run.specs.Sides.{GatedRamIs}
 use Rattle.live_run.specs.Talking.{TalksOn}
+use Rattle.live_run.specs.declared.talking.Stage.{Stage}
+use Rattle.live_run.specs.declared.talking.Stage.TheVariants.{Over}
 
 -- What a side over a controller's gate keeps.
 abbrev pub ram_side : GateFacts Entry Fixed → RamSideIs (GateFacts Entry Fixed)
 ram_side gate = record { fixed = gate.fixed; place = gate }
 
 -- A controller's worker without a budget stands between two turns, at a side over its gate.
-abbrev pub TalksAt : {Q : Type 0} → WorkerIs → GatedRamIs → RingSideIs Q → List RingEntry → Bool
+abbrev pub TalksAt : {Q : Type 0} → WorkerIs → GatedRamIs → RingSideIs Q → List RingEntry → Stage
     → Type 0
-TalksAt worker ram side ring left = TalksOn worker (ram_side ram.gate) ram.seen side ring left
+TalksAt worker ram side ring stage = TalksOn worker (ram_side ram.gate) ram.seen side ring stage
 
 -- A worker has the node and the sides that it had.
 abbrev pub StaysAt : {Q : Type 0} → WorkerIs → WorkerIs → GatedRamIs → GatedRamIs → RingSideIs Q
@@ -25,7 +27,7 @@ abbrev pub StaysAt : {Q : Type 0} → WorkerIs → WorkerIs → GatedRamIs → G
 StaysAt old new old_ram ram old_side side =
     (ram_side ram.gate ≡ ram_side old_ram.gate) × (new.node ≡ old.node) × (side ≡ old_side)
 
--- Pass 0 has the passes of both workers back; where they came so far, the communication left.
+-- Pass 0 has the passes of both workers back; where they came so far, the communication is over.
 pub record IsBack {Q : Type 0} (gate : GateFacts Entry Fixed) (worker : WorkerIs)
     (side : RingSideIs Q) (ring : List RingEntry) (p : PassFacts Entry) (done : Bool)
     : Type 0 where
@@ -38,5 +40,5 @@ pub record IsBack {Q : Type 0} (gate : GateFacts Entry Fixed) (worker : WorkerIs
   pub given_is : p.given ≡ 2 ∷ 1 ∷ []
   pub joined_is : p.joined ≡ (1, scanned.mine) ∷ (2, mine) ∷ []
   pub heard_is : p.heard ≡ scanned.seen ∷ talked ∷ []
-  pub talks : done ≡ true → TalksOn worker (ram_side gate) talked side ring true
+  pub talks : done ≡ true → TalksOn worker (ram_side gate) talked side ring Over
   pub owns : gate.name.opening ≡ [] → mine ≡ made_by maker_number 2 talked

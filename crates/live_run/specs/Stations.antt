@@ -4,7 +4,7 @@ use Rattle.std.specs.List.{AllZip}
 use Rattle.plant_types.specs.declared.net.HostPlan.{HostPlan}
 use Rattle.plant_types.specs.declared.plan.ControllerPlan.{ControllerPlan}
 use Rattle.plant_types.specs.declared.plan.Plant.{Plant}
-use Rattle.plant_types.specs.Plans.{IsHostPlan, IsNetPlan, KeepsPower}
+use Rattle.plant_types.specs.Plans.{IsHostPlan, IsNetPlan}
 use Rattle.ring_core.specs.Legal.{IsMember}
 use Rattle.ring_core.specs.declared.entry.RingEntry.{RingEntry}
 use Rattle.controller_core.specs.Machine.{IsRunnable}
@@ -19,10 +19,9 @@ use Rattle.turn_laws.specs.KeepsOn.{HasFinished, HostHasFinished, NoneSpent}
 use Rattle.live_run.specs.declared.stations.NotedLog.{NotedLog}
 use Rattle.live_run.specs.declared.stations.Station.{Station}
 
--- A controller can run: its program can, and it keeps its power.
-pub record CanRun (plant : Plant) (scans : ℕ) (plan : ControllerPlan) : Type 0 where
-  pub program : IsRunnable (fixed_of plant scans plan)
-  pub power : KeepsPower plan
+-- A controller's program can run.
+abbrev pub CanRun : Plant → ℕ → ControllerPlan → Type 0
+CanRun plant scans plan = IsRunnable (fixed_of plant scans plan)
 
 -- Each controller of these plans can run, and each host can serve.
 abbrev pub CanRunAll : Plant → ℕ → List ControllerPlan → Type 0

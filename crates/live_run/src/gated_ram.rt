@@ -80,7 +80,7 @@ impl<'a, R: Wait> RamSide for GatedRam<'a, R> {
         answer
     }
 
-    fn peer(&mut self, id: CallId, request: &Pdu) -> Result<Pdu, AllocError> {
+    fn peer(&mut self, id: CallId, request: &Pdu) -> Result<Option<Pdu>, AllocError> {
         let mut held = self.gate.enter(self.rt, &mut self.pass);
         let controller = held.value().get_mut();
         let answer = RamSide::peer(controller, id, request);
@@ -108,6 +108,22 @@ impl<'a, R: Wait> RamSide for GatedRam<'a, R> {
         let mut held = self.gate.enter(self.rt, &mut self.pass);
         let controller = held.value().get_mut();
         let answer = RamSide::has_ended(controller);
+        self.gate.leave(&mut self.pass, held);
+        answer
+    }
+
+    fn failures(&mut self) -> u32 {
+        let mut held = self.gate.enter(self.rt, &mut self.pass);
+        let controller = held.value().get_mut();
+        let answer = RamSide::failures(controller);
+        self.gate.leave(&mut self.pass, held);
+        answer
+    }
+
+    fn is_off(&mut self) -> bool {
+        let mut held = self.gate.enter(self.rt, &mut self.pass);
+        let controller = held.value().get_mut();
+        let answer = RamSide::is_off(controller);
         self.gate.leave(&mut self.pass, held);
         answer
     }

@@ -9,7 +9,7 @@ use crate::meets::Meet;
 use crate::tallies::{Outside, Tally};
 use comm_port::RingSide;
 use mstr_block::{CallId, MstrResult};
-use ring_core::{Frame, Heard, LeaveCause, LocalOp, Ring, RingNo};
+use ring_core::{Frame, Heard, LeaveCause, LocalOp, NodeStatus, Ring, RingNo};
 use std::marker::Model;
 use std::sync::Wait;
 use std::sync::atomic::AtomicU64;
@@ -196,6 +196,26 @@ impl<'a, M: Meet, R: Wait> RingSide for GatedRing<'a, M, R> {
         if answer.is_ok() {
             self.tally.tell(node);
         }
+        answer
+    }
+
+    fn join(&mut self, node: u8) -> Result<(), RingNo> {
+        let mut held = self.gate.enter(self.rt, &mut self.pass);
+        let ring = held.value().get_mut();
+        let answer = RingSide::join(ring, node);
+        self.tally.note(Ring::holder(ring));
+        self.gate.leave(&mut self.pass, held);
+        if answer.is_ok() {
+            self.tally.tell(node);
+        }
+        answer
+    }
+
+    fn status(&mut self, node: u8) -> NodeStatus {
+        let mut held = self.gate.enter(self.rt, &mut self.pass);
+        let ring = held.value().get_mut();
+        let answer = RingSide::status(ring, node);
+        self.gate.leave(&mut self.pass, held);
         answer
     }
 }

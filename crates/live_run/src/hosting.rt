@@ -15,6 +15,7 @@ use plant_types::HostPlan;
 use std::alloc::AllocError;
 use std::sync::Wait;
 use std::time::Clock;
+use turn_laws::{host_turns_keep_on, none_is_spent};
 
 /// Makes a hold turn, where the node holds the token; whether it left.
 fn take_turn<G: RingSide + Outside>(
@@ -31,6 +32,8 @@ fn take_turn<G: RingSide + Outside>(
     ensures plan { host.new.plan ≡ host.old.plan }
     ensures ring_same { G.side ring.new ≡ G.side ring.old }
 {
+    host_turns_keep_on();
+    none_is_spent();
     if !ring.may_hold(node) {
         return Ok(false);
     }

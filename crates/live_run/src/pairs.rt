@@ -13,7 +13,7 @@ use crate::gated_ram::GatedRam;
 use crate::meets::Meet;
 use crate::scanning::scan_all;
 use crate::stations::NotedLog;
-use crate::talking::talk;
+use crate::talking::{Stage, talk};
 use crate::tallies::Outside;
 use comm_port::{CommWorker, RingSide};
 use controller_core::Controller;
@@ -39,12 +39,12 @@ fn run_pair<'a, G: RingSide + Outside + Send, M: Meet + Sync, R: Threads + Wait 
     requires ready { IsPassReady maker_number 1 gate.now.name one.old }
     requires gate { ram.old.gate ≡ gate.now }
     requires node { worker.old.node ≡ node }
-    requires talks { TalksAt worker.old ram.old (G.side ring.old) (G.known ring.old) false }
+    requires talks { TalksAt worker.old ram.old (G.side ring.old) (G.known ring.old) Stage.There }
     ensures ready { IsPassReady maker_number 1 gate.now.name one.new }
     ensures gate { ram.new.gate ≡ gate.now }
     ensures node { worker.new.node ≡ node }
     ensures talks { result.1 ≡ true
-        → TalksAt worker.new ram.new (G.side ring.new) (G.known ring.new) true }
+        → TalksAt worker.new ram.new (G.side ring.new) (G.known ring.new) Stage.Over }
     ensures side { G.side ring.new ≡ G.side ring.old }
 {
     let own = node;
@@ -53,9 +53,10 @@ fn run_pair<'a, G: RingSide + Outside + Send, M: Meet + Sync, R: Threads + Wait 
         &mut || -> bool
             requires sync { IsSync R.row × IsSync M.row }
             requires node { worker.now.node ≡ node }
-            requires talks { TalksAt worker.now ram.now (G.side ring.now) (G.known ring.now) false }
+            requires talks { TalksAt worker.now ram.now (G.side ring.now) (G.known ring.now)
+                Stage.There }
             ensures talks { result ≡ true → TalksAt worker.exit.now ram.exit.now
-                (G.side ring.exit.now) (G.known ring.exit.now) true }
+                (G.side ring.exit.now) (G.known ring.exit.now) Stage.Over }
             ensures stays { StaysAt worker.entry.now worker.exit.now ram.entry.now ram.exit.now
                 (G.side ring.entry.now) (G.side ring.exit.now) }
         { talk(run.rt, run.crew, node, worker, ram, ring) },
@@ -80,7 +81,7 @@ fn through_gate<G: RingSide + Outside + Send, M: Meet + Sync, R: Threads + Wait 
     requires zero { zero ≡ first_pass gate.now.name }
     requires node { worker.old.node ≡ node }
     requires talks { TalksOn worker.old (ram_side gate.now) gate.now.name.opening (G.side ring.old)
-        (G.known ring.old) false }
+        (G.known ring.old) Stage.There }
     ensures back { IsBack gate.now worker.new (G.side ring.new) (G.known ring.new)
         result.0 result.1 }
     ensures node { worker.new.node ≡ node }

@@ -4,7 +4,7 @@ mod tables;
 use plant_loader::{LoadEnd, load};
 use plant_types::{
     Cell, ControllerPlan, Element, Fate, HostAsk, HostPlan, IoDrop, Module, ModuleKind, MoveOp,
-    NetPlan, Network, OrderRow, Plant, Ref, RefKind, ScriptRow, Short,
+    NetPlan, Network, OrderRow, Plant, PowerRow, Ref, RefKind, ScriptRow, Short,
 };
 use std::alloc::{AllocError, Global};
 use std::process::Abort;
@@ -70,6 +70,11 @@ const CONTROLLER: &str = "version = 1\n[[controller]]\n";
 
 const START: &str = "version = 1\n[[controller]]\nnode = 1\ncoils = 16\n";
 
+// What stands before the power rows of a controller with one order row, and behind them.
+const POWER: &str = "version = 1\n[[controller]]\nnode = 1\norders = [\"1 - - -\"]\npower = [";
+
+const POWER_END: &str = "]\n[[controller.segment]]\nnetworks = []\n";
+
 const SEGMENTS: &str = "version = 1\n[[controller]]\nnode = 1\ncoils = 16\nsegment = ";
 
 const MANY_NETWORKS: &str = "version = 1\n[[controller]]\nnode = 1\nsegment = [{ networks = [";
@@ -104,7 +109,7 @@ const WORDS_IN: &str = "version = 1\n[[controller]]\nnode = 1\ninputs = 32\n\
 const SCRIPTS: &str = "version = 1\n[[controller]]\nnode = 1\ncoils = 32\ninputs = 32\n\
     input_registers = 20\nregisters = 20\n[[controller.drop]]\nnumber = 1\n";
 
-const TABLES: [Table; 19] = [
+const TABLES: [Table; 20] = [
     Table {
         start: NETWORKS,
         rows: networks::TAKEN,
@@ -169,6 +174,12 @@ const TABLES: [Table; 19] = [
         start: START,
         rows: tables::TAKEN_ENDS,
         end: "",
+        head: "",
+    },
+    Table {
+        start: POWER,
+        rows: tables::POWER_ROWS,
+        end: POWER_END,
         head: "",
     },
     Table {
@@ -274,6 +285,7 @@ input_registers = 20
 registers = 100
 panel = ["00001", "\t10032 "]
 orders = ["1 00016 2 -", " 1\t- - 1"]
+power = ["1 0 2", " 4\t2 0 "]
 [[controller.drop]]
 number = 2
 modules = ["in 10017", " outw\t40005  16 ", "inw 30019 2", "out 00001"]
@@ -315,6 +327,10 @@ fn order(control: Option<Ref>, input: Option<u8>, output: Option<u8>) -> OrderRo
         input,
         output,
     }
+}
+
+fn failure(scan: u32, row: u16, dark: u32) -> PowerRow {
+    PowerRow { scan, row, dark }
 }
 
 fn has_words(row: &ScriptRow, words: &[u16]) -> bool {
@@ -379,6 +395,7 @@ fn has_plan(plan: &ControllerPlan) -> bool {
         && plan.registers == 100
         && plan.panel.as_slice() == panel.as_slice()
         && plan.orders.as_slice() == orders.as_slice()
+        && plan.power.as_slice() == [failure(1, 0, 2), failure(4, 2, 0)].as_slice()
         && has_drops(plan.drops.as_slice())
         && has_second_network(segment.networks.as_slice())
 }
@@ -453,7 +470,7 @@ struct Limit {
     answer: &'static str,
 }
 
-const LIMITS: [Limit; 11] = [
+const LIMITS: [Limit; 13] = [
     Limit {
         start: MANY_NETWORKS,
         item: "\"\",",
@@ -494,6 +511,20 @@ const LIMITS: [Limit; 11] = [
         item: "\"00001\",",
         count: 65,
         end: "]\n",
+        answer: "13 TooLarge controller 1",
+    },
+    Limit {
+        start: POWER,
+        item: "\"x\",",
+        count: 32,
+        end: POWER_END,
+        answer: "15 BadPower controller 1 power 1",
+    },
+    Limit {
+        start: POWER,
+        item: "\"x\",",
+        count: 33,
+        end: POWER_END,
         answer: "13 TooLarge controller 1",
     },
     Limit {

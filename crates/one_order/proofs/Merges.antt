@@ -1,6 +1,6 @@
 -- Merges that run, and how they go on.
 use Rattle.std.proofs.Common.{◌≡◌, ◌↔◌, Bool, true, false, cond, List, [], ◌∷◌, ◌++◌, filter, refl}
-use Rattle.std.proofs.Common.{sym, ap, subst}
+use Rattle.std.proofs.Common.{sym, ap, ◌∙◌, subst}
 use Rattle.std.proofs.lemmas.List.Elements.{filter_map-append}
 use Rattle.one_order.specs.Merges.{Merged, AsNoted, AsDone, noted_in, done_in, noted_of, deeds_of}
 use Rattle.one_order.specs.Merges.{tally, Runs, EachFrontIsCaused, InTimeFrom, IsDueWhere}
@@ -121,59 +121,89 @@ module _ {E R S D : Type 0} (note : S → E → S) (deed : D → R → D) (Cause
             (sym (tally-append deed d first done)) y.1),
       )
 
-  -- ---- what others note changes no counts
-  module _ (ours : E → Bool) (quiet_by : (s : S) (e : E) → ours e ≡ false → note s e ≡ s) where
-    other-first : (s : S) (d : D) (e : E) (more : List E) (done : List R) → ours e ≡ false
-        → Caused s d → Timely s d more done
-        → Timely s d (e ∷ more) done
-    other-first s d e more done o f x =
-        let same = sym (quiet_by s e o) in
-        noted-first s d e more done (subst (λ (t : S). Caused t d) same f)
-        (subst (λ (t : S). Timely t d more done) same x)
+  -- ---- what others note forbids nothing
+  pub record Allows (ours : E → Bool) (More : S → S → Type 0) : Type 0 where
+    pub caused : (s t : S) (d : D) → More s t → Caused s d → Caused t d
+    pub by_ours : (s t : S) (e : E) → ours e ≡ true → More s t → More (note s e) (note t e)
+    pub by_others : (s t : S) (e : E) → ours e ≡ false → More s t → More s (note t e)
 
-    pad-none : (s : S) (d : D) (more : List E) → Caused s d → [] ≡ filter ours more
-        → Timely s d more []
-    pad-none s d [] f q = nothing-due s d
-    pad-none s d (e ∷ more) f q = at (ours e) refl q (λ r. pad-none s d more f r)
+  module _ (ours : E → Bool) (More : S → S → Type 0) (allows : Allows ours More) where
+    other-first : (s t : S) (d : D) (e : E) (more : List E) (done : List R) → ours e ≡ false
+        → More s t → Caused s d → Timely (note t e) d more done
+        → Timely t d (e ∷ more) done
+    other-first s t d e more done o m f x =
+        noted-first t d e more done
+        (allows.caused s (note t e) d (allows.by_others s t e o m) f) x
+
+    pad-none : (s t : S) (d : D) (more : List E) → More s t → Caused s d → [] ≡ filter ours more
+        → Timely t d more []
+    pad-none s t d [] m f q = nothing-due t d
+    pad-none s t d (e ∷ more) m f q =
+        at (ours e) refl q (λ o r. pad-none s (note t e) d more (allows.by_others s t e o m) f r)
       where
         at : (b : Bool) → ours e ≡ b → [] ≡ cond b (e ∷ filter ours more) (filter ours more)
-            → ([] ≡ filter ours more → Timely s d more [])
-            → Timely s d (e ∷ more) []
+            → (ours e ≡ false → [] ≡ filter ours more → Timely (note t e) d more [])
+            → Timely t d (e ∷ more) []
         at true is r go = absurd (cc)
-        at false is r go = other-first s d e more [] is f (go r)
+        at false is r go = other-first s t d e more [] is m f (go is r)
 
-    pad-noted : (s : S) (d : D) (e : E) (t : List E) (done : List R) → Caused s d
+    pad-noted : (s t : S) (d : D) (e : E) (known : List E) (done : List R) → More s t → Caused s d
         → Caused (note s e) d
-        → ((more : List E) → t ≡ filter ours more → Timely (note s e) d more done)
-        → (more : List E) → e ∷ t ≡ filter ours more → Timely s d more done
-    pad-noted s d e t done f g go [] q = absurd (cc)
-    pad-noted s d e t done f g go (c ∷ more) q =
-        at (ours c) refl q (λ r. pad-noted s d e t done f g go more r)
+        → ((u : S) (more : List E) → More (note s e) u → known ≡ filter ours more
+        → Timely u d more done)
+        → (more : List E) → e ∷ known ≡ filter ours more → Timely t d more done
+    pad-noted s t d e known done m f g go [] q = absurd (cc)
+    pad-noted s t d e known done m f g go (c ∷ more) q =
+        at (ours c) refl q
+        (λ o r. pad-noted s (note t c) d e known done (allows.by_others s t c o m) f g go more r)
       where
-        at : (b : Bool) → ours c ≡ b → e ∷ t ≡ cond b (c ∷ filter ours more) (filter ours more)
-            → (e ∷ t ≡ filter ours more → Timely s d more done) → Timely s d (c ∷ more) done
+        at : (b : Bool) → ours c ≡ b → e ∷ known ≡ cond b (c ∷ filter ours more) (filter ours more)
+            → (ours c ≡ false → e ∷ known ≡ filter ours more → Timely (note t c) d more done)
+            → Timely t d (c ∷ more) done
         at true is r on =
-            let same : e ≡ c = cc in
-            subst (λ (x : E). Timely s d (x ∷ more) done) same
-            (noted-first s d e more done g (go more (cc)))
-        at false is r on = other-first s d c more done is f (on r)
+            let same : c ≡ e = cc in
+            let next : More (note s e) (note t e) =
+            allows.by_ours s t e (ap ours (sym same) ∙ is) m in
+            subst (λ (x : E). Timely t d (x ∷ more) done) (sym same)
+            (noted-first t d e more done (allows.caused (note s e) (note t e) d next g)
+            (go (note t e) more next (cc)))
+        at false is r on = other-first s t d c more done is m f (on is r)
 
-    pad : (s : S) (d : D) (v : List (Merged E R)) → Caused s d → Run s d v → (more : List E)
-        → noted_of v ≡ filter ours more
-        → Timely s d more (deeds_of v)
-    pad s d [] f x more q = pad-none s d more f q
-    pad s d (AsNoted e ∷ v) f x more q =
-        pad-noted s d e (noted_of v) (deeds_of v) f x.0 (λ m p. pad (note s e) d v x.0 x.1 m p)
-        more q
-    pad s d (AsDone r ∷ v) f x more q =
-        done-first s d r more (deeds_of v) x.0 (pad s (deed d r) v x.0 x.1 more q)
+    pad : (s t : S) (d : D) (v : List (Merged E R)) → More s t → Caused s d → Run s d v
+        → (more : List E) → noted_of v ≡ filter ours more
+        → Timely t d more (deeds_of v)
+    pad s t d [] m f x more q = pad-none s t d more m f q
+    pad s t d (AsNoted e ∷ v) m f x more q =
+        pad-noted s t d e (noted_of v) (deeds_of v) m f x.0
+        (λ u more' n p. pad (note s e) u d v n x.0 x.1 more' p) more q
+    pad s t d (AsDone r ∷ v) m f x more q =
+        done-first t d r more (deeds_of v) (allows.caused s t (deed d r) m x.0)
+        (pad s t (deed d r) v m x.0 x.1 more q)
 
     -- lists in time stay so where a worker adds what is due, whatever others write in between
-    pub goes-on : (s : S) (d : D) (known more : List E) (first done : List R) → Caused s d
-        → Timely s d known first
+    pub goes-on : (s : S) (d : D) (known more : List E) (first done : List R)
+        → ((t : S) → More t t) → Caused s d → Timely s d known first
         → Timely (tally note s known) (tally deed d first) (filter ours more) done
         → Timely s d (known ++ more) (first ++ done)
-    goes-on s d known more first done f x y = join s d known more first done x
+    goes-on s d known more first done same f x y = join s d known more first done x
         (subst (λ (o : List R). Timely (tally note s known) (tally deed d first) more o) y.done
-        (pad (tally note s known) (tally deed d first) y.merge (end-fits s d known first f x)
+        (pad (tally note s known) (tally note s known) (tally deed d first) y.merge
+        (same (tally note s known)) (end-fits s d known first f x)
         y.runs more y.noted))
+
+    -- the counts at the end
+    pub more-at-end : (s t : S) (more : List E) → More s t
+        → More (tally note s (filter ours more)) (tally note t more)
+    more-at-end s t [] m = m
+    more-at-end s t (e ∷ more) m = at (ours e) refl
+        (λ is. more-at-end (note s e) (note t e) more (allows.by_ours s t e is m))
+        (λ is. more-at-end s (note t e) more (allows.by_others s t e is m))
+      where
+        at : (b : Bool) → ours e ≡ b
+            → (ours e ≡ true
+            → More (tally note (note s e) (filter ours more)) (tally note (note t e) more))
+            → (ours e ≡ false → More (tally note s (filter ours more)) (tally note (note t e) more))
+            → More (tally note s (cond b (e ∷ filter ours more) (filter ours more)))
+            (tally note (note t e) more)
+        at true is mine theirs = mine is
+        at false is mine theirs = theirs is

@@ -1,8 +1,9 @@
 -- What is due in a turn is one thing: each value that an entry carries is that of its place.
 use Rattle.std.proofs.Common.{◌≡◌, ℕ, ◌≤◌, Bool, true, false, cond, List, [], ◌∷◌}
-use Rattle.std.proofs.Common.{◌++◌, Some, None, refl, sym, ap, subst, ◌∙◌, arith, append_assoc}
+use Rattle.std.proofs.Common.{◌++◌, Option, Some, None, refl, sym, ap, subst, ◌∙◌, arith}
+use Rattle.std.proofs.Common.{append_assoc}
 use Rattle.std.specs.List.{AllByRecursion as Each}
-use Rattle.std.proofs.lemmas.Bool.{eq-eqb}
+use Rattle.std.proofs.lemmas.Bool.{cond-false, cond-true, eq-eqb}
 use Rattle.plant_types.specs.declared.net.NetPlan.{NetPlan}
 use Rattle.mstr_block.specs.declared.call.CallId.{CallId}
 use Rattle.mstr_block.specs.declared.call.MstrResult.{MstrResult}
@@ -13,6 +14,9 @@ use Rattle.controller_core.specs.declared.call.CallKind.TheVariants as kinds
 use Rattle.controller_core.specs.declared.entry.Entry.{Entry}
 use Rattle.controller_core.specs.declared.entry.Entry.TheVariants as entries
 use Rattle.controller_core.specs.declared.fixed.Fixed.{Fixed}
+use Rattle.controller_core.specs.Controller.{Fits}
+use Rattle.controller_core.specs.Event.{peer_entry, reply_in}
+use Rattle.controller_core.specs.Replay.{ControllerState, replay}
 use Rattle.controller_core.proofs.NextEntry.{fits_last}
 use Rattle.ring_core.specs.Legal.{IsLegalRing, IsRingStep}
 use Rattle.ring_core.specs.Machine.{ring_after}
@@ -29,12 +33,13 @@ use Rattle.ring_core.specs.declared.entry.RingEntry.TheVariants.{Post, Take, Loc
 use Rattle.tied_lists.specs.Items.{request_of, reply_of}
 use Rattle.tied_lists.proofs.Turns.{legal-parts}
 use Rattle.comm_port.specs.HoldTurn.{EndedAs, IsEnded, IsGivenUp, IsMade, IsServed, MadeAs}
-use Rattle.comm_port.specs.HoldTurn.{ServedAs}
+use Rattle.comm_port.specs.HoldTurn.{ServedAs, reply_entries}
 use Rattle.comm_port.specs.Making.{request_frame}
 use Rattle.comm_port.specs.Parts.{InOrder}
 use Rattle.joint_history.specs.Reading.{controller_at}
 use Rattle.comm_port.specs.Replies.{reply_frame}
 use Rattle.one_run.proofs.Meets.{Behind, IsMine, May, behind-by, closing, closing_kind, closings}
+use Rattle.one_run.proofs.Meets.{ending}
 use Rattle.one_run.proofs.Meets.{each-front, each-rest, endings, finish-same, may-as, may-front}
 
 -- ---- values that the ring gives
@@ -178,6 +183,18 @@ module _ (fixed : Fixed) (net : NetPlan) (n : ℕ) where
         (sym p) (subst (λ l. endings one ≤ closings l) (sym q) few));
   }
 
+  -- a request that comes ends no call of the controller
+  peer-quiet : (id : CallId) (pdu : List ℕ) (reply : Option (List ℕ))
+      → ending (peer_entry id pdu reply) ≡ 0
+  peer-quiet id pdu None = refl
+  peer-quiet id pdu (Some reply) = refl
+
+  -- what is noted of a request is its reply at that moment, or none
+  reply-is : (s : ControllerState) (id : CallId) (pdu : List ℕ) (reply : Option (List ℕ))
+      → Fits fixed s (peer_entry id pdu reply) → reply_in s pdu ≡ reply
+  reply-is s id pdu (Some reply) fits = cond-true s.powered _ _ fits.0 ∙ ap Some (sym fits.1)
+  reply-is s id pdu None fits = cond-false s.powered _ _ fits
+
   -- a frame that is served
   pub one-served : OneDue fixed net n (λ (f : Frame). Unit {0}) (IsServed n)
   one-served f known noted noted' ring done done' fit behind mine m m' u v = at f.kind refl
@@ -214,18 +231,21 @@ module _ (fixed : Fixed) (net : NetPlan) (n : ℕ) where
           (let z : endings [] ≤ closings (Take n f ∷ Local n f.id a.0 a.1 ∷ post a.1 ∷ []) =
           omega arith in z)
       at Request kind false a b =
-          let first = fits_last (controller_at fixed known) (entries.Peer f.id f.pdu a.0)
-          (may-as fixed net n _ _ _ _ (ap (λ l. known ++ l) a.1) refl m).legal in
-          let second = fits_last (controller_at fixed known) (entries.Peer f.id f.pdu b.0)
-          (may-as fixed net n _ _ _ _ (ap (λ l. known ++ l) b.1) refl m').legal in
-          let same : a.0 ≡ b.0 = first.1 ∙ sym second.1 in
-          by known noted noted' (entries.Peer f.id f.pdu a.0 ∷ [])
-          (entries.Peer f.id f.pdu b.0 ∷ []) ring done done'
-          (Take n f ∷ Post n (reply_frame f.id a.0) ∷ []) a.1 b.1 a.2
-          (b.2 ∙ (λ i. Take n f ∷ Post n (reply_frame f.id (sym same i)) ∷ []))
-          (ap (λ r. entries.Peer f.id f.pdu r ∷ []) same) mine behind
-          (let z : endings (entries.Peer f.id f.pdu a.0 ∷ [])
-          ≤ closings (Take n f ∷ Post n (reply_frame f.id a.0) ∷ []) = omega arith in z)
+          let now : ControllerState = replay fixed known in
+          let same : a.0 ≡ b.0 = sym (reply-is now f.id f.pdu a.0
+          (fits_last (controller_at fixed known) (peer_entry f.id f.pdu a.0)
+          (may-as fixed net n _ _ _ _ (ap (λ l. known ++ l) a.1) refl m).legal))
+          ∙ reply-is now f.id f.pdu b.0
+          (fits_last (controller_at fixed known) (peer_entry f.id f.pdu b.0)
+          (may-as fixed net n _ _ _ _ (ap (λ l. known ++ l) b.1) refl m').legal) in
+          let quiet = peer-quiet f.id f.pdu a.0 in
+          by known noted noted' (peer_entry f.id f.pdu a.0 ∷ [])
+          (peer_entry f.id f.pdu b.0 ∷ []) ring done done'
+          (Take n f ∷ reply_entries n f.id a.0) a.1 b.1 a.2
+          (b.2 ∙ (λ i. Take n f ∷ reply_entries n f.id (sym same i)))
+          (ap (λ r. peer_entry f.id f.pdu r ∷ []) same) mine behind
+          (let z : endings (peer_entry f.id f.pdu a.0 ∷ [])
+          ≤ closings (Take n f ∷ reply_entries n f.id a.0) = omega (arith, quiet) in z)
 
   -- an operation at home
   one-local : (id : CallId) (op : LocalOp) (known noted noted' : List Entry)

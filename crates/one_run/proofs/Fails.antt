@@ -18,14 +18,20 @@ use Rattle.ring_core.specs.declared.entry.Heard.{Heard}
 use Rattle.ring_core.specs.declared.entry.Heard.TheVariants.{Acked, Silent, Busy}
 use Rattle.ring_core.specs.declared.entry.RingEntry.{RingEntry}
 use Rattle.ring_core.specs.declared.entry.RingEntry.TheVariants.{Post, Send, Take, Local, GiveUp}
-use Rattle.ring_core.specs.declared.entry.RingEntry.TheVariants.{Pass, Leave}
+use Rattle.ring_core.specs.declared.entry.RingEntry.TheVariants.{Pass, Leave, Join}
+use Rattle.ring_core.specs.declared.entry.LeaveCause.{LeaveCause}
+use Rattle.ring_core.specs.declared.entry.LeaveCause.TheVariants.{Ended, Spent, Down}
+use Rattle.ring_core.specs.declared.status.NodeStatus.{NodeStatus}
+use Rattle.ring_core.specs.declared.status.NodeStatus.TheVariants.{Asking, In}
 use Rattle.ring_core.specs.Machine.{NodeIs, RingIs, no_path, path_of, fresh, part_of, ring_node}
 use Rattle.ring_core.specs.Machine.{asked, paths_after_take, gave_up, aged}
 use Rattle.ring_core.specs.Machine.{aged_await, with_frame, arrived, arrival, fell, is_full}
 use Rattle.ring_core.specs.Machine.{is_repeat, waits_for}
 use Rattle.ring_core.specs.Machine.{fate_at, heard_of, failed, sent_off, heard_by, silence_word}
 use Rattle.ring_core.specs.Machine.{busy_word, sent_head, after}
-use Rattle.ring_core.specs.Machine.{with_members, ring_after, addresses}
+use Rattle.ring_core.specs.Machine.{with_members, ring_after, addresses, hears, left_with}
+use Rattle.ring_core.specs.Machine.{after_pass, handed_on, is_held, with_node, with_status}
+use Rattle.ring_core.proofs.Stability.{admitted-part}
 use Rattle.tied_lists.proofs.Histories.{arrived-part}
 use Rattle.tied_lists.proofs.Turns.{next-ring}
 use Rattle.comm_port.specs.Giving.{part_at, HasFailed}
@@ -168,13 +174,34 @@ sent-fails net r m (f ∷ fs) n p x =
     came : (k : ℕ) → HasFailedOn (part_of nodes k) p → HasFailedOn (ring_node r k) p
     came k y = arrived-fails r.nodes f fate k p y
 
-    own' : P m (heard_by (part_of nodes m) f.kind f.id (ring_node r f.to).here
+    own' : P m (heard_by (part_of nodes m) f.kind f.id (hears r.nodes f.to)
         (heard_of fate (arrival r.nodes fate f)))
-    own' y = elim (heard-fails (part_of nodes m) f.kind f.id (ring_node r f.to).here
+    own' y = elim (heard-fails (part_of nodes m) f.kind f.id (hears r.nodes f.to)
         (heard_of fate (arrival r.nodes fate f)) p y) [
           | inl before ↦ inl (came m before)
           | inr path ↦ inr (refl, path)
         ]
+
+-- all who ask come in
+handed-fails : (r : RingIs) (nodes : List NodeIs) (m n p : ℕ)
+    → HasFailedOn (ring_node (handed_on r nodes m) n) p → HasFailedOn (part_of nodes n) p
+handed-fails r nodes m n p x =
+    subst (λ (c : NodeIs). HasFailedOn c p) (admitted-part nodes n) x
+
+-- a node leaves
+left-fails : (c : NodeIs) (cause : LeaveCause) (p : ℕ) → HasFailedOn (left_with cause c) p
+    → HasFailedOn c p
+left-fails c Ended p f = f
+left-fails c Spent p f = f
+left-fails c (Down number) p f = f
+
+-- a node has another status
+status-fails : (r : RingIs) (m : ℕ) (status : NodeStatus) (n p : ℕ)
+    → HasFailedOn (part_of (set r.nodes m (with_status (ring_node r m) status)) n) p
+    → HasFailedOn (ring_node r n) p
+status-fails r m status n p =
+    at-set (λ k c. HasFailedOn c p → HasFailedOn (ring_node r k) p) r.nodes (fresh false) m
+    (with_status (ring_node r m) status) (λ k x. x) (λ x. x) n
 
 -- a call that has failed behind an entry had before, or is sent by it
 pub after-fails : (net : NetPlan) (r : RingIs) (e : RingEntry) (n p : ℕ)
@@ -194,13 +221,25 @@ after-fails net r (GiveUp id word) n p =
     at-set (λ k c. HasFailedOn c p → HasFailedOn (ring_node r k) p ⊎ ⊥) r.nodes
     (fresh false) id.node _ (λ k x. inl x)
     (λ x. inl (given-fails (ring_node r id.node) id p x)) n
-after-fails net r (Pass m done words) n p =
-    at-set (λ k c. HasFailedOn c p → HasFailedOn (ring_node r k) p ⊎ ⊥) r.nodes (fresh false) m _
-    (λ k x. inl x)
-    (λ x. inl (aged-fails (ring_node r m).paths p x)) n
-after-fails net r (Leave m cause) n p =
-    at-set (λ k c. HasFailedOn c p → HasFailedOn (ring_node r k) p ⊎ ⊥) r.nodes (fresh false) m _
-    (λ k x. inl x) (λ x. inl x) n
+after-fails net r (Pass m done words) n p = λ x.
+    at-set (λ k c. HasFailedOn c p → HasFailedOn (ring_node r k) p ⊎ ⊥) r.nodes (fresh false) m
+    (after_pass (ring_node r m) done) (λ k y. inl y)
+    (λ y. inl (aged-fails (ring_node r m).paths p y)) n
+    (handed-fails r (set r.nodes m (after_pass (ring_node r m) done)) m n p x)
+after-fails net r (Leave m cause) n p = λ x.
+    at-set (λ k c. HasFailedOn c p → HasFailedOn (ring_node r k) p ⊎ ⊥) r.nodes (fresh false) m
+    (left_with cause (ring_node r m)) (λ k y. inl y)
+    (λ y. inl (left-fails (ring_node r m) cause p y)) n
+    (handed-fails r (set r.nodes m (left_with cause (ring_node r m))) m n p x)
+after-fails net r (Join m) n p =
+    cond_both (is_held r) (with_node r m (with_status (ring_node r m) Asking))
+    (record {
+      holder = m;
+      sent = r.sent;
+      nodes = set r.nodes m (with_status (ring_node r m) In);
+    })
+    (λ (s : RingIs). HasFailedOn (ring_node s n) p → HasFailedOn (ring_node r n) p ⊎ ⊥)
+    (λ held x. inl (status-fails r m Asking n p x)) (λ none x. inl (status-fails r m In n p x))
 
 -- ---- many entries
 
@@ -218,6 +257,7 @@ no-send r (Local m id op result) n p none is = is
 no-send r (GiveUp id word) n p none is = is
 no-send r (Pass m done words) n p none is = is
 no-send r (Leave m cause) n p none is = is
+no-send r (Join m) n p none is = is
 
 -- the same of a list that goes on by an entry
 pub next-fails : (net : NetPlan) (past : List RingEntry) (e : RingEntry) (n p : ℕ)

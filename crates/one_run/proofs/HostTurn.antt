@@ -88,9 +88,6 @@ module _ (net : NetPlan) (n : ℕ) where
               c.entries_are ∙ (λ i. Take n f ∷ Local n f.id (op i) (same i)
               ∷ Post n (reply_frame f.id (reply_of (same i))) ∷ []) ∙ sym d.entries_are
 
-  flat : List (List RingEntry) → List RingEntry
-  flat parts = flat_map (λ part. part) parts
-
   -- and with frames in their order
   parts-same : (frames : List Frame) (past : List RingEntry) (parts parts' : List (List RingEntry))
       → IsLegalRing net (past ++ flat_map (λ part. part) parts)

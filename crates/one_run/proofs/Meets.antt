@@ -18,7 +18,7 @@ use Rattle.ring_core.specs.declared.frame.FrameKind.{FrameKind}
 use Rattle.ring_core.specs.declared.frame.FrameKind.TheVariants.{Request, Reply}
 use Rattle.ring_core.specs.declared.entry.RingEntry.{RingEntry}
 use Rattle.ring_core.specs.declared.entry.RingEntry.TheVariants.{Post, Send, Take, Local, GiveUp}
-use Rattle.ring_core.specs.declared.entry.RingEntry.TheVariants.{Pass, Leave}
+use Rattle.ring_core.specs.declared.entry.RingEntry.TheVariants.{Pass, Leave, Join}
 use Rattle.tied_lists.specs.Own.{is_of, own, Grew}
 use Rattle.tied_lists.specs.Items.{AController, Asked, Came, Ended, Items, asked_by}
 use Rattle.tied_lists.specs.Items.{LocalCall, asked_of, ended_by, ended_in, ended_of, kind_in}
@@ -173,6 +173,7 @@ ended-one asked (Local m id op result) =
 ended-one asked (GiveUp id word) = refl
 ended-one asked (Pass m done words) = refl
 ended-one asked (Leave m cause) = refl
+ended-one asked (Join m) = refl
 
 -- and what a list ends is as many
 ended-many : (asked : List Asked) (es : List RingEntry)

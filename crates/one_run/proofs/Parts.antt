@@ -12,7 +12,7 @@ use Rattle.controller_core.specs.Controller.{IsLegal, uncollected}
 use Rattle.controller_core.proofs.NextEntry.{fits_last, front_legal}
 use Rattle.ring_core.specs.declared.entry.RingEntry.{RingEntry}
 use Rattle.ring_core.specs.declared.entry.RingEntry.TheVariants.{Post, Send, Take, Local, GiveUp}
-use Rattle.ring_core.specs.declared.entry.RingEntry.TheVariants.{Pass, Leave}
+use Rattle.ring_core.specs.declared.entry.RingEntry.TheVariants.{Pass, Leave, Join}
 use Rattle.tied_lists.specs.Calls.{AreNewCalls}
 use Rattle.tied_lists.specs.Items.{Called, Ended}
 use Rattle.tied_lists.specs.Own.{is_of, WentOn}
@@ -248,6 +248,7 @@ finish-few n (Local m id op result ∷ es) = let more = finish-few n es in omega
 finish-few n (GiveUp id word ∷ es) = let more = finish-few n es in omega (arith, more)
 finish-few n (Pass m done words ∷ es) = let more = finish-few n es in omega (arith, more)
 finish-few n (Leave m cause ∷ es) = let more = finish-few n es in omega (arith, more)
+finish-few n (Join m ∷ es) = let more = finish-few n es in omega (arith, more)
 
 -- what a controller sends makes one thing
 pub sent-same : (fixed : Fixed) (net : NetPlan) (n : ℕ) (a b b' : List Entry)

@@ -1,8 +1,8 @@
 -- Turns one after another make one joint history.
-use Rattle.std.proofs.Common.{◌≡◌, ◌≢◌, ℕ, ◌≤◌, ◌==◌, Bool, true, false, List}
+use Rattle.std.proofs.Common.{◌≡◌, ◌≢◌, ℕ, ◌≤◌, ◌==◌, Bool, true, false, not, List}
 use Rattle.std.proofs.Common.{[], ◌∷◌, ◌++◌, Option, Some, None, inl, inr, refl, sym, ap}
 use Rattle.std.proofs.Common.{subst, ◌∙◌, arith, append_assoc, append-nil}
-use Rattle.std.specs.List.{slice_get}
+use Rattle.std.specs.List.{AllByRecursion as Each, slice_get}
 use Rattle.std.proofs.lemmas.Bool.{cases_eq, eq-eqb, eqb-true}
 use Rattle.plant_types.specs.declared.net.HostPlan.{HostPlan}
 use Rattle.plant_types.specs.declared.plan.ControllerPlan.{ControllerPlan}
@@ -10,6 +10,8 @@ use Rattle.plant_types.specs.declared.plan.Plant.{Plant}
 use Rattle.ring_core.specs.declared.entry.RingEntry.{RingEntry}
 use Rattle.ring_core.specs.Legal.{IsLegalRing}
 use Rattle.ring_core.specs.Machine.{ring_after}
+use Rattle.ring_core.specs.declared.status.NodeStatus.{NodeStatus}
+use Rattle.ring_core.specs.declared.status.NodeStatus.TheVariants as statuses
 use Rattle.scan_order.specs.declared.due.ScanStep.{ScanStep}
 use Rattle.scan_order.specs.declared.due.ScanStep.TheVariants as steps
 use Rattle.controller_core.specs.declared.entry.Entry.{Entry}
@@ -19,27 +21,30 @@ use Rattle.controller_core.specs.Event.{entry_of}
 use Rattle.controller_core.specs.Replay.{ControllerState, replay}
 use Rattle.controller_core.proofs.NextEntry.{front_legal}
 use Rattle.tied_lists.specs.Own.{own}
+use Rattle.tied_lists.specs.Waits.{status_at}
 use Rattle.tied_lists.proofs.Turns.{legal-parts}
 use Rattle.host_port.specs.declared.entry.HostEntry.{HostEntry}
 use Rattle.joint_history.specs.declared.joint.ControllerLog.{ControllerLog}
 use Rattle.joint_history.specs.declared.joint.HostLog.{HostLog}
 use Rattle.joint_history.specs.declared.joint.Joint.{Joint}
-use Rattle.comm_port.specs.HoldTurn.{HoldsTurn}
+use Rattle.comm_port.specs.declared.turn_end.TurnEnd.{TurnEnd}
+use Rattle.comm_port.specs.WholeTurn.{HoldsTurn}
 use Rattle.comm_port.specs.HostTurns.{HoldsHostTurn}
 use Rattle.joint_history.specs.JointLaws.{IsJoint, IsLegalJoint, IsLegalLog, IsTiedController}
 use Rattle.joint_history.specs.JointLaws.{fixed_of}
-use Rattle.joint_history.specs.Reading.{controller_at}
+use Rattle.joint_history.specs.Reading.{controller_at, is_off_at}
 use Rattle.joint_history.proofs.Collected.{CallLaws}
 use Rattle.serial_run.specs.declared.order.Turn.{Turn}
-use Rattle.serial_run.specs.declared.order.Turn.TheVariants.{Step, Hold, Visit}
+use Rattle.serial_run.specs.declared.order.Turn.TheVariants.{Step, Hold, Visit, Away}
 use Rattle.serial_run.specs.Turns.{MakesHoldTurnAt, HostHoldsAt, IsControllerAt, MakesHold}
+use Rattle.serial_run.specs.Turns.{ComesBackAt, MakesAwayTurn, coming_back}
 use Rattle.serial_run.specs.Turns.{MakesStep, MakesTurn, MakesTurns, MakesVisit, StepsAt, VisitsAt}
 use Rattle.serial_run.specs.Turns.{VisitsIfDue, VisitsWhere, place_of_controller, empty_log}
 use Rattle.serial_run.specs.Turns.{place_of_host}
 use Rattle.serial_run.specs.Turns.{nothing_made, stepped_list, visit_is_due, with_host_list}
 use Rattle.serial_run.specs.Turns.{with_list}
 use Rattle.serial_run.proofs.Lists.{position-none, zip-at-first}
-use Rattle.one_run.proofs.Fails.{none-at-first}
+use Rattle.one_run.proofs.Fails.{IsNoSend, none-at-first}
 use Rattle.one_run.proofs.HostTurn.{host-goes, host-same}
 use Rattle.one_run.proofs.Meets.{Behind, May, Meets, behind-more, closings, endings}
 use Rattle.one_run.proofs.Meets.{endings-join, meets-front, meets-tied}
@@ -47,7 +52,7 @@ use Rattle.one_run.proofs.Parts.{Goes, Same}
 use Rattle.one_run.proofs.Places.{all-at, get-set, map-at, position-passes, set-get, set-other}
 use Rattle.one_run.proofs.Places.{some-same}
 use Rattle.one_run.proofs.Turn.{NoneFails, none-behind, quiet-others, turn-goes, turn-none}
-use Rattle.one_run.proofs.Turn.{turn-same}
+use Rattle.one_run.proofs.Turn.{quiet-join, turn-same}
 use Rattle.one_run.proofs.Turn.{visit-goes, visit-none, visit-same}
 
 -- ---- what holds between turns, and what the last joint history says of each before it
@@ -272,9 +277,9 @@ module _ (plant : Plant) (scans : ℕ) where
       (old new : Joint) : Type 0 where
     entries : List Entry
     ring : List RingEntry
-    left : Bool
+    end : TurnEnd
     turn : HoldsTurn true true
-        (fixed_of plant scans plan) plant.net plan.node true log.entries entries old.ring ring left
+        (fixed_of plant scans plan) plant.net plan.node true log.entries entries old.ring ring end
     is : new ≡ made_by at log entries ring old
 
   record HostHeldAs (at : ℕ) (plan : HostPlan) (log : HostLog) (old new : Joint) : Type 0 where
@@ -322,12 +327,12 @@ module _ (plant : Plant) (scans : ℕ) where
     held-as : (at : ℕ) (old new : Joint) (h : MakesHoldTurnAt plant scans at old new)
         → HeldAs at h.plan h.log old new
     held-as at old new h =
-        record { entries = h.entries; ring = h.ring; left = h.left; turn = h.turn; is = h.made }
+        record { entries = h.entries; ring = h.ring; end = h.end; turn = h.turn; is = h.made }
 
     held-goes : (at : ℕ) (old new : Joint) (h : MakesHoldTurnAt plant scans at old new)
         → Goes h.plan.node h.log.entries h.entries old.ring h.ring
     held-goes at old new h =
-        turn-goes laws (fixed_of plant scans h.plan) plant.net h.plan.node refl true h.left
+        turn-goes laws (fixed_of plant scans h.plan) plant.net h.plan.node refl true h.end
         h.log.entries h.entries old.ring h.ring h.turn
 
     pub held-grows : (at : ℕ) (old new : Joint) → MakesHoldTurnAt plant scans at old new
@@ -356,8 +361,8 @@ module _ (plant : Plant) (scans : ℕ) where
           ∙ sym other.is;
       kept = subst Kept (sym h.made)
           (list-kept old at h.plan h.log h.is h.entries h.ring (held-goes at old new h) kept
-          (turn-none laws (fixed_of plant scans h.plan) plant.net h.plan.node refl true h.left
-          h.log.entries h.entries old.ring h.ring h.turn) same.0.behind);
+          (turn-none laws (fixed_of plant scans h.plan) plant.net h.plan.node refl true h.end
+          h.log.entries h.entries old.ring h.ring h.turn before.none) same.0.behind);
     }
       where
         other : HeldAs at h.plan h.log old new'
@@ -368,14 +373,14 @@ module _ (plant : Plant) (scans : ℕ) where
 
         other-goes : Goes h.plan.node h.log.entries other.entries old.ring other.ring
         other-goes = turn-goes laws (fixed_of plant scans h.plan) plant.net h.plan.node refl true
-            other.left h.log.entries other.entries old.ring other.ring other.turn
+            other.end h.log.entries other.entries old.ring other.ring other.turn
 
         before : KeptAt old h.plan h.log
         before = kept at h.plan h.log h.is
 
-        same : Same h.plan.node h.entries other.entries h.ring other.ring × (h.left ≡ other.left)
-        same = turn-same laws (fixed_of plant scans h.plan) plant.net h.plan.node refl true h.left
-            other.left h.log.entries h.entries other.entries
+        same : Same h.plan.node h.entries other.entries h.ring other.ring × (h.end ≡ other.end)
+        same = turn-same laws (fixed_of plant scans h.plan) plant.net h.plan.node refl true h.end
+            other.end h.log.entries h.entries other.entries
             old.ring h.ring other.ring before.behind before.none h.turn
             (may-made old new at h.plan h.log h.is h.entries h.ring
             (held-goes at old new h) h.made fine)
@@ -529,6 +534,56 @@ module _ (plant : Plant) (scans : ℕ) where
         (visit_is_due plant scans v'.plan l.entries old.ring) plant scans at v'.plan l old new')
         (sym (log-same old at v.plan v'.plan v.log v'.log v.is v'.is)) v'.visits))
 
+    -- ---- an away turn
+
+    -- a node that comes back sends nothing by it
+    coming-quiet : (status : NodeStatus) (off : Bool) (m n : ℕ)
+        → Each (IsNoSend m) (coming_back status off n)
+    coming-quiet statuses.In off m n = tt
+    coming-quiet statuses.Asking off m n = tt
+    coming-quiet statuses.Gone off m n = tt
+    coming-quiet statuses.Away off m n = quiet-join m n (not off)
+
+    -- what the controller's node adds
+    abbrev back_of : ControllerPlan → ControllerLog → Joint → List RingEntry
+    back_of plan log old = coming_back (status_at plant.net old.ring plan.node)
+        (is_off_at (fixed_of plant scans plan) log.entries) plan.node
+
+    away-grows : (at : ℕ) (old new : Joint) → ComesBackAt plant scans at old new → Grows old new
+    away-grows at old new c = subst (Grows old) (sym c.made) (record {
+      done = back_of c.plan c.log old;
+      ring_is = refl;
+      lists = λ k p l is. record {
+        new_log = l;
+        is = record { plan_is = is.plan_is; log_is = is.log_is };
+        noted = [];
+        entries_are = sym (append-nil l.entries);
+      };
+    })
+
+    -- an away turn makes one thing
+    away-one : (at : ℕ) (old new new' : Joint) → Kept old → ComesBackAt plant scans at old new
+        → ComesBackAt plant scans at old new' → OneJoint new new'
+    away-one at old new new' kept c c' =
+        let plans = plan-same old at c.plan c'.plan c.log c'.log c.is c'.is in
+        let logs = log-same old at c.plan c'.plan c.log c'.log c.is c'.is in
+        let back = back_of c.plan c.log old in
+        record {
+          is = c.made ∙ (λ i. record old { ring = old.ring ++ back_of (plans i) (logs i) old })
+              ∙ sym c'.made;
+          kept = subst Kept (sym c.made) (λ k p l is.
+              let before = kept k p l (record { plan_is = is.plan_is; log_is = is.log_is }) in
+              record {
+                none = none-behind plant.net p.node old.ring back (old.ring ++ back) refl
+                    (coming-quiet (status_at plant.net old.ring c.plan.node)
+                    (is_off_at (fixed_of plant scans c.plan) c.log.entries) p.node c.plan.node)
+                    before.none;
+                behind = subst (λ x. Behind p.node x (old.ring ++ back)) (append-nil l.entries)
+                    (behind-more p.node l.entries [] old.ring back before.behind
+                    (let z : endings [] ≤ closings (own p.node back) = omega arith in z));
+              });
+        }
+
     -- ---- a turn, and turns one after another
 
     pub turn-grows : (turn : Turn) (old new : Joint) → MakesTurn plant scans turn old new
@@ -544,6 +599,11 @@ module _ (plant : Plant) (scans : ℕ) where
         at : (c : Option ℕ) → MakesVisit plant scans c old new → Grows old new
         at None m' = subst (Grows old) (sym m') (grows-none old)
         at (Some k) m' = where-grows _ k m'.plan m'.log old new m'.is m'.visits
+    turn-grows (Away node) old new m = at (place_of_controller plant node) m
+      where
+        at : (c : Option ℕ) → MakesAwayTurn plant scans c old new → Grows old new
+        at None m' = subst (Grows old) (sym m') (grows-none old)
+        at (Some k) m' = away-grows k old new m'
 
     -- a turn makes one thing
     turn-one : (turn : Turn) (old new new' : Joint) → Kept old → Fine new → Fine new'
@@ -567,6 +627,13 @@ module _ (plant : Plant) (scans : ℕ) where
             → OneJoint new new'
         at None s s' = record { is = s ∙ sym s'; kept = subst Kept (sym s) kept }
         at (Some k) s s' = visit-one k old new new' kept fine fine' s s'
+    turn-one (Away node) old new new' kept fine fine' m m' =
+        at (place_of_controller plant node) m m'
+      where
+        at : (c : Option ℕ) → MakesAwayTurn plant scans c old new
+            → MakesAwayTurn plant scans c old new' → OneJoint new new'
+        at None s s' = record { is = s ∙ sym s'; kept = subst Kept (sym s) kept }
+        at (Some k) s s' = away-one k old new new' kept s s'
 
     -- turns only add
     pub turns-grow : (turns : List Turn) (old new : Joint) → MakesTurns plant scans turns old new

@@ -11,7 +11,7 @@ use Rattle.ring_core.specs.declared.path.Await.TheVariants.{Nothing, Out, Arrive
 use Rattle.ring_core.specs.declared.entry.Heard.{Heard}
 use Rattle.ring_core.specs.declared.entry.RingEntry.{RingEntry}
 use Rattle.ring_core.specs.declared.entry.RingEntry.TheVariants.{Post, Send, Take, Local, GiveUp}
-use Rattle.ring_core.specs.declared.entry.RingEntry.TheVariants.{Pass, Leave}
+use Rattle.ring_core.specs.declared.entry.RingEntry.TheVariants.{Pass, Leave, Join}
 use Rattle.ring_core.specs.declared.refusal.RingNo.{RingNo}
 use Rattle.ring_core.specs.declared.refusal.RingNo.TheVariants.{NotAwaited}
 use Rattle.ring_core.specs.Legal.{IsHeard, IsLegalRing, IsPath, IsRingStep}
@@ -128,16 +128,19 @@ module _ (net : NetPlan) (n : ℕ) (on : ℕ → Bool) where
   next-same past (Local m id op result) e' mine mine' s s' one a b = absurd a
   next-same past (Pass m done words) e' mine mine' s s' one a b = absurd a
   next-same past (Leave m cause) e' mine mine' s s' one a b = absurd a
+  next-same past (Join m) e' mine mine' s s' one a b = absurd a
   next-same past (Send m h) (Post m' f) mine mine' s s' one a b = absurd b
   next-same past (Send m h) (Take m' f) mine mine' s s' one a b = absurd b
   next-same past (Send m h) (Local m' id op result) mine mine' s s' one a b = absurd b
   next-same past (Send m h) (Pass m' done words) mine mine' s s' one a b = absurd b
   next-same past (Send m h) (Leave m' cause) mine mine' s s' one a b = absurd b
+  next-same past (Send m h) (Join m') mine mine' s s' one a b = absurd b
   next-same past (GiveUp id word) (Post m' f) mine mine' s s' one a b = absurd b
   next-same past (GiveUp id word) (Take m' f) mine mine' s s' one a b = absurd b
   next-same past (GiveUp id word) (Local m' id' op result) mine mine' s s' one a b = absurd b
   next-same past (GiveUp id word) (Pass m' done words) mine mine' s s' one a b = absurd b
   next-same past (GiveUp id word) (Leave m' cause) mine mine' s s' one a b = absurd b
+  next-same past (GiveUp id word) (Join m') mine mine' s s' one a b = absurd b
 
   -- ---- at most one call has failed behind it
 
@@ -151,6 +154,7 @@ module _ (net : NetPlan) (n : ℕ) (on : ℕ → Bool) where
   sent-none past (GiveUp id word) p a s = absurd s
   sent-none past (Pass m done words) p a s = absurd s
   sent-none past (Leave m cause) p a s = absurd s
+  sent-none past (Join m) p a s = absurd s
 
   -- it sends one frame
   box-one : (box : List Frame) (p q : ℕ) → SendsOn box p → SendsOn box q → p ≡ q
@@ -166,6 +170,7 @@ module _ (net : NetPlan) (n : ℕ) (on : ℕ → Bool) where
   sends-one past (GiveUp id word) p q a b = absurd a
   sends-one past (Pass m done words) p q a b = absurd a
   sends-one past (Leave m cause) p q a b = absurd a
+  sends-one past (Join m) p q a b = absurd a
 
   -- so that at most one has failed behind each entry
   one-behind : (past : List RingEntry) (e : RingEntry) → OneFailed on (c past)
@@ -196,6 +201,7 @@ module _ (net : NetPlan) (n : ℕ) (on : ℕ → Bool) where
   no-more past (Local m id op result) at-end mine s a = a
   no-more past (Pass m done words) at-end mine s a = a
   no-more past (Leave m cause) at-end mine s a = a
+  no-more past (Join m) at-end mine s a = a
 
   -- so what a node sends and gives up is one list
   sends-same : (past es es' : List RingEntry) → Each (IsMine n) es → Each (IsMine n) es'

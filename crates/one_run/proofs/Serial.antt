@@ -1,5 +1,5 @@
 -- The serial run is one joint history: where each round and each repetition ends is decided.
-use Rattle.std.proofs.Common.{◌≡◌, ◌≢◌, ℕ, ◌+◌, ◌==◌, Bool, true, false, List, []}
+use Rattle.std.proofs.Common.{◌≡◌, ℕ, ◌+◌, ◌==◌, Bool, true, false, List, []}
 use Rattle.std.proofs.Common.{◌∷◌, ◌++◌, length, replicate, refl, sym, ap, subst, ◌∙◌, arith}
 use Rattle.std.proofs.Common.{append-nil}
 use Rattle.std.specs.Prelude.{if◌then◌else◌}
@@ -18,11 +18,13 @@ use Rattle.joint_history.specs.declared.joint.Joint.{Joint}
 use Rattle.joint_history.specs.JointLaws.{fixed_of, logged}
 use Rattle.joint_history.specs.Reading.{has_ended_at}
 use Rattle.joint_history.proofs.Collected.{CallLaws}
+use Rattle.serial_run.specs.declared.order.Turn.{Turn}
 use Rattle.serial_run.specs.declared.order.Turn.TheVariants.{Hold}
 use Rattle.serial_run.specs.Serial.{Finishes, IsChain, IsLateRound, IsRepetition, IsSerial}
-use Rattle.serial_run.specs.Serial.{MakesRound, MakesRounds, Repeats, all_have_ended, log_with_scan}
-use Rattle.serial_run.specs.Serial.{members_left, scanned, visits_of, with_scan}
-use Rattle.serial_run.specs.Turns.{nothing_made}
+use Rattle.serial_run.specs.Serial.{MakesLateRounds, MakesRound, MakesRounds, Repeats}
+use Rattle.serial_run.specs.Serial.{all_are_out, all_have_ended, away_turns_of, log_with_scan}
+use Rattle.serial_run.specs.Serial.{members_now, scanned, visits_of, with_scan}
+use Rattle.serial_run.specs.Turns.{MakesTurns, nothing_made}
 use Rattle.one_run.proofs.Meets.{Behind, endings}
 use Rattle.one_run.proofs.Places.{at-map, at-zip, map-at, some-same, zip-at}
 use Rattle.one_run.proofs.Runs.{Fine, Grows, Kept, OneJoint, events-behind, fine-front}
@@ -179,9 +181,9 @@ module _ (plant : Plant) (scans : ℕ) (laws : CallLaws) where
   round-one : MakesOne (MakesRound plant scans)
   round-one = record {
     grows = λ old new m.
-        turns-grow plant scans laws (replicate (members_left plant old.ring) Hold) old new m;
+        turns-grow plant scans laws (replicate (members_now plant old.ring) Hold) old new m;
     one = λ old new new' kept fine fine' m m'.
-        turns-one plant scans laws (replicate (members_left plant old.ring) Hold) old new new' kept
+        turns-one plant scans laws (replicate (members_now plant old.ring) Hold) old new new' kept
         fine fine' m m';
   }
 
@@ -194,14 +196,29 @@ module _ (plant : Plant) (scans : ℕ) (laws : CallLaws) where
         (m.many ∙ sym m'.many) kept fine fine' m.rounds m'.rounds;
   }
 
-  -- a repetition only adds
+  -- turns of one list, one after another
+  made-one : (turns : List Turn) → MakesOne (MakesTurns plant scans turns)
+  made-one turns = record {
+    grows = turns-grow plant scans laws turns;
+    one = turns-one plant scans laws turns;
+  }
+
+  -- the visits and rounds of a repetition only add
+  back-grows : (old new : Joint) (m : IsRepetition plant scans old new)
+      → Grows plant scans m.came_back new
+  back-grows old new m =
+      grows-then plant scans m.came_back m.visited new
+      ((made-one (visits_of plant)).grows m.came_back m.visited m.visits)
+      ((rounds-one plant.net.rotations).grows m.visited new m.rounds)
+
+  -- so does a repetition
   repetition-grows : (old new : Joint) → IsRepetition plant scans old new
       → Grows plant scans old new
   repetition-grows old new m =
       grows-then plant scans old (scanned plant scans old) new (scan-grows old)
-      (grows-then plant scans (scanned plant scans old) m.visited new
-      (turns-grow plant scans laws (visits_of plant) (scanned plant scans old) m.visited m.visits)
-      ((rounds-one plant.net.rotations).grows m.visited new m.rounds))
+      (grows-then plant scans (scanned plant scans old) m.came_back new
+      ((made-one (away_turns_of plant)).grows (scanned plant scans old) m.came_back m.away_turns)
+      (back-grows old new m))
 
   -- and makes one thing
   repetition-same : (old new new' : Joint) → Kept plant scans old → Fine plant scans new
@@ -209,11 +226,16 @@ module _ (plant : Plant) (scans : ℕ) (laws : CallLaws) where
       → IsRepetition plant scans old new' → OneJoint plant scans new new'
   repetition-same old new new' kept fine fine' m m' =
       let rounds = rounds-one plant.net.rotations in
-      let visited = turns-one plant scans laws (visits_of plant) (scanned plant scans old) m.visited
-      m'.visited (scan-kept old kept)
+      let back = (made-one (away_turns_of plant)).one (scanned plant scans old) m.came_back
+      m'.came_back (scan-kept old kept)
+      (fine-front plant scans m.came_back new (back-grows old new m) fine)
+      (fine-front plant scans m'.came_back new' (back-grows old new' m') fine')
+      m.away_turns m'.away_turns in
+      let visited = (made-one (visits_of plant)).one m.came_back m.visited m'.visited back.kept
       (fine-front plant scans m.visited new (rounds.grows m.visited new m.rounds) fine)
       (fine-front plant scans m'.visited new' (rounds.grows m'.visited new' m'.rounds) fine')
-      m.visits m'.visits in
+      m.visits (subst (λ j. MakesTurns plant scans (visits_of plant) j m'.visited) (sym back.is)
+      m'.visits) in
       rounds.one m.visited new new' visited.kept fine fine' m.rounds
       (subst (λ j. MakesRounds plant scans plant.net.rotations j new') (sym visited.is) m'.rounds)
 
@@ -229,6 +251,9 @@ module _ (plant : Plant) (scans : ℕ) (laws : CallLaws) where
 
   -- ---- the serial run
 
+  clash : {b : Bool} → b ≡ true → b ≡ false → ⊥
+  clash yes' no' = let bad : true ≡ false = sym yes' ∙ no' in cc
+
   -- repetitions until all controllers have ended make one thing
   repeats-one : (old new new' : Joint) → Kept plant scans old → Fine plant scans new
       → Fine plant scans new' → Repeats plant scans old new
@@ -238,23 +263,38 @@ module _ (plant : Plant) (scans : ℕ) (laws : CallLaws) where
       repetition-one (λ before after c. c.goes_on)
       m.behind_each m'.behind_each old new new' (clash m.ended)
       (clash m'.ended) kept fine fine' m.repetitions m'.repetitions
-    where
-      clash : {b : Bool} → b ≡ true → b ≡ false → ⊥
-      clash yes' no' = let bad : true ≡ false = sym yes' ∙ no' in cc
+
+  -- rounds until every node is out of the ring make one thing
+  late-rounds-one : MakesOne (MakesLateRounds plant scans)
+  late-rounds-one = record {
+    grows = λ old new m. chain-grows (IsLateRound plant scans) late-one m.behind_each
+        old new m.rounds;
+    one = λ old new new' kept fine fine' m m'.
+        until-one (IsLateRound plant scans) (λ j. all_are_out plant scans j ≡ false) late-one
+        (λ before after c. c.goes_on) m.behind_each m'.behind_each old new new' (clash m.out)
+        (clash m'.out) kept fine fine' m.rounds m'.rounds;
+  }
+
+  -- the last visits only add
+  last-grows : (old new : Joint) (m : Finishes plant scans old new)
+      → Grows plant scans m.emptied new
+  last-grows old new m = (made-one (visits_of plant)).grows m.emptied new m.visits
 
   finishes-grow : (old new : Joint) → Finishes plant scans old new → Grows plant scans old new
-  finishes-grow old new m = chain-grows (IsLateRound plant scans) late-one m.behind_each
-      old new m.rounds
+  finishes-grow old new m = grows-then plant scans old m.emptied new
+      (late-rounds-one.grows old m.emptied m.rounds) (last-grows old new m)
 
-  -- rounds until every node has left make one thing
+  -- those rounds and the last visits make one thing
   finishes-one : (old new new' : Joint) → Kept plant scans old → Fine plant scans new
       → Fine plant scans new' → Finishes plant scans old new
       → Finishes plant scans old new' → OneJoint plant scans new new'
   finishes-one old new new' kept fine fine' m m' =
-      until-one (IsLateRound plant scans) (λ (j : Joint). members_left plant j.ring ≢ 0) late-one
-      (λ before after c. c.goes_on)
-      m.behind_each m'.behind_each old new new' (λ some. some m.left)
-      (λ some. some m'.left) kept fine fine' m.rounds m'.rounds
+      let emptied = late-rounds-one.one old m.emptied m'.emptied kept
+      (fine-front plant scans m.emptied new (last-grows old new m) fine)
+      (fine-front plant scans m'.emptied new' (last-grows old new' m') fine')
+      m.rounds m'.rounds in
+      (made-one (visits_of plant)).one m.emptied new new' emptied.kept fine fine' m.visits
+      (subst (λ j. MakesTurns plant scans (visits_of plant) j new') (sym emptied.is) m'.visits)
 
   -- and so does the serial run
   pub serial-one : (joint joint' : Joint) → Fine plant scans joint → Fine plant scans joint'

@@ -1,5 +1,5 @@
 -- A hold of the token by a controller, and a visit, make one thing.
-use Rattle.std.proofs.Common.{◌≡◌, ◌≢◌, ℕ, ◌≤◌, Bool, true, false, List, []}
+use Rattle.std.proofs.Common.{◌≡◌, ◌≢◌, ℕ, ◌≤◌, nat_le, not, Bool, true, false, List, []}
 use Rattle.std.proofs.Common.{◌∷◌, ◌++◌, Option, Some, None, refl, sym, ap, subst, ◌∙◌}
 use Rattle.std.proofs.Common.{arith, append-nil}
 use Rattle.std.specs.Prelude.{if◌then◌else◌, is_some}
@@ -18,19 +18,26 @@ use Rattle.ring_core.specs.declared.frame.Frame.{Frame}
 use Rattle.ring_core.specs.declared.entry.LeaveCause.{LeaveCause}
 use Rattle.ring_core.specs.declared.entry.RingEntry.{RingEntry}
 use Rattle.ring_core.specs.declared.entry.RingEntry.TheVariants.{Post, Send, Take, Local, GiveUp}
-use Rattle.ring_core.specs.declared.entry.RingEntry.TheVariants.{Pass, Leave}
+use Rattle.ring_core.specs.declared.entry.LeaveCause.TheVariants.{Down}
+use Rattle.ring_core.specs.declared.entry.RingEntry.TheVariants.{Pass, Leave, Join}
 use Rattle.ring_core.specs.Machine.{ring_after}
 use Rattle.ring_core.specs.Scratch.{words_put}
 use Rattle.ring_core.specs.Statistics.{is_stats}
+use Rattle.tied_lists.specs.Items.{latest_down}
 use Rattle.tied_lists.specs.Own.{is_of, own}
 use Rattle.comm_port.specs.Giving.{part_at}
-use Rattle.comm_port.specs.HoldTurn.{Collects, CollectsIf, EndedAs, EndsHoldTurn, HoldsTurn}
+use Rattle.comm_port.specs.HoldTurn.{Collects, CollectsIf, EndedAs, EndsHoldTurn}
 use Rattle.comm_port.specs.HoldTurn.{IsEnded, IsGivenUp, IsMade, IsServed, MadeAs}
-use Rattle.comm_port.specs.HoldTurn.{SendsAll, ServedAs, VisitsEnd, inbox_of, overdue}
+use Rattle.comm_port.specs.Failing.{GoesDown, join_entries}
+use Rattle.comm_port.specs.HoldTurn.{SendsAll, ServedAs, VisitsEnd, WorksTurn, inbox_of}
+use Rattle.comm_port.specs.HoldTurn.{overdue, reply_entries}
 use Rattle.comm_port.specs.Leaving.{cause_due, last_entry}
 use Rattle.comm_port.specs.Parts.{InOrder, PartOf, calls_waiting}
 use Rattle.comm_port.proofs.Asked.{both-asked}
-use Rattle.joint_history.specs.Reading.{has_ended_at, has_started_at, is_ours}
+use Rattle.comm_port.specs.WholeTurn.{HoldsTurn, TurnsBy, failing_end, is_unnoticed, working_end}
+use Rattle.comm_port.specs.declared.turn_end.TurnEnd.{TurnEnd}
+use Rattle.joint_history.specs.Reading.{failures_at, has_ended_at, has_started_at, is_off_at}
+use Rattle.joint_history.specs.Reading.{is_ours}
 use Rattle.joint_history.proofs.Collected.{CallLaws}
 use Rattle.turn_laws.proofs.Passes.{each-join}
 use Rattle.one_run.proofs.Dues.{one-ended, one-given, one-made, one-served}
@@ -76,6 +83,7 @@ quiet-others m n other (e ∷ es) mine = (at e mine.0, quiet-others m n other es
     at (GiveUp id word) mine' = tt
     at (Pass k done words) mine' = tt
     at (Leave k cause) mine' = tt
+    at (Join k) mine' = tt
 
 -- what is due has no Send of the node
 abbrev IsQuiet : {X : Type 0} → ℕ → (X → List Entry → List RingEntry → Type 0) → Type 0
@@ -95,11 +103,15 @@ quiet-order n Due quiet (x ∷ xs) noted done a =
 quiet-served : (n : ℕ) → IsQuiet n (IsServed n)
 quiet-served n f noted done u = at f.kind (is_stats f.pdu) u
   where
+    replied : (reply : Option (List ℕ)) → Each (IsNoSend n) (reply_entries n f.id reply)
+    replied None = tt
+    replied (Some reply) = (tt, tt)
+
     at : (kind : FrameKind) (stats : Bool) → ServedAs kind stats n f noted done
         → Each (IsNoSend n) done
     at Reply stats a = subst (Each (IsNoSend n)) (sym a.2) (tt, tt)
     at Request true a = subst (Each (IsNoSend n)) (sym a.4) (tt, (tt, (tt, tt)))
-    at Request false a = subst (Each (IsNoSend n)) (sym a.2) (tt, (tt, tt))
+    at Request false a = subst (Each (IsNoSend n)) (sym a.2) (tt, replied a.0)
 
 -- nor is a call that is made
 quiet-made : (n : ℕ) → IsQuiet n (IsMade n)
@@ -120,6 +132,11 @@ quiet-ended n call noted done u = at call.kind u
 -- nor one that is given up
 quiet-given : (n : ℕ) → IsQuiet n IsGivenUp
 quiet-given n id noted done a = subst (Each (IsNoSend n)) (sym a.2) (tt, tt)
+
+-- nor is what a node comes back by
+pub quiet-join : (m n : ℕ) (joined : Bool) → Each (IsNoSend m) (join_entries n joined)
+quiet-join m n true = (tt, tt)
+quiet-join m n false = tt
 
 -- nor are calls that are collected
 quiet-collects : (n : ℕ) (Due : Call → List Entry → List RingEntry → Type 0) → IsQuiet n Due
@@ -157,6 +174,12 @@ module _ (fixed : Fixed) (net : NetPlan) (n : ℕ) (budget : Bool) where
   then-is a b x y left e = went-is is_ours (both-asked e.asked).at_end e.asked_known
       (both-asked e.asked).then_on ∙ asked-is a b x y left e
 
+  -- nor does the one between
+  fails-is : (a b : List Entry) (x y : List RingEntry) (left : Bool) (e : End a b x y left)
+      → (both-asked e.asked).at_fails ≡ a
+  fails-is a b x y left e = went-is is_ours (both-asked e.asked).at_end
+      (both-asked e.asked).at_fails (both-asked e.asked).second ∙ asked-is a b x y left e
+
   -- a controller is done in one turn if it is in the other
   done-if : (a b b' : List Entry) (x y y' : List RingEntry) (left left' : Bool)
       (e : End a b x y left) (e' : End a b' x y' left') → e.done ≡ true → e'.done ≡ true
@@ -164,6 +187,9 @@ module _ (fixed : Fixed) (net : NetPlan) (n : ℕ) (budget : Bool) where
       (both-asked e'.asked).all
       (ap (has_ended_at fixed) (asked-is a b' x y' left' e' ∙ sym (asked-is a b x y left e))
       ∙ (both-asked e.asked).ended is)
+      (ap (λ (l : List Entry). nat_le (failures_at fixed l) (latest_down (own n x)))
+      (fails-is a b' x y' left' e' ∙ sym (fails-is a b x y left e))
+      ∙ (both-asked e.asked).few is)
       (ap (has_started_at fixed) (then-is a b' x y' left' e' ∙ sym (then-is a b x y left e))
       ∙ (both-asked e.asked).collected is)
       ((both-asked e.asked).idle is)
@@ -238,12 +264,12 @@ module _ (fixed : Fixed) (net : NetPlan) (n : ℕ) (budget : Bool) where
           (behind-more n a [] x (last x e.done ∷ []) behind
           (let z : endings [] ≤ closings (own n (last x e.done ∷ [])) = omega arith in z))
 
--- ---- the whole turn
+-- ---- a turn in which no failure is unnoticed
 
 module _ (laws : CallLaws) (fixed : Fixed) (net : NetPlan) (n : ℕ) (node : fixed.plan.node ≡ n)
     (budget : Bool) where
   module _ (left : Bool) (a b : List Entry) (x y : List RingEntry)
-      (t : HoldsTurn true true fixed net n budget a b x y left) where
+      (t : WorksTurn true true fixed net n budget a b x y left) where
     -- each part adds to both lists
     pub serves-goes : Goes n a t.served_known x t.served_ring
     serves-goes = part-goes n _ a t.served_known x t.served_ring t.serves
@@ -261,9 +287,9 @@ module _ (laws : CallLaws) (fixed : Fixed) (net : NetPlan) (n : ℕ) (node : fix
     pub ending-goes : Goes n t.given_known b t.given_ring y
     ending-goes = ends-goes fixed net n budget t.given_known b t.given_ring y left t.ends
 
-    -- a turn adds to both lists
-    pub turn-goes : Goes n a b x y
-    turn-goes =
+    -- the turn adds to both lists
+    works-goes : Goes n a b x y
+    works-goes =
         goes-then n a t.served_known b x t.served_ring y serves-goes
         (goes-then n t.served_known t.called_known b t.served_ring t.called_ring y calls-goes
         (goes-then n t.called_known t.sent_known b t.called_ring t.sent_ring y sending-goes
@@ -271,8 +297,8 @@ module _ (laws : CallLaws) (fixed : Fixed) (net : NetPlan) (n : ℕ) (node : fix
         ending-goes)))
 
     -- no call of the node has failed behind it
-    pub turn-none : NoneFails net n y
-    turn-none =
+    works-none : NoneFails net n y
+    works-none =
         ends-none fixed net n budget t.given_known b t.given_ring y left t.ends
         (none-behind net n t.sent_ring t.gives_up.done t.given_ring
         (grew-is (is_of n) t.sent_ring t.gives_up.done t.given_ring t.gives_up.node)
@@ -308,13 +334,13 @@ module _ (laws : CallLaws) (fixed : Fixed) (net : NetPlan) (n : ℕ) (node : fix
       may-served = may-goes fixed net n t.served_known t.called_known t.served_ring t.called_ring
           calls-goes may-called
 
-  -- a turn makes one thing
-  pub turn-same : (left left' : Bool) (a b b' : List Entry) (x y y' : List RingEntry) → Behind n a x
+  -- it makes one thing
+  works-same : (left left' : Bool) (a b b' : List Entry) (x y y' : List RingEntry) → Behind n a x
       → NoneFails net n x
-      → HoldsTurn true true fixed net n budget a b x y left → May fixed net n b y
-      → HoldsTurn true true fixed net n budget a b' x y' left' → May fixed net n b' y'
+      → WorksTurn true true fixed net n budget a b x y left → May fixed net n b y
+      → WorksTurn true true fixed net n budget a b' x y' left' → May fixed net n b' y'
       → Same n b b' y y' × (left ≡ left')
-  turn-same left left' a b b' x y y' behind none t m t' m' = ended
+  works-same left left' a b b' x y y' behind none t m t' m' = ended
     where
       served : Same n t.served_known t'.served_known t.served_ring t'.served_ring
       served = part-same fixed net n _
@@ -358,6 +384,175 @@ module _ (laws : CallLaws) (fixed : Fixed) (net : NetPlan) (n : ℕ) (node : fix
           given.behind t.ends m
           (move (λ k r. EndsHoldTurn true true fixed net n budget k b' r y' left') _ _ _ _
           (sym given.known_is) (sym given.ring_is) t'.ends) m'
+
+  -- ---- a turn in which one is
+
+  module _ (a b : List Entry) (x y : List RingEntry) (joined : Bool)
+      (d : GoesDown true true fixed net n (failures_at fixed a) a b x y joined) where
+    -- the node left for that
+    left-is : d.left_ring ≡ x ++ Leave n (Down (failures_at fixed a)) ∷ []
+    left-is = grew-is (is_of n) x (Leave n (Down (failures_at fixed a)) ∷ []) d.left_ring
+        d.leaves.grew
+
+    -- a question adds nothing
+    back-is : b ≡ d.given_known
+    back-is = went-is is_ours d.given_known b d.comes.asks
+
+    -- and it asked to come in, or did not
+    joins-is : y ≡ d.given_ring ++ join_entries n joined
+    joins-is = grew-is (is_of n) d.given_ring (join_entries n joined) y d.comes.grew
+
+    -- each part adds to both lists
+    leaving-goes : Goes n a a x d.left_ring
+    leaving-goes = record {
+      noted = [];
+      known_is = sym (append-nil a);
+      done = Leave n (Down (failures_at fixed a)) ∷ [];
+      ring_is = left-is;
+      mine = grew-ours (is_of n) x (Leave n (Down (failures_at fixed a)) ∷ []) d.left_ring
+          d.leaves.grew;
+    }
+
+    given-goes : Goes n a d.given_known d.left_ring d.given_ring
+    given-goes = part-goes n _ a d.given_known d.left_ring d.given_ring d.gives_up
+
+    back-goes : Goes n d.given_known b d.given_ring y
+    back-goes = record {
+      noted = [];
+      known_is = back-is ∙ sym (append-nil d.given_known);
+      done = join_entries n joined;
+      ring_is = joins-is;
+      mine = grew-ours (is_of n) d.given_ring (join_entries n joined) y d.comes.grew;
+    }
+
+    -- so does the turn
+    down-goes : Goes n a b x y
+    down-goes =
+        goes-then n a a b x d.left_ring y leaving-goes
+        (goes-then n a d.given_known b d.left_ring d.given_ring y given-goes back-goes)
+
+    -- no call of the node fails in it
+    down-none : NoneFails net n x → NoneFails net n y
+    down-none none =
+        none-behind net n d.given_ring (join_entries n joined) y joins-is (quiet-join n n joined)
+        (none-behind net n d.left_ring d.gives_up.done d.given_ring
+        (grew-is (is_of n) d.left_ring d.gives_up.done d.given_ring d.gives_up.node)
+        (quiet-order n IsGivenUp (quiet-given n) _ d.gives_up.noted d.gives_up.done
+        d.gives_up.due)
+        (none-behind net n x (Leave n (Down (failures_at fixed a)) ∷ []) d.left_ring left-is
+        (tt, tt) none))
+
+  -- it makes one thing
+  down-same : (joined joined' : Bool) (a b b' : List Entry) (x y y' : List RingEntry)
+      → Behind n a x → GoesDown true true fixed net n (failures_at fixed a) a b x y joined
+      → May fixed net n b y → GoesDown true true fixed net n (failures_at fixed a) a b' x y' joined'
+      → May fixed net n b' y' → Same n b b' y y' × (joined ≡ joined')
+  down-same joined joined' a b b' x y y' behind d m d' m' = (
+    record {
+      known_is = known;
+      ring_is = joins-is a b x y joined d
+          ∙ (λ i. given.ring_is i ++ join_entries n (same i))
+          ∙ sym (joins-is a b' x y' joined' d');
+      behind = subst (λ k. Behind n k y) (sym (back-is a b x y joined d))
+          (subst (Behind n d.given_known) (sym (joins-is a b x y joined d))
+          (subst (λ k. Behind n k (d.given_ring ++ join_entries n joined))
+          (append-nil d.given_known)
+          (behind-more n d.given_known [] d.given_ring (join_entries n joined) given.behind
+          (let z : endings [] ≤ closings (own n (join_entries n joined)) = omega arith in z))));
+    },
+    same,
+  )
+    where
+      Given : List Entry → List RingEntry → Type 0
+      Given = InOrder IsGivenUp (calls_waiting n x)
+
+      left : d.left_ring ≡ d'.left_ring
+      left = left-is a b x y joined d ∙ sym (left-is a b' x y' joined' d')
+
+      passed : Behind n a d.left_ring
+      passed = subst (λ k. Behind n k d.left_ring) (append-nil a)
+          (subst (Behind n (a ++ [])) (sym (left-is a b x y joined d))
+          (behind-more n a [] x (Leave n (Down (failures_at fixed a)) ∷ []) behind
+          (let z : endings [] ≤ closings (own n (Leave n (Down (failures_at fixed a)) ∷ [])) =
+          omega arith in z)))
+
+      given : Same n d.given_known d'.given_known d.given_ring d'.given_ring
+      given = part-same fixed net n Given
+          (order-same fixed net n (λ (id : CallId). Unit {0}) IsGivenUp (one-given fixed net n)
+          (calls_waiting n x)
+          (each-all (λ (id : CallId). Unit {0}) (λ id. tt) (calls_waiting n x)))
+          a d.given_known d'.given_known d.left_ring d.given_ring d'.given_ring passed d.gives_up
+          (may-goes fixed net n d.given_known b d.given_ring y (back-goes a b x y joined d) m)
+          (subst (λ r. PartOf true true is_ours n Given a d'.given_known r d'.given_ring)
+          (sym left) d'.gives_up)
+          (may-goes fixed net n d'.given_known b' d'.given_ring y'
+          (back-goes a b' x y' joined' d') m')
+
+      known : b ≡ b'
+      known = back-is a b x y joined d ∙ given.known_is ∙ sym (back-is a b' x y' joined' d')
+
+      same : joined ≡ joined'
+      same = d.comes.joined_is ∙ ap (λ (l : List Entry). not (is_off_at fixed l)) known
+          ∙ sym d'.comes.joined_is
+
+  -- ---- the whole turn
+
+  abbrev By : Bool → List Entry → List Entry → List RingEntry → List RingEntry → TurnEnd → Type 0
+  By down a b x y end = TurnsBy down true true fixed net n budget a b x y end
+
+  -- either way the turn adds to both lists
+  by-goes : (down : Bool) (a b : List Entry) (x y : List RingEntry) (end : TurnEnd)
+      → By down a b x y end → Goes n a b x y
+  by-goes true a b x y end t = down-goes a b x y t.0 t.2
+  by-goes false a b x y end t = works-goes t.0 a b x y t.2
+
+  -- no call of the node has failed behind it
+  by-none : (down : Bool) (a b : List Entry) (x y : List RingEntry) (end : TurnEnd)
+      → By down a b x y end → NoneFails net n x → NoneFails net n y
+  by-none true a b x y end t none = down-none a b x y t.0 t.2 none
+  by-none false a b x y end t none = works-none t.0 a b x y t.2
+
+  -- and it makes one thing
+  by-same : (down : Bool) (a b b' : List Entry) (x y y' : List RingEntry) (end end' : TurnEnd)
+      → Behind n a x → NoneFails net n x → By down a b x y end → May fixed net n b y
+      → By down a b' x y' end' → May fixed net n b' y' → Same n b b' y y' × (end ≡ end')
+  by-same true a b b' x y y' end end' behind none t m t' m' =
+      let same = down-same t.0 t'.0 a b b' x y y' behind t.2 m t'.2 m' in
+      (same.0, t.1 ∙ ap failing_end same.1 ∙ sym t'.1)
+  by-same false a b b' x y y' end end' behind none t m t' m' =
+      let same = works-same t.0 t'.0 a b b' x y y' behind none t.2 m t'.2 m' in
+      (same.0, t.1 ∙ ap working_end same.1 ∙ sym t'.1)
+
+  -- the question that comes first adds nothing
+  of-asked : (a b : List Entry) (x y : List RingEntry) (end : TurnEnd)
+      → HoldsTurn true true fixed net n budget a b x y end
+      → By (is_unnoticed fixed n a x) a b x y end
+  of-asked a b x y end t =
+      subst (λ (l : List Entry). By (is_unnoticed fixed n l x) l b x y end)
+      (went-is is_ours a t.asked t.asks) t.goes
+
+  -- a turn adds to both lists
+  pub turn-goes : (end : TurnEnd) (a b : List Entry) (x y : List RingEntry)
+      → HoldsTurn true true fixed net n budget a b x y end → Goes n a b x y
+  turn-goes end a b x y t =
+      by-goes (is_unnoticed fixed n a x) a b x y end (of-asked a b x y end t)
+
+  -- no call of the node has failed behind it
+  pub turn-none : (end : TurnEnd) (a b : List Entry) (x y : List RingEntry)
+      → HoldsTurn true true fixed net n budget a b x y end
+      → NoneFails net n x → NoneFails net n y
+  turn-none end a b x y t none =
+      by-none (is_unnoticed fixed n a x) a b x y end (of-asked a b x y end t) none
+
+  -- a turn makes one thing
+  pub turn-same : (end end' : TurnEnd) (a b b' : List Entry) (x y y' : List RingEntry)
+      → Behind n a x → NoneFails net n x
+      → HoldsTurn true true fixed net n budget a b x y end → May fixed net n b y
+      → HoldsTurn true true fixed net n budget a b' x y' end' → May fixed net n b' y'
+      → Same n b b' y y' × (end ≡ end')
+  turn-same end end' a b b' x y y' behind none t m t' m' =
+      by-same (is_unnoticed fixed n a x) a b b' x y y' end end' behind none
+      (of-asked a b x y end t) m (of-asked a b' x y' end' t') m'
 
   -- ---- a visit
 

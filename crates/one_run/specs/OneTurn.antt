@@ -10,7 +10,9 @@ use Rattle.controller_core.specs.declared.fixed.Fixed.{Fixed}
 use Rattle.controller_core.specs.declared.entry.Entry.{Entry}
 use Rattle.host_port.specs.declared.entry.HostEntry.{HostEntry}
 use Rattle.comm_port.specs.Giving.{part_at, NoneFailed, each_path}
-use Rattle.comm_port.specs.HoldTurn.{HoldsTurn, VisitsEnd}
+use Rattle.comm_port.specs.declared.turn_end.TurnEnd.{TurnEnd}
+use Rattle.comm_port.specs.HoldTurn.{VisitsEnd}
+use Rattle.comm_port.specs.WholeTurn.{HoldsTurn}
 use Rattle.comm_port.specs.HostTurns.{HoldsHostTurn}
 use Rattle.turn_laws.specs.KeepsOn.{StandsTied}
 
@@ -18,15 +20,15 @@ use Rattle.turn_laws.specs.KeepsOn.{StandsTied}
 -- alike.
 abbrev pub OneTurn : Type 0
 OneTurn =
-    (fixed : Fixed) (net : NetPlan) (budget left other_left : Bool)
+    (fixed : Fixed) (net : NetPlan) (budget : Bool) (end other_end : TurnEnd)
     (known new_known other_known : List Entry) (ring new_ring other_ring : List RingEntry)
     → NoneFailed each_path (part_at net fixed.plan.node ring)
     → StandsTied fixed net fixed.plan.node known ring
-    → HoldsTurn true true fixed net fixed.plan.node budget known new_known ring new_ring left
+    → HoldsTurn true true fixed net fixed.plan.node budget known new_known ring new_ring end
     → StandsTied fixed net fixed.plan.node new_known new_ring
     → HoldsTurn true true fixed net fixed.plan.node budget known other_known ring other_ring
-    other_left → StandsTied fixed net fixed.plan.node other_known other_ring
-    → (new_known ≡ other_known) × (new_ring ≡ other_ring) × (left ≡ other_left)
+    other_end → StandsTied fixed net fixed.plan.node other_known other_ring
+    → (new_known ≡ other_known) × (new_ring ≡ other_ring) × (end ≡ other_end)
 
 -- Two visits of a controller that begin alike end alike.
 abbrev pub OneVisit : Type 0

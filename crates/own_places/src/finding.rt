@@ -40,6 +40,7 @@ fn maker(entry: &RingEntry) -> u8
         RingEntry::GiveUp { id, .. } => id.node,
         RingEntry::Pass { node, .. } => *node,
         RingEntry::Leave { node, .. } => *node,
+        RingEntry::Join { node } => *node,
     }
 }
 

@@ -237,6 +237,14 @@ fn aborted() -> Change {
     }
 }
 
+// Power fails in the first scan of node 5, so the request goes by.
+const DARK: Change = Change {
+    parts: &[("node = 5\n", "node = 5\npower = [\"1 0 0\"]\n")],
+    end: "",
+    words: "trace 2",
+    shown: "S 1 N 5 OFF\n",
+};
+
 // The file with its changes.
 fn changed(alloc: Global, change: &Change) -> Result<String, Fail> {
     let mut file = String::from_str(alloc, read2())?;
@@ -291,6 +299,27 @@ fn a_trace_is_the_journal_and_the_panel(rt: HostRuntime) -> Result<(), Fail> {
     let wanted = format!(in alloc; "{}{}", read2_journal(), read2_panel())?;
     let plant = read2().as_bytes();
     assert!(rt; ends_so(alloc, "trace 2", plant, Status::Ok, wanted.as_str())?);
+    Ok(())
+}
+
+// The entries of a node without power, and of the one that asked it; its Leave and its Join stand
+// in this order.
+#[test]
+fn a_node_loses_power_and_comes_back(rt: HostRuntime) -> Result<(), Fail> {
+    let alloc = rt.alloc();
+    let file = changed(alloc, &DARK)?;
+    let outcome = outcome_over(alloc, DARK.words, file.as_bytes())?;
+    let text = str::from_utf8(outcome.written()).map_err(|_| "the text")?;
+    let (asked, behind) = text
+        .split_once("C 5\nB\nX\nB\nS 1\nE\nR\n")
+        .ok_or("node 5")?;
+    let (_, back) = behind.split_once("LE 5 D1\n").ok_or("the Leave")?;
+    let (_, end) = back.split_once("JN 5\n").ok_or("the Join")?;
+    assert!(rt;
+        outcome.status == Status::Ok && end.contains(DARK.shown),
+        "{text}"
+    );
+    assert!(rt; asked.ends_with("F 2.1.1 B 6101\n"), "{text}");
     Ok(())
 }
 

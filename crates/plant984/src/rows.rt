@@ -286,6 +286,34 @@ script = ["8000", "X"]"#,
     }
 }
 
+const TWO_COILS: &str = "\"1,1 NO 00001; 1,2 CO 00003; 2,1 NO 00002; 2,2 CO 00004; \
+    4,1 H; 4,2 CO 00001; 5,1 H; 5,2 CL 00002\"";
+
+// Power fails before the segment of scan 2, and scan 3 is dark. The latch stays on, and the coil
+// does not.
+fn a_coil_and_a_latch_lose_power() -> Row {
+    shows(
+        r#"panel = ["00003", "00004"]
+power = ["2 0 1"]"#,
+        TWO_COILS,
+        "run 4",
+        "S 1 N 1 00003=0 00004=0\nS 2 N 1 OFF\nS 3 N 1 OFF\nS 4 N 1 00003=0 00004=1\n",
+    )
+}
+
+// Power is to fail behind the ninth row, and there is one.
+fn power_fails_nowhere() -> Row {
+    Row {
+        status: Status::Refused,
+        ..shows(
+            r#"power = ["1 9 0"]"#,
+            TWO_COILS,
+            "run 4",
+            "refused 15 BadPower controller 1 power 1\n",
+        )
+    }
+}
+
 // The bytes of a row's plant.
 fn plant_of(alloc: Global, row: &Row) -> Result<Vec<u8>, AllocError> {
     let mut text = Vec::new(alloc);
@@ -340,6 +368,14 @@ fn plays_each_script(rt: HostRuntime) -> Result<(), Fail> {
         a_silent_drop(),
     ] {
         assert!(rt; holds(rt.alloc(), &row)?, "{}", row.networks);
+    }
+    Ok(())
+}
+
+#[test]
+fn loses_power(rt: HostRuntime) -> Result<(), Fail> {
+    for row in [a_coil_and_a_latch_lose_power(), power_fails_nowhere()] {
+        assert!(rt; holds(rt.alloc(), &row)?, "{}", row.controller);
     }
     Ok(())
 }

@@ -14,5 +14,6 @@ pub mod TestLemmas
 pub mod SegmentLemmas
 pub mod DropLemmas
 pub mod OrderLemmas
+pub mod FailureLemmas
 pub mod PlantLemmas
 pub mod LoadedLemmas

@@ -22,7 +22,7 @@ use Rattle.plant_types.specs.declared.plan.Plant.{Plant}
 use Rattle.plant_types.specs.declared.fault.PlantFault.TheVariants.{BadValue, BadNode}
 use Rattle.plant_types.specs.declared.fault.Place.{Place}
 use Rattle.plant_types.specs.Plans.{IsFromTo, IsNode, IsNetPlan, IsAskOf, IsHostPlan, PassesTests}
-use Rattle.plant_types.specs.Plans.{IsPlant, KeepsPower, AllKeepPower}
+use Rattle.plant_types.specs.Plans.{IsPlant}
 use Rattle.cell_text.specs.Steps.{or_fault}
 use Rattle.cell_text.specs.Words.{text_words}
 use Rattle.plant_types.specs.Numerals.{is_numeral, value_of}
@@ -318,7 +318,6 @@ pub record IsLoaded (plant : Plant) : Type 0 where
   pub checked : IsPlant plant
   pub drops : All PassesDropTests plant.controllers
   pub runnable : All IsRunnablePlan plant.controllers
-  pub keeps : AllKeepPower plant
 
 plant_from-loaded : (scan_time watchdog : ℕ) (rules : NetRules) (controllers : List ControllerPlan)
     (hosts : List HostPlan)
@@ -389,7 +388,6 @@ plant_from-loaded scan_time watchdog rules controllers hosts t w r s count few =
       checked = checked;
       drops = all_cs PassesDropTests (λ plan read. read.drops);
       runnable = all_cs IsRunnablePlan read-runnable;
-      keeps = all_cs KeepsPower (λ plan read. read.keeps);
     }
 
 -- the tables of an array that must have one
@@ -487,8 +485,3 @@ pub loaded-runnable : (r : Result Plant LoadEnd) → IfOk r (λ plant. IsLoaded 
     → IfOk r (λ plant. All IsRunnablePlan plant.controllers)
 loaded-runnable (Ok plant) h = h.runnable
 loaded-runnable (Err end) h = tt
-
-pub loaded-keeps : (r : Result Plant LoadEnd) → IfOk r (λ plant. IsLoaded plant)
-    → IfOk r (λ plant. AllKeepPower plant)
-loaded-keeps (Ok plant) h = h.keeps
-loaded-keeps (Err end) h = tt

@@ -19,9 +19,9 @@ use Rattle.plant_types.specs.declared.fault.Place.{Place}
 use Rattle.plant_types.specs.Fault.{controller_place, panel_place}
 use Rattle.plant_types.specs.Reference.{is_discrete}
 use Rattle.plant_types.specs.Sizes.{Sizes, has_reference, cleared, sizes_from}
-use Rattle.plant_types.specs.Plans.{IsNode, PassesTests, KeepsPower}
+use Rattle.plant_types.specs.Plans.{IsNode, PassesTests}
 use Rattle.plant_types.specs.Checks.{is_size, is_discrete_size, sizes_of, passes_check}
-use Rattle.plant_types.specs.FirstFault.{first_failed, tests_behind, tests_of_each}
+use Rattle.plant_types.specs.FirstFault.{first_failed, tests_of_each}
 use Rattle.plant_types.specs.Passing.{row_passes}
 use Rattle.plant_types.specs.PlanTests.{placed, panel_limit, drop_limit, segment_limit, order_limit}
 use Rattle.plant_types.specs.PlanTests.{power_limit, power_tests}
@@ -47,6 +47,7 @@ use Rattle.plant_loader.specs.Controller.{owner_from, owner_at, panel_item, pane
 use Rattle.plant_loader.specs.Drops.{drops_of}
 use Rattle.plant_loader.specs.Pieces.{segments_of}
 use Rattle.plant_loader.specs.Orders.{nameable, orders_of}
+use Rattle.plant_loader.specs.Failures.{power_rows_of}
 use Rattle.plant_loader.specs.Stations.{Arrays, arrays_from, arrays_at, plan_of, parts_of}
 use Rattle.plant_loader.specs.Stations.{has_controller, controller_behind, controllers_of}
 use Rattle.plant_loader.specs.Accepted.{PassesDropTests}
@@ -59,6 +60,7 @@ use Rattle.plant_loader.proofs.TestLemmas.{each_from-length, with_positions-coun
 use Rattle.plant_loader.proofs.SegmentLemmas.{segments-pass, segments-count}
 use Rattle.plant_loader.proofs.DropLemmas.{drops-pass}
 use Rattle.plant_loader.proofs.OrderLemmas.{orders-pass}
+use Rattle.plant_loader.proofs.FailureLemmas.{power-pass}
 
 -- a reference of a panel stands in the map
 panel_item-held : (owner : Owner) (number : ℕ) (text : List ℕ) (at : Ref)
@@ -128,6 +130,7 @@ record HasFewItems (arrays : Arrays) : Type 0 where
   drops : length arrays.drops ≤ drop_limit
   segments : length arrays.segments ≤ segment_limit
   orders : length arrays.orders ≤ order_limit
+  power : length arrays.power ≤ power_limit
 
 arrays_at-few : (place : Place) (ms : Members) (arrays : Arrays) → arrays_at place ms ≡ Ok arrays
     → HasFewItems arrays
@@ -137,30 +140,26 @@ arrays_at-few place ms arrays h =
     let drops = step-ok (tables_at place drop_limit (codes "drop") ms) _ arrays panel.1.1 in
     let segments = step-ok (tables_at place segment_limit (codes "segment") ms) _
     arrays drops.1.1 in
-    let orders = step-ok (texts_at place order_limit (codes "orders") ms)
-    (λ orders. Ok (arrays_from panel.0 drops.0 segments.0 orders)) arrays segments.1.1 in
-    let whole = arrays_from panel.0 drops.0 segments.0 orders.0 in
-    let same : whole ≡ arrays = ok_value whole arrays orders.1.1 in
+    let orders = step-ok (texts_at place order_limit (codes "orders") ms) _
+    arrays segments.1.1 in
+    let power = step-ok (texts_at place power_limit (codes "power") ms)
+    (λ power. Ok (arrays_from panel.0 drops.0 segments.0 orders.0 power)) arrays orders.1.1 in
+    let whole = arrays_from panel.0 drops.0 segments.0 orders.0 power.0 in
+    let same : whole ≡ arrays = ok_value whole arrays power.1.1 in
     let few : HasFewItems whole = record {
       panel = texts_at-few place panel_limit (codes "panel") ms panel.0 panel.1.0;
       drops = tables_at-few place drop_limit (codes "drop") ms drops.0 drops.1.0;
       segments = tables_at-few place segment_limit (codes "segment") ms segments.0 segments.1.0;
       orders = texts_at-few place order_limit (codes "orders") ms orders.0 orders.1.0;
+      power = texts_at-few place power_limit (codes "power") ms power.0 power.1.0;
     } in
     rw (← same) few
 
 -- a controller that is read passes its tests
 pub record IsRead (plan : ControllerPlan) : Type 0 where
   pub tests : PassesTests plan
-  pub keeps : KeepsPower plan
   pub drops : PassesDropTests plan
   pub node : IsNode plan.node
-
--- no power rows pass
-no_power-pass : (plan : ControllerPlan)
-    → first_failed (tests_of_each (power_tests plan) []) ≡ Ok tt
-unfolding tests_behind
-no_power-pass plan = refl
 
 three-hold : {F : Type 0} (a b c : Bool) (f g k : F) → a ≡ true → b ≡ true → c ≡ true
     → first_failed ((a, f) ∷ (b, g) ∷ (c, k) ∷ []) ≡ Ok tt
@@ -178,13 +177,15 @@ parts_of-read owner arrays plan numbers few h =
     let segments = step-ok (segments_of owner arrays.segments) _ plan drops.1.1 in
     let orders = step-ok (orders_of (nameable owner segments.0 drops.0) arrays.orders) _ plan
     segments.1.1 in
+    let power = step-ok (power_rows_of owner (length orders.0) arrays.power) _ plan orders.1.1 in
     let panel = step-ok (panel_of owner arrays.panel)
-    (λ panel. Ok (plan_of owner panel orders.0 drops.0 segments.0)) plan orders.1.1 in
-    let whole : ControllerPlan = plan_of owner panel.0 orders.0 drops.0 segments.0 in
+    (λ panel. Ok (plan_of owner panel orders.0 power.0 drops.0 segments.0)) plan power.1.1 in
+    let whole : ControllerPlan = plan_of owner panel.0 orders.0 power.0 drops.0 segments.0 in
     let same : whole ≡ plan = ok_value whole plan panel.1.1 in
     let segment_count = segments-count owner arrays.segments segments.0 segments.1.0 in
     let drop_count = with_positions-count _ arrays.drops drops.0 drops.1.0 in
     let order_count = each_from-length _ arrays.orders 1 orders.0 orders.1.0 in
+    let power_count = with_positions-count _ arrays.power power.0 power.1.0 in
     let panel_count = each_from-length _ arrays.panel 1 panel.0 panel.1.0 in
     let segment_pass = segments-pass owner whole arrays.segments (refl {a = owner.sizes})
     (sym segment_count) segments.0 segments.1.0 in
@@ -196,20 +197,22 @@ parts_of-read owner arrays plan numbers few h =
     (omega (arith, segment_count, few.segments)) in
     let orders_few = le-leb (length orders.0) order_limit
     (omega (arith, order_count, few.orders)) in
+    let power_few = le-leb (length power.0) power_limit (omega (arith, power_count, few.power)) in
     let count : has_few whole ≡ true =
     and_from (nat_le (length panel.0) panel_limit && nat_le (length drops.0) drop_limit)
     (nat_le (length segments.0) segment_limit
-    && (nat_le (length orders.0) order_limit && true))
+    && (nat_le (length orders.0) order_limit && nat_le (length power.0) power_limit))
     (and_from (nat_le (length panel.0) panel_limit) (nat_le (length drops.0) drop_limit)
     panel_few drops_few)
     (and_from (nat_le (length segments.0) segment_limit)
-    (nat_le (length orders.0) order_limit && true) segments_few
-    (and_from (nat_le (length orders.0) order_limit) true orders_few refl)) in
+    (nat_le (length orders.0) order_limit && nat_le (length power.0) power_limit) segments_few
+    (and_from (nat_le (length orders.0) order_limit) (nat_le (length power.0) power_limit)
+    orders_few power_few)) in
     let table : first_failed (table_tests whole) ≡ Ok tt =
     three-hold (nat_le 1 node && nat_le node 64) (are_sizes owner.sizes)
     (has_few whole) BadNode BadValue TooLarge address sizes count in
     let panel_part = tests_of_each (panel_tests owner.sizes) panel.0 in
-    let power_part = tests_of_each (power_tests whole) [] in
+    let power_part = tests_of_each (power_tests whole) power.0 in
     let order_part = tests_of_each (order_tests whole) orders.0 in
     let segment_part = tests_of_each (segment_tests whole) segments.0 in
     let tests : first_failed (controller_tests whole) ≡ Ok tt =
@@ -219,11 +222,10 @@ parts_of-read owner arrays plan numbers few h =
     (both-hold segment_part (order_part ++ (power_part ++ panel_part)) segment_pass
     (both-hold order_part (power_part ++ panel_part)
     (orders-pass owner whole (refl {a = owner.sizes}) arrays.orders orders.0 orders.1.0)
-    (both-hold power_part panel_part (no_power-pass whole)
+    (both-hold power_part panel_part (power-pass owner whole arrays.power power.0 power.1.0)
     (panel-pass owner arrays.panel panel.0 panel.1.0)))) in
     let read : IsRead whole = record {
       tests = tests;
-      keeps = refl;
       drops = drops-pass owner arrays.drops drops.0 drops.1.0;
       node = record { from = within.0; to = within.1 };
     } in
@@ -243,10 +245,11 @@ parts_of-node owner arrays plan h =
     let segments = step-ok (segments_of owner arrays.segments) _ plan drops.1.1 in
     let orders = step-ok (orders_of (nameable owner segments.0 drops.0) arrays.orders) _ plan
     segments.1.1 in
+    let power = step-ok (power_rows_of owner (length orders.0) arrays.power) _ plan orders.1.1 in
     let panel = step-ok (panel_of owner arrays.panel)
-    (λ panel. Ok (plan_of owner panel orders.0 drops.0 segments.0)) plan orders.1.1 in
-    let same : plan_of owner panel.0 orders.0 drops.0 segments.0 ≡ plan =
-    ok_value (plan_of owner panel.0 orders.0 drops.0 segments.0) plan panel.1.1 in
+    (λ panel. Ok (plan_of owner panel orders.0 power.0 drops.0 segments.0)) plan power.1.1 in
+    let whole : ControllerPlan = plan_of owner panel.0 orders.0 power.0 drops.0 segments.0 in
+    let same : whole ≡ plan = ok_value whole plan panel.1.1 in
     rw (← same) (refl {a = owner.node})
 
 controller-read : (earlier : List ControllerPlan) (table : ℕ × Members) (plan : ControllerPlan)

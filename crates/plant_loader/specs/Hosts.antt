@@ -1,5 +1,5 @@
 -- The hosts of a plant by their tables. This project's own.
-use Rattle.std.specs.Prelude.{codes, ℕ, Bool, not, ◌||◌, ◌==◌, List, [], ◌∷◌, Result, Ok}
+use Rattle.std.specs.Prelude.{codes, ℕ, Bool, not, ◌||◌, ◌==◌, List, [], Result, Ok}
 use Rattle.std.specs.List.{list_any}
 use Rattle.toml.specs.Data.{Members}
 use Rattle.plant_types.specs.declared.net.HostAsk.{HostAsk}

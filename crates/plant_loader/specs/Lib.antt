@@ -12,8 +12,9 @@ pub mod Pieces
 pub mod Orders
 pub mod Program
 pub mod Kept
-pub mod Stations
 pub mod Requests
+pub mod Failures
+pub mod Stations
 pub mod Hosts
 pub mod Rising
 pub mod Net

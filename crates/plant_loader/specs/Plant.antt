@@ -1,6 +1,6 @@
 -- The plant that the bytes of a plant file stand for, or why they are refused. This project's own.
 use Rattle.std.specs.Prelude.{codes, ℕ, ℤ, pos, negsuc, ◌==◌, not, Some, if◌then◌else◌, List}
-use Rattle.std.specs.Prelude.{◌∷◌, length, Option, None, Result, Ok}
+use Rattle.std.specs.Prelude.{length, Option, None, Result, Ok}
 use Rattle.std.specs.Str.{is_utf8}
 use Rattle.toml.specs.Data.{Members, get_member, as_integer}
 use Rattle.toml.specs.Parse.{parse_document}

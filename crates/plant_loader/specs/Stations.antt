@@ -1,5 +1,5 @@
 -- The plans of controllers by their tables. This project's own.
-use Rattle.std.specs.Prelude.{codes, ℕ, ◌≤◌, ◌==◌, Bool, not, List, [], ◌∷◌, length, Result, Ok}
+use Rattle.std.specs.Prelude.{codes, ℕ, ◌≤◌, ◌==◌, Bool, not, List, [], length, Result, Ok}
 use Rattle.std.specs.List.{list_any}
 use Rattle.toml.specs.Data.{Members}
 use Rattle.plant_types.specs.declared.reference.Ref.{Ref}
@@ -7,10 +7,12 @@ use Rattle.plant_types.specs.declared.network.Segment.{Segment}
 use Rattle.plant_types.specs.declared.drops.IoDrop.{IoDrop}
 use Rattle.plant_types.specs.declared.plan.ControllerPlan.{ControllerPlan}
 use Rattle.plant_types.specs.declared.plan.OrderRow.{OrderRow}
+use Rattle.plant_types.specs.declared.plan.PowerRow.{PowerRow}
 use Rattle.plant_types.specs.declared.fault.PlantFault.TheVariants.{BadNode}
 use Rattle.plant_types.specs.declared.fault.Place.{Place}
 use Rattle.plant_types.specs.Fault.{controller_place}
 use Rattle.plant_types.specs.PlanTests.{panel_limit, drop_limit, segment_limit, order_limit}
+use Rattle.plant_types.specs.PlanTests.{power_limit}
 use Rattle.cell_text.specs.Steps.{◌>>=◌, unless}
 use Rattle.plant_loader.specs.declared.owner.Owner.{Owner}
 use Rattle.plant_loader.specs.declared.stations.Arrays.{Arrays as FoundArrays}
@@ -24,30 +26,39 @@ use Rattle.plant_loader.specs.Controller.{owner_at, panel_of}
 use Rattle.plant_loader.specs.Drops.{drops_of}
 use Rattle.plant_loader.specs.Pieces.{segments_of}
 use Rattle.plant_loader.specs.Orders.{nameable, orders_of}
+use Rattle.plant_loader.specs.Failures.{power_rows_of}
 
--- The arrays of a controller's table: the texts of its panel and of its orders, and the tables of
--- its drops and of its segments.
+-- The arrays of a controller's table: the texts of its panel, of its orders and of its power rows,
+-- and the tables of its drops and of its segments.
 pub record Arrays : Type 0 where
   pub panel : List (List ℕ)
   pub drops : List Members
   pub segments : List Members
   pub orders : List (List ℕ)
+  pub power : List (List ℕ)
 
-abbrev pub arrays_from : List (List ℕ) → List Members → List Members → List (List ℕ) → Arrays
-arrays_from panel drops segments orders =
-    record { panel = panel; drops = drops; segments = segments; orders = orders }
+abbrev pub arrays_from : List (List ℕ) → List Members → List Members → List (List ℕ)
+    → List (List ℕ) → Arrays
+arrays_from panel drops segments orders power = record {
+  panel = panel;
+  drops = drops;
+  segments = segments;
+  orders = orders;
+  power = power;
+}
 
 -- What the arrays of a call stand for, and that they are as many as a controller has at most.
 abbrev pub read_arrays : FoundArrays → Arrays
 read_arrays found =
     arrays_from (texts_in found.panel.items) (tables_in found.drops.items)
-    (tables_in found.segments.items) (texts_in found.orders.items)
+    (tables_in found.segments.items) (texts_in found.orders.items) (texts_in found.power.items)
 
 pub record HasFewItems (found : FoundArrays) : Type 0 where
   pub panel : length found.panel.items ≤ panel_limit
   pub drops : length found.drops.items ≤ drop_limit
   pub segments : length found.segments.items ≤ segment_limit
   pub orders : length found.orders.items ≤ order_limit
+  pub power : length found.power.items ≤ power_limit
 
 -- The arrays of a table.
 unfoldable pub arrays_at : Place → Members → Result Arrays Refusal
@@ -56,12 +67,13 @@ arrays_at place ms = do
   drops ← tables_at place drop_limit (codes "drop") ms
   segments ← tables_at place segment_limit (codes "segment") ms
   orders ← texts_at place order_limit (codes "orders") ms
-  Ok (arrays_from panel drops segments orders)
+  power ← texts_at place power_limit (codes "power") ms
+  Ok (arrays_from panel drops segments orders power)
 
--- The plan of a controller from its parts; it keeps its power.
-abbrev pub plan_of : Owner → List Ref → List OrderRow → List IoDrop → List Segment
-    → ControllerPlan
-plan_of owner panel orders drops segments = record {
+-- The plan of a controller from its parts.
+abbrev pub plan_of : Owner → List Ref → List OrderRow → List PowerRow → List IoDrop
+    → List Segment → ControllerPlan
+plan_of owner panel orders power drops segments = record {
   node = owner.node;
   coils = owner.sizes.coils;
   inputs = owner.sizes.inputs;
@@ -69,19 +81,21 @@ plan_of owner panel orders drops segments = record {
   registers = owner.sizes.registers;
   panel = panel;
   orders = orders;
-  power = [];
+  power = power;
   drops = drops;
   segments = segments;
 }
 
--- The plan of a controller of these arrays: its drops, its segments, its orders and its panel.
+-- The plan of a controller of these arrays: its drops, its segments, its orders, its power rows and
+-- its panel.
 unfoldable pub parts_of : Owner → Arrays → Result ControllerPlan Refusal
 parts_of owner arrays = do
   drops ← drops_of owner arrays.drops
   segments ← segments_of owner arrays.segments
   orders ← orders_of (nameable owner segments drops) arrays.orders
+  power ← power_rows_of owner (length orders) arrays.power
   panel ← panel_of owner arrays.panel
-  Ok (plan_of owner panel orders drops segments)
+  Ok (plan_of owner panel orders power drops segments)
 
 -- One of these controllers has this node.
 abbrev pub has_controller : List ControllerPlan → ℕ → Bool

@@ -19,7 +19,8 @@ keys_of kinds.Net =
     ∷ []) []
 keys_of kinds.Controller =
     keys_from (codes "node" ∷ codes "coils" ∷ codes "inputs" ∷ codes "input_registers"
-    ∷ codes "registers" ∷ codes "panel" ∷ codes "drop" ∷ codes "segment" ∷ codes "orders" ∷ [])
+    ∷ codes "registers" ∷ codes "panel" ∷ codes "drop" ∷ codes "segment" ∷ codes "orders"
+    ∷ codes "power" ∷ [])
     (codes "node" ∷ [])
 keys_of kinds.Drop =
     keys_from (codes "number" ∷ codes "modules" ∷ codes "script" ∷ [])

@@ -3,6 +3,7 @@
 
 mod controller;
 mod drops;
+mod failures;
 mod hex;
 mod hosts;
 mod keys;

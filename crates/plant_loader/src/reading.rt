@@ -2,7 +2,7 @@
 ghost use Rattle.std.specs.Prelude.{◌≡◌, ◌≤◌, length, IfOk};
 ghost use Rattle.std.specs.List.{All};
 ghost use Rattle.toml.specs.View.{table_view};
-ghost use Rattle.plant_types.specs.Plans.{IsPlant, AllKeepPower};
+ghost use Rattle.plant_types.specs.Plans.{IsPlant};
 ghost use Rattle.cell_text.specs.Steps.{or_fault};
 ghost use Rattle.plant_loader.specs.Given.{tables_in};
 ghost use Rattle.plant_loader.specs.Refusals.{Gives, bad_toml, plant_place};
@@ -101,11 +101,10 @@ fn plant_at(alloc: Global, top: &Table) -> Result<Plant, LoadEnd>
 pub fn load(alloc: Global, bytes: &[u8]) -> Result<Plant, LoadEnd>
     ensures plant { Gives (λ plant. plant) result (plant_of bytes.now) }
 
-    // What is loaded passes its tests, and can be run; no power fails in it.
+    // What is loaded passes its tests, and can be run.
     ensures checked { IfOk result (λ plant. IsPlant plant) }
     ensures drops { IfOk result (λ plant. All PassesDropTests plant.controllers) }
     ensures runnable { IfOk result (λ plant. All IsRunnablePlan plant.controllers) }
-    ensures keeps { IfOk result (λ plant. AllKeepPower plant) }
 {
     let top = document(alloc, bytes)?;
     plant_at(alloc, &top)

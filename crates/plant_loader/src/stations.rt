@@ -9,6 +9,7 @@ ghost use Rattle.plant_loader.specs.Stations.{has_controller, controller_behind,
 
 use crate::controller::{owner_at, panel_of};
 use crate::drops::drops_of;
+use crate::failures::power_rows_of;
 use crate::keys::{tables_at, texts_at};
 use crate::orders::orders_of;
 use crate::owner::Owner;
@@ -16,20 +17,21 @@ use crate::pieces::segments_of;
 use crate::refusal::LoadEnd;
 use crate::tables::{TableKind, table_passes};
 use plant_types::{
-    CONTROLLER_LIMIT, ControllerPlan, DROP_LIMIT, List, ORDER_LIMIT, PANEL_LIMIT, Place,
+    CONTROLLER_LIMIT, ControllerPlan, DROP_LIMIT, ORDER_LIMIT, PANEL_LIMIT, POWER_LIMIT, Place,
     PlantFault, SEGMENT_LIMIT,
 };
 use std::alloc::Global;
 use toml::Table;
 
-/// The arrays of a controller's table: the texts of its panel and of its orders, and the tables of
-/// its drops and of its segments.
+/// The arrays of a controller's table: the texts of its panel, of its orders and of its power rows,
+/// and the tables of its drops and of its segments.
 #[derive(Drop)]
 struct Arrays<'a> {
     panel: Vec<&'a str>,
     drops: Vec<&'a Table>,
     segments: Vec<&'a Table>,
     orders: Vec<&'a str>,
+    power: Vec<&'a str>,
 }
 
 #[tactic(auto, unfolding(crate::specs::Stations::arrays_at))]
@@ -41,11 +43,13 @@ fn arrays_at<'a>(alloc: Global, place: Place, table: &'a Table) -> Result<Arrays
     let drops = tables_at(alloc, place, DROP_LIMIT, "drop", table)?;
     let segments = tables_at(alloc, place, SEGMENT_LIMIT, "segment", table)?;
     let orders = texts_at(alloc, place, ORDER_LIMIT, "orders", table)?;
+    let power = texts_at(alloc, place, POWER_LIMIT, "power", table)?;
     Ok(Arrays {
         panel,
         drops,
         segments,
         orders,
+        power,
     })
 }
 
@@ -63,6 +67,7 @@ fn parts_of(alloc: Global, owner: Owner, arrays: &Arrays) -> Result<ControllerPl
         drops.as_slice(),
         arrays.orders.as_slice(),
     )?;
+    let power = power_rows_of(alloc, owner, orders.as_slice(), arrays.power.as_slice())?;
     let panel = panel_of(alloc, owner, arrays.panel.as_slice())?;
     Ok(ControllerPlan {
         node: owner.node,
@@ -72,7 +77,7 @@ fn parts_of(alloc: Global, owner: Owner, arrays: &Arrays) -> Result<ControllerPl
         registers: owner.sizes.registers,
         panel,
         orders,
-        power: List::new(alloc),
+        power,
         drops,
         segments,
     })

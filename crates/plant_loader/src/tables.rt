@@ -41,7 +41,7 @@ const PLANT_REQUIRED: [&str; 2] = ["version", "controller"];
 
 const NET_KEYS: [&str; 5] = ["fates", "answer", "rotations", "rounds", "holds"];
 
-const CONTROLLER_KEYS: [&str; 9] = [
+const CONTROLLER_KEYS: [&str; 10] = [
     "node",
     "coils",
     "inputs",
@@ -51,6 +51,7 @@ const CONTROLLER_KEYS: [&str; 9] = [
     "drop",
     "segment",
     "orders",
+    "power",
 ];
 
 const DROP_KEYS: [&str; 3] = ["number", "modules", "script"];

@@ -1,1 +1,2 @@
+pub mod PowerTests
 pub mod TurnTests

@@ -36,7 +36,7 @@ fn net_of(alloc: Global, fates: &[Fate]) -> Result<NetPlan, AllocError>
 }
 
 /// The ring of a net, on which nothing has happened.
-fn ring_of(rt: &impl Abort, alloc: Global, net: &NetPlan) -> Result<Ring, AllocError>
+pub(crate) fn ring_of(rt: &impl Abort, alloc: Global, net: &NetPlan) -> Result<Ring, AllocError>
     ensures net { IfOk result (λ ring. ring.net ≡ net.now) }
     ensures empty { IfOk result (λ ring. ring.history ≡ []) }
 {
@@ -146,7 +146,7 @@ fn hold_all(
 }
 
 /// A letter for each entry: a Request or a Reply posted, a Send, a Take, a call that is given up, a
-/// Pass that says done or not, a Leave.
+/// Pass that says done or not, a Leave, a Join.
 fn letter(entry: &RingEntry) -> u8 {
     match entry {
         RingEntry::Post { frame, .. } => match frame.kind {
@@ -160,6 +160,7 @@ fn letter(entry: &RingEntry) -> u8 {
         RingEntry::Pass { done: true, .. } => b'd',
         RingEntry::Pass { done: false, .. } => b'n',
         RingEntry::Leave { .. } => b'L',
+        RingEntry::Join { .. } => b'J',
     }
 }
 

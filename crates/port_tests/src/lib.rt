@@ -8,4 +8,8 @@ mod hosts;
 #[cfg(test)]
 mod plans;
 #[cfg(test)]
+mod power;
+#[cfg(test)]
+mod power_words;
+#[cfg(test)]
 mod turns;

@@ -1,6 +1,5 @@
 //! Turns of a controller that reads two registers of node 5, with ample memory.
 ghost use Rattle.std.specs.Prelude.{◌≡◌, ◌∷◌, ◌<◌, [], All, filter, length, IfOk, IfSome};
-ghost use Rattle.plant_types.specs.Plans.{KeepsPower};
 ghost use Rattle.traffic_cop.specs.Rows.{IsRunnablePlan};
 ghost use Rattle.ring_core.specs.Machine.{addresses, ring_after};
 ghost use Rattle.joint_history.specs.Reading.{is_ours};
@@ -10,8 +9,8 @@ use comm_port::CommWorker;
 use controller_core::{Call, CallKind, Controller, Entry};
 use mstr_block::{CallId, MstrResult};
 use plant_types::{
-    Cell, ControllerPlan, Element, Fate, List, MathOp, NetPlan, Network, Operand, OrderRow, Ref,
-    RefKind, Segment, checks_are_exact,
+    Cell, ControllerPlan, Element, Fate, List, MathOp, NetPlan, Network, Operand, OrderRow,
+    PowerRow, Ref, RefKind, Segment, checks_are_exact,
 };
 use ring_core::{Heard, LeaveCause, Ring, RingEntry, is_net};
 use std::alloc::{AllocError, Global};
@@ -89,10 +88,9 @@ fn one_row(alloc: Global) -> Result<List<OrderRow>, AllocError>
 }
 
 /// The one segment, of these networks.
-fn one_segment(alloc: Global) -> Result<List<Segment>, AllocError>
+fn one_segment(alloc: Global, networks: List<Network>) -> Result<List<Segment>, AllocError>
     ensures { IfOk result (λ segments. length segments ≡ 1) }
 {
-    let networks = networks(alloc)?;
     let mut segments = List::new(alloc);
     segments.push(Segment { networks })?;
     Ok(segments)
@@ -102,11 +100,8 @@ fn one_segment(alloc: Global) -> Result<List<Segment>, AllocError>
 fn checked(plan: ControllerPlan) -> Option<ControllerPlan>
     requires rows { plan.orders ≡ ROW ∷ [] }
     requires segment { length plan.segments ≡ 1 }
-    requires node { plan.node ≡ 2 }
-    requires power { KeepsPower plan }
     ensures runs { IfSome result IsRunnablePlan }
-    ensures node { IfSome result (λ plan. plan.node ≡ 2) }
-    ensures power { IfSome result KeepsPower }
+    ensures node { IfSome result (λ checked. checked.node ≡ plan.node) }
 {
     checks_are_exact();
     match plan.check() {
@@ -115,38 +110,55 @@ fn checked(plan: ControllerPlan) -> Option<ControllerPlan>
     }
 }
 
-/// The plan of node 2, if it passes its tests.
-fn plan_of(alloc: Global) -> Result<Option<ControllerPlan>, AllocError>
+/// The plan of a node with these networks, whose power fails so, if it passes its tests.
+fn plan_of(
+    alloc: Global,
+    node: u8,
+    networks: List<Network>,
+    power: &[PowerRow],
+) -> Result<Option<ControllerPlan>, AllocError>
     ensures runs { IfOk result (λ plan. IfSome plan IsRunnablePlan) }
-    ensures node { IfOk result (λ plan. IfSome plan (λ plan. plan.node ≡ 2)) }
-    ensures power { IfOk result (λ plan. IfSome plan KeepsPower) }
+    ensures node { IfOk result (λ plan. IfSome plan (λ plan. plan.node ≡ node)) }
 {
     let orders = one_row(alloc)?;
-    let segments = one_segment(alloc)?;
+    let segments = one_segment(alloc, networks)?;
     Ok(checked(ControllerPlan {
-        node: 2,
+        node,
         coils: 16,
         inputs: 0,
         input_registers: 0,
         registers: 20,
         panel: List::new(alloc),
         orders,
-        power: List::new(alloc),
+        power: List::from_vec(Vec::from_slice(alloc, power)?),
         drops: List::new(alloc),
         segments,
     }))
 }
 
-/// The controller of node 2, which has not begun.
-fn reader(alloc: Global) -> Result<Controller, Fail>
-    ensures node { IfOk result (λ controller. controller.fixed.plan.node ≡ 2) }
-    ensures power { IfOk result (λ controller. KeepsPower controller.fixed.plan) }
+/// The controller of a node with these networks, whose power fails so. It has not begun.
+pub(crate) fn controller_of(
+    alloc: Global,
+    node: u8,
+    networks: List<Network>,
+    power: &[PowerRow],
+) -> Result<Controller, Fail>
+    ensures node { IfOk result (λ controller. controller.fixed.plan.node ≡ node) }
     ensures history { IfOk result (λ controller. controller.history ≡ []) }
 {
-    match plan_of(alloc)? {
+    match plan_of(alloc, node, networks, power)? {
         Some(plan) => Ok(Controller::new(alloc, &plan, 10, 500, 4)?),
         None => Err("the plan passes no test".into()),
     }
+}
+
+/// The controller of node 2 that reads node 5. It has not begun.
+pub(crate) fn reader(alloc: Global, power: &[PowerRow]) -> Result<Controller, Fail>
+    ensures node { IfOk result (λ controller. controller.fixed.plan.node ≡ 2) }
+    ensures history { IfOk result (λ controller. controller.history ≡ []) }
+{
+    let networks = networks(alloc)?;
+    controller_of(alloc, 2, networks, power)
 }
 
 /// A whole scan: Begin, the row, End.
@@ -188,7 +200,6 @@ fn turn_on(
     ring: &mut Ring,
 ) -> Result<(), AllocError>
     requires node { controller.old.fixed.plan.node ≡ 2 }
-    requires power { KeepsPower controller.old.fixed.plan }
     requires events { filter is_ours controller.old.history ≡ [] }
     requires first { HasFirst 2 net.now.members }
     requires answer { net.now.answer ≡ 20 }
@@ -198,7 +209,7 @@ fn turn_on(
     requires members { All (λ m. m < addresses) net.now.members }
 {
     let mut worker = CommWorker::new(alloc, 2, net, true)?;
-    let _left = worker.hold_turn(controller, ring)?;
+    let _end = worker.hold_turn(controller, ring)?;
     Ok(())
 }
 
@@ -210,7 +221,6 @@ fn turn_at(
     controller: &mut Controller,
 ) -> Result<List<RingEntry>, AllocError>
     requires node { controller.old.fixed.plan.node ≡ 2 }
-    requires power { KeepsPower controller.old.fixed.plan }
     requires events { filter is_ours controller.old.history ≡ [] }
     requires first { HasFirst 2 net.now.members }
     requires answer { net.now.answer ≡ 20 }
@@ -234,7 +244,6 @@ fn scan_and_turn(
     controller: &mut Controller,
 ) -> Result<List<RingEntry>, AllocError>
     requires node { controller.old.fixed.plan.node ≡ 2 }
-    requires power { KeepsPower controller.old.fixed.plan }
     requires events { filter is_ours controller.old.history ≡ [] }
     requires first { HasFirst 2 net.now.members }
     requires answer { net.now.answer ≡ 20 }
@@ -255,7 +264,7 @@ fn first_turn(rt: &impl Abort, alloc: Global, net: &NetPlan) -> Result<Noted, Fa
     requires first { HasFirst 2 net.now.members }
     requires answer { net.now.answer ≡ 20 }
 {
-    let mut controller = reader(alloc)?;
+    let mut controller = reader(alloc, &[])?;
     let turned = scan_and_turn(rt, alloc, net, &mut controller);
     let controller = controller.into_history();
     Ok(Noted {

@@ -9,10 +9,10 @@ use Rattle.global_data.specs.Book.{Book, GlobalIs, no_words, words_at, with_put,
 use Rattle.global_data.specs.Book.{new_book}
 use Rattle.ring_core.specs.Words.{NetPlan, RingEntry, Post, Send, Take, Local, GiveUp, Pass, Leave}
 use Rattle.ring_core.specs.Words.{GetStats, ClearStats, PutGlobal, GetGlobal, RemoteGet}
-use Rattle.ring_core.specs.Words.{RemoteClear, CallId, MstrResult}
+use Rattle.ring_core.specs.Words.{RemoteClear, CallId, MstrResult, Join, Ended, Spent, Down}
 use Rattle.ring_core.specs.Scratch.{words_put, heard_words, put_with, heard_in}
 use Rattle.ring_core.specs.Legal.{IsMember, IsRingStep}
-use Rattle.ring_core.specs.Kept.{IsBook, book_step}
+use Rattle.ring_core.specs.Kept.{IsBook, book_left, book_step}
 use Rattle.ring_core.proofs.Runs.{put_after-push, heard_after-push}
 
 got_own : (b : Book) (m : ℕ) (w : GlobalIs) → get (insert b m w) m ≡ Some w
@@ -83,6 +83,35 @@ pass-book net h b m done words k member is =
           (λ _. member);
     }
 
+-- who leaves as its power fails has no words
+down-book : (net : NetPlan) (h : List RingEntry) (b : Book) (m number : ℕ) → IsBook net h b
+    → IsMember net m
+    → IsBook net (h ++ Leave m (Down number) ∷ []) (book_left b m (Down number))
+down-book net h b m number k member =
+    let e = Leave m (Down number) in
+    let cleared = with_put b m [] in
+    let none : (words_at cleared m).put ≡ [] =
+    ap (λ (o : Option GlobalIs). (unwrap_or o no_words).put) (got_own b m _) in
+    let w : GlobalIs =
+    record { put = (words_at cleared m).put; heard = (words_at cleared m).put } in
+    let other : (n : ℕ) → (n ≡ m → ⊥) → get cleared n ≡ get b n =
+    λ n no'. got_other b m n _ no' in
+    record {
+      put = at_each (λ n o. (unwrap_or o no_words).put ≡ words_put n (h ++ e ∷ [])) cleared m w
+          (λ n no'. ap (λ (o : Option GlobalIs). (unwrap_or o no_words).put) (other n no')
+          ∙ (k.put n ∙ sym (put_after-push n [] h e ∙ passed_by n m [] (words_put n h) no')))
+          (none ∙ sym (put_after-push m [] h e ∙ chosen m m [] (words_put m h) refl));
+      heard = at_each (λ n o. (unwrap_or o no_words).heard ≡ heard_words n (h ++ e ∷ []))
+          cleared m w
+          (λ n no'. ap (λ (o : Option GlobalIs). (unwrap_or o no_words).heard) (other n no')
+          ∙ (k.heard n ∙ sym (heard_after-push n [] h e ∙ passed_by n m [] (heard_words n h) no')))
+          (none ∙ sym (heard_after-push m [] h e ∙ chosen m m [] (heard_words m h) refl));
+      members = at_each (λ n o. IsMember net n → is_some o ≡ true) cleared m w
+          (λ n no' is. ap is_some (other n no') ∙ k.members n is) (λ _. refl);
+      others = at_each (λ n o. is_some o ≡ true → IsMember net n) cleared m w
+          (λ n no' there. k.others n (sym (ap is_some (other n no')) ∙ there)) (λ _. member);
+    }
+
 -- an entry that neither puts words nor passes them
 quiet-book : (net : NetPlan) (h : List RingEntry) (b : Book) (e : RingEntry) → IsBook net h b
     → ((n : ℕ) → put_with n (words_put n h) e ≡ words_put n h)
@@ -115,8 +144,12 @@ book-push net h b (Local n id RemoteClear result) k step =
 book-push net h b (GiveUp id word) k step =
     quiet-book net h b (GiveUp id word) k (λ _. refl) (λ _. refl)
 book-push net h b (Pass n done words) k step = pass-book net h b n done words k step.0 step.1.1
-book-push net h b (Leave n cause) k step =
-    quiet-book net h b (Leave n cause) k (λ _. refl) (λ _. refl)
+book-push net h b (Leave n Ended) k step =
+    quiet-book net h b (Leave n Ended) k (λ _. refl) (λ _. refl)
+book-push net h b (Leave n Spent) k step =
+    quiet-book net h b (Leave n Spent) k (λ _. refl) (λ _. refl)
+book-push net h b (Leave n (Down number)) k step = down-book net h b n number k step.0
+book-push net h b (Join n) k step = quiet-book net h b (Join n) k (λ _. refl) (λ _. refl)
 
 -- at first nobody has words
 first-words : (ms : List ℕ) (n : ℕ) → words_at (new_book ms) n ≡ no_words
@@ -125,7 +158,7 @@ first-words (m ∷ ms) n = at_each (λ k o. unwrap_or o no_words ≡ no_words) (
     (λ k no'. first-words ms k) refl n
 
 -- who is in the book stays in it
-stays_in : (b : Book) (m n : ℕ) (w : GlobalIs) → contains_key b n ≡ true
+pub stays_in : (b : Book) (m n : ℕ) (w : GlobalIs) → contains_key b n ≡ true
     → contains_key (insert b m w) n ≡ true
 stays_in b m n w there = at_each (λ k o. contains_key b k ≡ true → is_some o ≡ true) b m w
     (λ k no' was. was) (λ _. refl) n there

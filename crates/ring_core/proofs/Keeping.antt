@@ -7,9 +7,9 @@ use Rattle.global_data.specs.Book.{Book, new_book}
 use Rattle.station_stats.specs.Counts.{StatsIs, stats_words}
 use Rattle.ring_core.proofs.Noting.{stats-scratch, length-stats}
 use Rattle.ring_core.specs.Words.{NetPlan, RingEntry, Post, Send, Take, Local, GiveUp, Pass, Leave}
-use Rattle.ring_core.specs.Words.{FrameKind}
-use Rattle.ring_core.specs.Machine.{NodeIs, RingIs, after, opening, addresses, least_from, ring_after}
-use Rattle.ring_core.specs.Machine.{ring_node, fresh, opening_nodes}
+use Rattle.ring_core.specs.Words.{Join, FrameKind}
+use Rattle.ring_core.specs.Machine.{NodeIs, RingIs, after, opening, addresses, least_from}
+use Rattle.ring_core.specs.Machine.{ring_after, ring_node, fresh, opening_nodes}
 use Rattle.ring_core.specs.Scratch.{ring_notes, heard_words, count_members, members_now}
 use Rattle.ring_core.specs.Scratch.{station_counts, statistics}
 use Rattle.ring_core.specs.Legal.{IsRingStep, IsMember, IsFrom}
@@ -38,6 +38,7 @@ sourced net h (Local n id op result) all step = tt
 sourced net h (GiveUp id word) all step = tt
 sourced net h (Pass n done words) all step = tt
 sourced net h (Leave n cause) all step = tt
+sourced net h (Join n) all step = tt
 
 pub kept-push : (net : NetPlan) (h : List RingEntry) (r : RingIs) (s : List StatsIs) (b : Book)
     (e : RingEntry) → IsRingKept net h r s b

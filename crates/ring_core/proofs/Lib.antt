@@ -6,3 +6,4 @@ pub mod Noting
 pub mod Keeping
 pub mod Sending
 pub mod Stability
+pub mod Holders

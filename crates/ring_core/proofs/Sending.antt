@@ -11,7 +11,7 @@ use Rattle.ring_core.specs.Words.{CallId, Fate, Heard, Fell}
 use Rattle.ring_core.specs.Words.{AcceptedRequest, AcceptedReply, DroppedReply}
 use Rattle.ring_core.specs.Machine.{NodeIs, RingIs, ring_node, part_of, fresh, fate_at, heard_of}
 use Rattle.ring_core.specs.Machine.{arrival, arrived, heard_by, sent_head, sent_one, fell}
-use Rattle.ring_core.specs.Machine.{waits_for, path_of, arrives, ring_after}
+use Rattle.ring_core.specs.Machine.{waits_for, path_of, arrives, ring_after, is_here}
 use Rattle.ring_core.specs.Refusals.{turn_no, empty_no, or_no}
 use Rattle.ring_core.specs.Scratch.{counts, heard_event, arrival_notes, sent_notes, send_notes}
 use Rattle.ring_core.specs.Scratch.{ring_notes}
@@ -71,7 +71,7 @@ pub kept-send : (net : NetPlan) (past : List RingEntry) (r : RingIs) (s s1 s2 : 
     (there : Bool) (fate : Fate) (fall : Option Fell) (ns : List NodeIs) (p q : NodeIs)
     → IsRingKept net past r s b → IsMember net n → turn_no (ring_after net past) n ≡ None
     → IsFirst (ring_node (ring_after net past) n).outbox f
-    → fate ≡ fate_at net.fates r.sent → there ≡ (ring_node r f.to).here
+    → fate ≡ fate_at net.fates r.sent → there ≡ is_here (ring_node r f.to)
     → fall ≡ arrival r.nodes fate f → h ≡ heard_of fate fall → ns ≡ arrived r.nodes f fall
     → p ≡ get_or ns n p → q ≡ heard_by p f.kind f.id there h
     → s1 ≡ noted_all s (arrival_notes f.to fall) → s2 ≡ noted_at s1 (counts n (heard_event h))
@@ -95,7 +95,7 @@ kept-send net past r s s1 s2 b n f h there fate fall ns p q k member turn first 
     (subst (λ (x : RingIs). turn_no x n ≡ None) (sym k.state) turn)
     (subst (λ (x : RingIs). IsFirst (ring_node x n).outbox f) (sym k.state) first) in
     let node : q ≡ heard_by (part_of (arrived r.nodes f (arrival r.nodes fate' f)) n) f.kind f.id
-    (ring_node r f.to).here
+    (is_here (ring_node r f.to))
     (heard_of fate' (arrival r.nodes fate' f)) = q_is
     ∙ (λ i. heard_by (part i) f.kind f.id (there_is i) (heard i)) in
     let next : record { holder = r.holder; sent = r.sent + 1; nodes = set ns n q }

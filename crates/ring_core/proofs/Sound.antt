@@ -6,6 +6,7 @@ use Rattle.std.proofs.lemmas.Bool.{cond_both}
 use Rattle.std.proofs.lemmas.List.{length-set, length-map, length-replicate}
 use Rattle.std.proofs.lemmas.List.Elements.{All-push, All-filter, All-drop, All-nil}
 use Rattle.ring_core.specs.Words.{NetPlan, RingEntry, Post, Send, Take, Local, GiveUp, Pass, Leave}
+use Rattle.ring_core.specs.Words.{Join, LeaveCause, Ended, Spent, Down, NodeStatus, In, Asking}
 use Rattle.ring_core.specs.Words.{Frame, FrameKind, Request, Reply, CallId, Heard, Acked, Silent}
 use Rattle.ring_core.specs.Words.{Busy, Await, Nothing, Out, Arrived, Failed, Path, Fell}
 use Rattle.ring_core.specs.Words.{AcceptedRequest, RepeatedRequest, CrowdedOut, AcceptedReply}
@@ -14,7 +15,8 @@ use Rattle.ring_core.specs.Machine.{NodeIs, RingIs, part_of, ring_node, no_path,
 use Rattle.ring_core.specs.Machine.{asked, took, after_pass, aged, aged_await, gone, gave_up}
 use Rattle.ring_core.specs.Machine.{is_head, with_frame, heard_by, sent_off, failed, arrived}
 use Rattle.ring_core.specs.Machine.{arrival, sent_head, heard_of, fate_at, addresses, opening}
-use Rattle.ring_core.specs.Machine.{with_members, after, silence_word, busy_word}
+use Rattle.ring_core.specs.Machine.{with_members, after, silence_word, busy_word, is_here, is_held}
+use Rattle.ring_core.specs.Machine.{with_status, admitted, downed, left_with, handed_on}
 use Rattle.ring_core.specs.Kept.{IsSoundNode, IsSoundRing, HasSource}
 
 -- what holds at each place of a list, past its end too, after a write
@@ -132,6 +134,34 @@ gone-sound k c s = record {
   waits = s.waits;
 }
 
+downed-sound : (k : ℕ) (c : NodeIs) (number : ℕ) → IsSoundNode k c → IsSoundNode k (downed c number)
+downed-sound k c number s = record {
+  tries = omega arith;
+  passes = s.passes;
+  done_run = omega arith;
+  paths = s.paths;
+  asked = All-nil HasSource;
+  waits = s.waits;
+}
+
+left-sound : (k : ℕ) (c : NodeIs) (cause : LeaveCause) → IsSoundNode k c
+    → IsSoundNode k (left_with cause c)
+left-sound k c Ended s = gone-sound k c s
+left-sound k c Spent s = gone-sound k c s
+left-sound k c (Down number) s = downed-sound k c number s
+
+-- another status
+status-sound : (k : ℕ) (c : NodeIs) (status : NodeStatus) → IsSoundNode k c
+    → IsSoundNode k (with_status c status)
+status-sound k c status s = record {
+  tries = s.tries;
+  passes = s.passes;
+  done_run = s.done_run;
+  paths = s.paths;
+  asked = s.asked;
+  waits = s.waits;
+}
+
 received-sound : (k : ℕ) (c : NodeIs) (fall : Fell) (f : Frame) → IsSoundNode k c
     → IsSoundNode k (with_frame c fall f)
 received-sound k c AcceptedRequest f s = record {
@@ -201,7 +231,7 @@ sent-sound net k r n (f ∷ fs) s =
       size = length-set nodes n _
           ∙ a.size;
       each = all-later k _ (each-set (IsSoundNode k) nodes (fresh false) n _ a.each
-          (heard-sound k (part_of nodes n) f.kind f.id (ring_node r f.to).here
+          (heard-sound k (part_of nodes n) f.kind f.id (is_here (ring_node r f.to))
           (heard_of fate fall) (a.each n)));
     }
 
@@ -214,6 +244,33 @@ put-sound k r n c s it = record {
       ∙ s.size;
   each = all-later k (set r.nodes n c)
       (each-set (IsSoundNode k) r.nodes (fresh false) n c s.each it);
+}
+
+pub each-replicate : {X : Type 0} (P : X → Type 0) (n : ℕ) (x : X) → P x → (m : ℕ)
+    → P (get_or (replicate n x) m x)
+each-replicate P zero x it m = it
+each-replicate P (suc n) x it zero = it
+each-replicate P (suc n) x it (suc m) = each-replicate P n x it m
+
+fresh-sound : (k : ℕ) (here : Bool) → IsSoundNode k (fresh here)
+fresh-sound k here = record {
+  tries = omega arith;
+  passes = omega arith;
+  done_run = omega arith;
+  paths = refl;
+  asked = All-nil HasSource;
+  waits = each-replicate (WaitsAtMost k) 5 no_path (omega arith);
+}
+
+-- all who ask come in, and the token goes on
+handed-sound : (k : ℕ) (r : RingIs) (nodes : List NodeIs) (n : ℕ) → r.sent ≤ k
+    → length nodes ≡ addresses → ((m : ℕ) → IsSoundNode k (part_of nodes m))
+    → IsSoundRing k (handed_on r nodes n)
+handed-sound k r nodes n sent size each = record {
+  sent = sent;
+  size = length-map nodes admitted ∙ size;
+  each = each-map (IsSoundNode k) (IsSoundNode k) admitted nodes (fresh false)
+      (λ c s. status-sound k c _ s) (fresh-sound k false) each;
 }
 
 -- a Request that is posted has its source
@@ -232,36 +289,20 @@ after-sound net k r (Local n id op result) s sourced =
     record { sent = omega (arith, s.sent); size = s.size; each = all-later k r.nodes s.each }
 after-sound net k r (GiveUp id word) s sourced =
     put-sound k r id.node _ s (gave_up-sound k (ring_node r id.node) id (s.each id.node))
-after-sound net k r (Pass n done words) s sourced = record {
-  sent = omega (arith, s.sent);
-  size = length-set r.nodes n _
-      ∙ s.size;
-  each = each-set (IsSoundNode (k + 1)) r.nodes (fresh false) n _ (all-later k r.nodes s.each)
-      (passed-sound k (ring_node r n) done (s.each n));
-}
-after-sound net k r (Leave n cause) s sourced = record {
-  sent = omega (arith, s.sent);
-  size = length-set r.nodes n _
-      ∙ s.size;
-  each = all-later k _ (each-set (IsSoundNode k) r.nodes (fresh false) n _ s.each
-      (gone-sound k (ring_node r n) (s.each n)));
-}
-
-each-replicate : {X : Type 0} (P : X → Type 0) (n : ℕ) (x : X) → P x → (m : ℕ)
-    → P (get_or (replicate n x) m x)
-each-replicate P zero x it m = it
-each-replicate P (suc n) x it zero = it
-each-replicate P (suc n) x it (suc m) = each-replicate P n x it m
-
-fresh-sound : (here : Bool) → IsSoundNode 0 (fresh here)
-fresh-sound here = record {
-  tries = omega arith;
-  passes = omega arith;
-  done_run = omega arith;
-  paths = refl;
-  asked = All-nil HasSource;
-  waits = each-replicate (WaitsAtMost 0) 5 no_path (omega arith);
-}
+after-sound net k r (Pass n done words) s sourced =
+    handed-sound (k + 1) r _ n (omega (arith, s.sent)) (length-set r.nodes n _ ∙ s.size)
+    (each-set (IsSoundNode (k + 1)) r.nodes (fresh false) n _ (all-later k r.nodes s.each)
+    (passed-sound k (ring_node r n) done (s.each n)))
+after-sound net k r (Leave n cause) s sourced =
+    handed-sound (k + 1) r _ n (omega (arith, s.sent)) (length-set r.nodes n _ ∙ s.size)
+    (all-later k _ (each-set (IsSoundNode k) r.nodes (fresh false) n _ s.each
+    (left-sound k (ring_node r n) cause (s.each n))))
+after-sound net k r (Join n) s sourced =
+    let at = ring_node r n in
+    let in_now = put-sound k r n (with_status at In) s (status-sound k at In (s.each n)) in
+    let asks = put-sound k r n (with_status at Asking) s (status-sound k at Asking (s.each n)) in
+    cond_both (is_held r) _ _ (IsSoundRing (k + 1)) (λ _. asks)
+    (λ _. record { sent = in_now.sent; size = in_now.size; each = in_now.each })
 
 joined-sound : (nodes : List NodeIs) (ms : List ℕ) → AreSound 0 nodes
     → AreSound 0 (with_members nodes ms)
@@ -269,7 +310,7 @@ joined-sound nodes [] s = s
 joined-sound nodes (m ∷ ms) s = joined-sound (set nodes m (fresh true)) ms
     (record {
       size = length-set nodes m _ ∙ s.size;
-      each = each-set (IsSoundNode 0) nodes (fresh false) m _ s.each (fresh-sound true);
+      each = each-set (IsSoundNode 0) nodes (fresh false) m _ s.each (fresh-sound 0 true);
     })
 
 pub opening-sound : (net : NetPlan) → IsSoundRing 0 (opening net)
@@ -277,6 +318,6 @@ opening-sound net =
     let s = joined-sound (replicate addresses (fresh false)) net.members
     (record {
       size = length-replicate addresses (fresh false);
-      each = each-replicate (IsSoundNode 0) addresses (fresh false) (fresh-sound false);
+      each = each-replicate (IsSoundNode 0) addresses (fresh false) (fresh-sound 0 false);
     }) in
     record { sent = omega arith; size = s.size; each = s.each }

@@ -1,23 +1,27 @@
 -- What entries leave of a node as it was.
 use Rattle.std.proofs.Common.{◌≡◌, ◌≢◌, ℕ, zero, suc, ◌==◌, Bool, true, false, cond, nat_le, List}
-use Rattle.std.proofs.Common.{[], ◌∷◌, ◌++◌, set, Option, Some, None, refl, sym, ap, ◌∙◌, subst}
-use Rattle.std.proofs.Common.{⊎_elim, append-nil, append_assoc}
+use Rattle.std.proofs.Common.{[], ◌∷◌, ◌++◌, set, map, Option, Some, None, refl, sym, ap, ◌∙◌}
+use Rattle.std.proofs.Common.{subst, inl, inr, ◌⊎◌, ⊎_elim, append-nil, append_assoc}
 use Rattle.std.proofs.lemmas.Bool.{eqb-true, ne_eqb, cases_eq, cond_both}
 use Rattle.std.proofs.lemmas.List.{get_or-set_other}
 use Rattle.ring_core.specs.Words.{NetPlan, RingEntry, Post, Send, Take, Local, GiveUp, Pass, Leave}
 use Rattle.ring_core.specs.Words.{maker, Frame, FrameKind, CallId, Fate, Fell, AcceptedRequest}
 use Rattle.ring_core.specs.Words.{RepeatedRequest, CrowdedOut, AcceptedReply, DroppedReply, Heard}
-use Rattle.ring_core.specs.Words.{Acked, Silent, Busy, RingNo, NotMember, NotHolder}
+use Rattle.ring_core.specs.Words.{Acked, Silent, Busy, RingNo, NotMember, NotHolder, Join}
+use Rattle.ring_core.specs.Words.{NodeStatus, In, Away, Asking, Gone}
 use Rattle.ring_core.specs.Machine.{NodeIs, RingIs, part_of, ring_node, fresh, after, opening}
 use Rattle.ring_core.specs.Machine.{ring_after, posted, gave_up, fate_reaches, arrival, arrived}
 use Rattle.ring_core.specs.Machine.{fell, with_frame, heard_by, heard_of, fate_at, sent_head}
-use Rattle.ring_core.specs.Machine.{sent_off, failed, silence_word, is_here}
-use Rattle.ring_core.specs.Refusals.{turn_no, free_no, or_no, least_done, least_of, or_zero}
+use Rattle.ring_core.specs.Machine.{sent_off, failed, silence_word, is_here, is_in, is_held}
+use Rattle.ring_core.specs.Machine.{with_node, with_status, admitted, admitted_status, after_pass}
+use Rattle.ring_core.specs.Refusals.{turn_no, free_no, away_no, or_no, least_done, least_of}
+use Rattle.ring_core.specs.Refusals.{or_zero}
 use Rattle.ring_core.specs.Legal.{IsTimelyEntry}
-use Rattle.ring_core.specs.Stability.{HoldersKeep, IsLeave, MembershipStays, OutsidersKeep, Stays}
+use Rattle.ring_core.specs.Stability.{HoldersKeep, IsLeaveOrJoin, MembershipStays, NoLeaveOrJoin}
+use Rattle.ring_core.specs.Stability.{NoneBy, OutsidersKeep, Stays}
 use Rattle.ring_core.proofs.Runs.{after_all-push}
 
-first_none : (a b : Option RingNo) → or_no a b ≡ None → a ≡ None
+pub first_none : (a b : Option RingNo) → or_no a b ≡ None → a ≡ None
 first_none None b e = refl
 first_none (Some x) b e = absurd (cc)
 
@@ -30,7 +34,7 @@ turned false holds why e = absurd (cc)
 -- whose turn is not refused holds the token
 turn-holds : (r : RingIs) (m : ℕ) → turn_no r m ≡ None → r.holder ≡ m
 turn-holds r m e =
-    eqb-true r.holder m (turned (ring_node r m).here (r.holder == m) (NotHolder r.holder) e)
+    eqb-true r.holder m (turned (is_here (ring_node r m)) (r.holder == m) (NotHolder r.holder) e)
 
 -- who is let through and does not hold the token has left
 let_out : (here holds : Bool) (why : RingNo) → cond here (cond holds None (Some why)) None ≡ None
@@ -40,25 +44,25 @@ let_out true false why e h = absurd (cc)
 let_out false holds why e h = refl
 
 free-left : (r : RingIs) (n m : ℕ) → free_no r m ≡ None → r.holder ≡ n → (m ≡ n → ⊥)
-    → (ring_node r m).here ≡ false
-free-left r n m e h other = let_out (ring_node r m).here (r.holder == m) (NotHolder r.holder) e
+    → is_here (ring_node r m) ≡ false
+free-left r n m e h other = let_out (is_here (ring_node r m)) (r.holder == m) (NotHolder r.holder) e
     (ne_eqb r.holder m (λ q. other (sym q ∙ h)))
 
 -- the part of who has left is not asked how long it has been done
-least-out : (nodes : List NodeIs) (m : ℕ) (c : NodeIs) → c.here ≡ false
-    → (part_of nodes m).here ≡ false → least_done (set nodes m c) ≡ least_done nodes
+least-out : (nodes : List NodeIs) (m : ℕ) (c : NodeIs) → is_here c ≡ false
+    → is_here (part_of nodes m) ≡ false → least_done (set nodes m c) ≡ least_done nodes
 least-out [] m c gone_now left = refl
 least-out (d ∷ ds) zero c gone_now left =
     ap (λ (b : Bool). cond b (Some (least_of c.done_run (least_done ds))) (least_done ds)) gone_now
     ∙ sym (ap (λ (b : Bool). cond b (Some (least_of d.done_run (least_done ds))) (least_done ds))
     left)
 least-out (d ∷ ds) (suc m) c gone_now left =
-    ap (λ (l : Option ℕ). cond d.here (Some (least_of d.done_run l)) l)
+    ap (λ (l : Option ℕ). cond (is_here d) (Some (least_of d.done_run l)) l)
     (least-out ds m c gone_now left)
 
 -- another that has left writes its own part
-put-stays : (r : RingIs) (n m : ℕ) (c : NodeIs) → c.here ≡ (ring_node r m).here
-    → (ring_node r m).here ≡ false → (m ≡ n → ⊥)
+put-stays : (r : RingIs) (n m : ℕ) (c : NodeIs) → is_here c ≡ is_here (ring_node r m)
+    → is_here (ring_node r m) ≡ false → (m ≡ n → ⊥)
     → Stays r (record r { nodes = set r.nodes m c }) n
 put-stays r n m c same left other =
     let part : part_of (set r.nodes m c) n ≡ part_of r.nodes n =
@@ -66,26 +70,44 @@ put-stays r n m c same left other =
     record {
       holder = refl;
       part = part;
-      quiet = λ i. cond (part i).here (or_zero (least-out r.nodes m c (same ∙ left) left i)) 0;
+      quiet = λ i. cond (is_here (part i)) (or_zero (least-out r.nodes m c (same ∙ left) left i)) 0;
     }
 
+-- who may ask to come in is no member
+pub away-left : (s : NodeStatus) → away_no s ≡ None → is_in s ≡ false
+away-left In e = absurd (cc)
+away-left Away e = refl
+away-left Asking e = absurd (cc)
+away-left Gone e = absurd (cc)
+
 step-stays : (net : NetPlan) (past : List RingEntry) (r : RingIs) (n : ℕ) (e : RingEntry)
-    → IsTimelyEntry net past r e → r.holder ≡ n
+    → IsTimelyEntry net past r e → is_here (ring_node r n) ≡ true → r.holder ≡ n
     → maker e ≢ n → Stays r (after net r e) n
-step-stays net past r n (Post m f) t h other = put-stays r n m (posted (ring_node r m) f) refl
+step-stays net past r n (Post m f) t here h other = put-stays r n m (posted (ring_node r m) f) refl
     (free-left r n m (first_none _ _ t.1) h other) other
-step-stays net past r n (Send m heard) t h other =
+step-stays net past r n (Send m heard) t here h other =
     absurd (other (sym (turn-holds r m (first_none _ _ t.0)) ∙ h))
-step-stays net past r n (Take m f) t h other = absurd (other (sym (turn-holds r m t.0) ∙ h))
-step-stays net past r n (Local m id op result) t h other =
+step-stays net past r n (Take m f) t here h other = absurd (other (sym (turn-holds r m t.0) ∙ h))
+step-stays net past r n (Local m id op result) t here h other =
     record { holder = refl; part = refl; quiet = refl }
-step-stays net past r n (GiveUp id word) t h other =
+step-stays net past r n (GiveUp id word) t here h other =
     put-stays r n id.node (gave_up (ring_node r id.node) id) refl
     (free-left r n id.node (first_none _ _ t.0) h other) other
-step-stays net past r n (Pass m done words) t h other =
+step-stays net past r n (Pass m done words) t here h other =
     absurd (other (sym (turn-holds r m (first_none _ _ t.0)) ∙ h))
-step-stays net past r n (Leave m cause) t h other =
+step-stays net past r n (Leave m cause) t here h other =
     absurd (other (sym (turn-holds r m (first_none _ _ (first_none _ _ t))) ∙ h))
+step-stays net past r n (Join m) t here h other =
+    let left = away-left (ring_node r m).status (first_none _ _ t) in
+    let asks : RingIs = with_node r m (with_status (ring_node r m) Asking) in
+    let comes : RingIs = record {
+      holder = m;
+      sent = r.sent;
+      nodes = set r.nodes m (with_status (ring_node r m) In);
+    } in
+    subst (λ (held : Bool). Stays r (cond held asks comes) n)
+    (sym (ap (λ (k : ℕ). is_here (ring_node r k)) h ∙ here))
+    (put-stays r n m (with_status (ring_node r m) Asking) (sym left) left other)
 
 next_ring : (net : NetPlan) (past : List RingEntry) (e : RingEntry)
     → ring_after net (past ++ e ∷ []) ≡ after net (ring_after net past) e
@@ -99,7 +121,7 @@ holders-keep net past (e ∷ es) n run there h none =
     let r = ring_after net past in
     let one : Stays r (ring_after net (past ++ e ∷ [])) n = subst (λ (x : RingIs). Stays r x n)
     (sym (next_ring net past e))
-    (step-stays net past r n e run.0.1 h none.0) in
+    (step-stays net past r n e run.0.1 there h none.0) in
     let more : Stays (ring_after net (past ++ e ∷ [])) (ring_after net ((past ++ e ∷ []) ++ es)) n =
     holders-keep net (past ++ e ∷ []) es n run.1 (ap is_here one.part ∙ there) (one.holder ∙ h)
     none.1 in
@@ -110,13 +132,131 @@ holders-keep net past (e ∷ es) n run there h none =
       quiet = more.quiet ∙ one.quiet;
     })
 
--- a node that is no member: an entry of another leaves its part
-out : (nodes : List NodeIs) (n m : ℕ) (c : NodeIs) → (m ≡ n → ⊥)
+-- all who ask come in: each node's part then
+pub admitted-part : (nodes : List NodeIs) (n : ℕ)
+    → part_of (map admitted nodes) n ≡ admitted (part_of nodes n)
+admitted-part [] n = refl
+admitted-part (c ∷ cs) zero = refl
+admitted-part (c ∷ cs) (suc n) = admitted-part cs n
+
+-- an entry of another writes another's part
+pub out : (nodes : List NodeIs) (n m : ℕ) (c : NodeIs) → (m ≡ n → ⊥)
     → part_of (set nodes m c) n ≡ part_of nodes n
 out nodes n m c other = get_or-set_other nodes m n c (fresh false) (λ q. other (sym q))
 
-left-arrives : (nodes : List NodeIs) (fate : Fate) (f : Frame) → (part_of nodes f.to).here ≡ false
-    → arrival nodes fate f ≡ None
+-- and where the token goes on besides, the node comes in if it asks
+handed-out : (nodes : List NodeIs) (n m : ℕ) (c : NodeIs) → (m ≡ n → ⊥)
+    → part_of (map admitted (set nodes m c)) n ≡ admitted (part_of nodes n)
+handed-out nodes n m c other =
+    admitted-part (set nodes m c) n ∙ ap admitted (out nodes n m c other)
+
+-- a write that keeps a node's status
+pub status-set : (nodes : List NodeIs) (m k : ℕ) (c : NodeIs) → c.status ≡ (part_of nodes m).status
+    → (part_of (set nodes m c) k).status ≡ (part_of nodes k).status
+status-set [] m k c e = refl
+status-set (d ∷ ds) zero zero c e = e
+status-set (d ∷ ds) zero (suc k) c e = refl
+status-set (d ∷ ds) (suc m) zero c e = refl
+status-set (d ∷ ds) (suc m) (suc k) c e = status-set ds m k c e
+
+status-frame : (c : NodeIs) (fall : Fell) (f : Frame) → (with_frame c fall f).status ≡ c.status
+status-frame c AcceptedRequest f = refl
+status-frame c RepeatedRequest f = refl
+status-frame c CrowdedOut f = refl
+status-frame c AcceptedReply f = refl
+status-frame c DroppedReply f = refl
+
+status-arrived : (nodes : List NodeIs) (f : Frame) (fall : Option Fell) (k : ℕ)
+    → (part_of (arrived nodes f fall) k).status ≡ (part_of nodes k).status
+status-arrived nodes f None k = refl
+status-arrived nodes f (Some fall) k =
+    status-set nodes f.to k _ (status-frame (part_of nodes f.to) fall f)
+
+status-heard : (c : NodeIs) (kind : FrameKind) (id : CallId) (there : Bool) (h : Heard)
+    → (heard_by c kind id there h).status ≡ c.status
+status-heard c kind id there Acked = refl
+status-heard c kind id there Busy = refl
+status-heard c kind id there Silent =
+    cond_both (nat_le 2 c.tries) (sent_off c (failed c kind id (silence_word there))) _
+    (λ (x : NodeIs). x.status ≡ c.status) (λ _. refl) (λ _. refl)
+
+pub status-sent : (net : NetPlan) (r : RingIs) (m : ℕ) (box : List Frame) (k : ℕ)
+    → (ring_node (sent_head net r m box) k).status ≡ (ring_node r k).status
+status-sent net r m [] k = refl
+status-sent net r m (f ∷ fs) k =
+    let fall = arrival r.nodes (fate_at net.fates r.sent) f in
+    let nodes = arrived r.nodes f fall in
+    status-set nodes m k _ (status-heard (part_of nodes m) f.kind f.id (is_here (ring_node r f.to))
+    (heard_of (fate_at net.fates r.sent) fall))
+    ∙ status-arrived r.nodes f fall k
+
+-- who does not ask stays as it is as the token goes on
+stays-admitted : (s : NodeStatus) → (s ≡ Asking → ⊥) → admitted_status s ≡ s
+stays-admitted In no' = refl
+stays-admitted Away no' = refl
+stays-admitted Asking no' = absurd (no' refl)
+stays-admitted Gone no' = refl
+
+pub step-status : (net : NetPlan) (r : RingIs) (n : ℕ) (e : RingEntry)
+    → ((ring_node r n).status ≡ Asking → ⊥) → (IsLeaveOrJoin n e → ⊥)
+    → (ring_node (after net r e) n).status ≡ (ring_node r n).status
+step-status net r n (Post m f) asks no' = status-set r.nodes m n _ refl
+step-status net r n (Send m heard) asks no' = status-sent net r m (ring_node r m).outbox n
+step-status net r n (Take m f) asks no' = status-set r.nodes m n _ refl
+step-status net r n (Local m id op result) asks no' = refl
+step-status net r n (GiveUp id word) asks no' = status-set r.nodes id.node n _ refl
+step-status net r n (Pass m done words) asks no' =
+    let passed = set r.nodes m (after_pass (ring_node r m) done) in
+    ap (λ (c : NodeIs). c.status) (admitted-part passed n)
+    ∙ (ap admitted_status (status-set r.nodes m n _ refl)
+    ∙ stays-admitted (ring_node r n).status asks)
+step-status net r n (Leave m cause) asks no' =
+    ap (λ (c : NodeIs). c.status) (handed-out r.nodes n m _ no')
+    ∙ stays-admitted (ring_node r n).status asks
+step-status net r n (Join m) asks no' = cond_both (is_held r) _ _
+    (λ (x : RingIs). (ring_node x n).status ≡ (ring_node r n).status)
+    (λ _. ap (λ (c : NodeIs). c.status) (out r.nodes n m _ no'))
+    (λ _. ap (λ (c : NodeIs). c.status) (out r.nodes n m _ no'))
+
+pub membership-stays : MembershipStays
+membership-stays net past [] n asks none =
+    ap (λ (l : List RingEntry). (ring_node (ring_after net l) n).status) (append-nil past)
+membership-stays net past (e ∷ es) n asks none =
+    let one : (ring_node (ring_after net (past ++ e ∷ [])) n).status
+    ≡ (ring_node (ring_after net past) n).status =
+    ap (λ (x : RingIs). (ring_node x n).status) (next_ring net past e)
+    ∙ step-status net (ring_after net past) n e asks none.0 in
+    ap (λ (l : List RingEntry). (ring_node (ring_after net l) n).status)
+    (sym (append_assoc past (e ∷ []) es))
+    ∙ (membership-stays net (past ++ e ∷ []) es n (λ q. asks (sym one ∙ q)) none.1 ∙ one)
+
+-- whose Leave or Join it is made the entry
+pub leave_or_join-made : (n : ℕ) (e : RingEntry) → IsLeaveOrJoin n e → maker e ≡ n
+leave_or_join-made n (Post m f) is = absurd is
+leave_or_join-made n (Send m heard) is = absurd is
+leave_or_join-made n (Take m f) is = absurd is
+leave_or_join-made n (Local m id op result) is = absurd is
+leave_or_join-made n (GiveUp id word) is = absurd is
+leave_or_join-made n (Pass m done words) is = absurd is
+leave_or_join-made n (Leave m cause) is = is
+leave_or_join-made n (Join m) is = is
+
+others-stay : (n : ℕ) (es : List RingEntry) → NoneBy n es → NoLeaveOrJoin n es
+others-stay n [] none = tt
+others-stay n (e ∷ es) none =
+    (λ is. none.0 (leave_or_join-made n e is), others-stay n es none.1)
+
+-- a member stays one while others make entries
+member-stays : (net : NetPlan) (past more : List RingEntry) (n : ℕ)
+    → is_here (ring_node (ring_after net past) n) ≡ true → NoneBy n more
+    → is_here (ring_node (ring_after net (past ++ more)) n) ≡ true
+member-stays net past more n there none =
+    ap is_in (membership-stays net past more n
+    (λ asks. let no' : false ≡ true = sym (ap is_in asks) ∙ there in absurd (cc))
+    (others-stay n more none)) ∙ there
+
+left-arrives : (nodes : List NodeIs) (fate : Fate) (f : Frame)
+    → is_here (part_of nodes f.to) ≡ false → arrival nodes fate f ≡ None
 left-arrives nodes fate f left = ap (λ (b : Bool). cond (cond b (fate_reaches fate) false)
     (Some (fell (part_of nodes f.to) f.kind f.id)) None) left
 
@@ -126,113 +266,71 @@ settled-out nodes n f None other = refl
 settled-out nodes n f (Some fall) other = out nodes n f.to _ other
 
 arrived-out : (nodes : List NodeIs) (n : ℕ) (fate : Fate) (f : Frame)
-    → (part_of nodes n).here ≡ false
+    → is_here (part_of nodes n) ≡ false
     → part_of (arrived nodes f (arrival nodes fate f)) n ≡ part_of nodes n
 arrived-out nodes n fate f left = ⊎_elim
     (λ (e : f.to ≡ n). ap (λ (fall : Option Fell). part_of (arrived nodes f fall) n)
-    (left-arrives nodes fate f (ap (λ (k : ℕ). (part_of nodes k).here) e ∙ left)))
+    (left-arrives nodes fate f (ap (λ (k : ℕ). is_here (part_of nodes k)) e ∙ left)))
     (λ (no' : f.to ≡ n → ⊥). settled-out nodes n f (arrival nodes fate f) no')
     (cases_eq f.to n)
 
 sent-out : (net : NetPlan) (r : RingIs) (n m : ℕ) (box : List Frame)
-    → (ring_node r n).here ≡ false → (m ≡ n → ⊥)
+    → is_here (ring_node r n) ≡ false → (m ≡ n → ⊥)
     → ring_node (sent_head net r m box) n ≡ ring_node r n
 sent-out net r n m [] left other = refl
 sent-out net r n m (f ∷ fs) left other =
     let fate = fate_at net.fates r.sent in
     out (arrived r.nodes f (arrival r.nodes fate f)) n m _ other ∙ arrived-out r.nodes n fate f left
 
-step-left : (net : NetPlan) (r : RingIs) (n : ℕ) (e : RingEntry) → (ring_node r n).here ≡ false
-    → maker e ≢ n → ring_node (after net r e) n ≡ ring_node r n
-step-left net r n (Post m f) left other = out r.nodes n m _ other
-step-left net r n (Send m heard) left other = sent-out net r n m (ring_node r m).outbox left other
-step-left net r n (Take m f) left other = out r.nodes n m _ other
-step-left net r n (Local m id op result) left other = refl
-step-left net r n (GiveUp id word) left other = out r.nodes n id.node _ other
-step-left net r n (Pass m done words) left other = out r.nodes n m _ other
-step-left net r n (Leave m cause) left other = out r.nodes n m _ other
+-- as the token goes on, who is no member comes in, or nothing of it changes
+comes-in : (c : NodeIs) (s : NodeStatus) → c.status ≡ s → is_in s ≡ false
+    → (admitted c ≡ c) ⊎ (is_here (admitted c) ≡ true)
+comes-in c In e left = absurd (cc)
+comes-in c Away e left = inl (λ i. with_status c ((ap admitted_status e ∙ sym e) i))
+comes-in c Asking e left = inr (ap (λ (x : NodeStatus). is_in (admitted_status x)) e)
+comes-in c Gone e left = inl (λ i. with_status c ((ap admitted_status e ∙ sym e) i))
+
+handed-left : (nodes : List NodeIs) (n m : ℕ) (c : NodeIs) → is_here (part_of nodes n) ≡ false
+    → (m ≡ n → ⊥) → (part_of (map admitted (set nodes m c)) n ≡ part_of nodes n)
+    ⊎ (is_here (part_of (map admitted (set nodes m c)) n) ≡ true)
+handed-left nodes n m c left other =
+    let now = handed-out nodes n m c other in
+    ⊎_elim (λ (same : admitted (part_of nodes n) ≡ part_of nodes n). inl (now ∙ same))
+    (λ (there : is_here (admitted (part_of nodes n)) ≡ true). inr (ap is_here now ∙ there))
+    (comes-in (part_of nodes n) (part_of nodes n).status refl left)
+
+-- an entry of another leaves the part of who is no member, or lets it come in
+step-left : (net : NetPlan) (r : RingIs) (n : ℕ) (e : RingEntry) → is_here (ring_node r n) ≡ false
+    → maker e ≢ n → (ring_node (after net r e) n ≡ ring_node r n)
+    ⊎ (is_here (ring_node (after net r e) n) ≡ true)
+step-left net r n (Post m f) left other = inl (out r.nodes n m _ other)
+step-left net r n (Send m heard) left other =
+    inl (sent-out net r n m (ring_node r m).outbox left other)
+step-left net r n (Take m f) left other = inl (out r.nodes n m _ other)
+step-left net r n (Local m id op result) left other = inl refl
+step-left net r n (GiveUp id word) left other = inl (out r.nodes n id.node _ other)
+step-left net r n (Pass m done words) left other = handed-left r.nodes n m _ left other
+step-left net r n (Leave m cause) left other = handed-left r.nodes n m _ left other
+step-left net r n (Join m) left other = inl (cond_both (is_held r) _ _
+    (λ (x : RingIs). ring_node x n ≡ ring_node r n)
+    (λ _. out r.nodes n m _ other) (λ _. out r.nodes n m _ other))
 
 pub outsiders-keep : OutsidersKeep
 outsiders-keep net past [] n before behind none =
     ap (λ (l : List RingEntry). ring_node (ring_after net l) n) (append-nil past)
 outsiders-keep net past (e ∷ es) n before behind none =
     let joined = append_assoc past (e ∷ []) es in
+    let next = next_ring net past e in
+    let out_then : is_here (ring_node (ring_after net ((past ++ e ∷ []) ++ es)) n) ≡ false =
+    ap (λ (l : List RingEntry). is_here (ring_node (ring_after net l) n)) joined ∙ behind in
+    ⊎_elim
+    (λ (same : ring_node (after net (ring_after net past) e) n ≡ ring_node (ring_after net past) n).
     let one : ring_node (ring_after net (past ++ e ∷ [])) n ≡ ring_node (ring_after net past) n =
-    ap (λ (x : RingIs). ring_node x n) (next_ring net past e)
-    ∙ step-left net (ring_after net past) n e before none.0 in
-    let more = outsiders-keep net (past ++ e ∷ []) es n (ap is_here one ∙ before)
-    (ap (λ (l : List RingEntry). is_here (ring_node (ring_after net l) n)) joined ∙ behind) none.1
-    in
-    ap (λ (l : List RingEntry). ring_node (ring_after net l) n) (sym joined) ∙ (more ∙ one)
-
--- a write that keeps whether a node is there
-here-set : (nodes : List NodeIs) (m k : ℕ) (c : NodeIs) → c.here ≡ (part_of nodes m).here
-    → (part_of (set nodes m c) k).here ≡ (part_of nodes k).here
-here-set [] m k c e = refl
-here-set (d ∷ ds) zero zero c e = e
-here-set (d ∷ ds) zero (suc k) c e = refl
-here-set (d ∷ ds) (suc m) zero c e = refl
-here-set (d ∷ ds) (suc m) (suc k) c e = here-set ds m k c e
-
-here-frame : (c : NodeIs) (fall : Fell) (f : Frame) → (with_frame c fall f).here ≡ c.here
-here-frame c AcceptedRequest f = refl
-here-frame c RepeatedRequest f = refl
-here-frame c CrowdedOut f = refl
-here-frame c AcceptedReply f = refl
-here-frame c DroppedReply f = refl
-
-here-arrived : (nodes : List NodeIs) (f : Frame) (fall : Option Fell) (k : ℕ)
-    → (part_of (arrived nodes f fall) k).here ≡ (part_of nodes k).here
-here-arrived nodes f None k = refl
-here-arrived nodes f (Some fall) k =
-    here-set nodes f.to k _ (here-frame (part_of nodes f.to) fall f)
-
-here-heard : (c : NodeIs) (kind : FrameKind) (id : CallId) (there : Bool) (h : Heard)
-    → (heard_by c kind id there h).here ≡ c.here
-here-heard c kind id there Acked = refl
-here-heard c kind id there Busy = refl
-here-heard c kind id there Silent =
-    cond_both (nat_le 2 c.tries) (sent_off c (failed c kind id (silence_word there))) _
-    (λ (x : NodeIs). x.here ≡ c.here) (λ _. refl) (λ _. refl)
-
-here-sent : (net : NetPlan) (r : RingIs) (m : ℕ) (box : List Frame) (k : ℕ)
-    → (ring_node (sent_head net r m box) k).here ≡ (ring_node r k).here
-here-sent net r m [] k = refl
-here-sent net r m (f ∷ fs) k =
-    let fall = arrival r.nodes (fate_at net.fates r.sent) f in
-    let nodes = arrived r.nodes f fall in
-    here-set nodes m k _ (here-heard (part_of nodes m) f.kind f.id (ring_node r f.to).here
-    (heard_of (fate_at net.fates r.sent) fall))
-    ∙ here-arrived r.nodes f fall k
-
-step-membership : (net : NetPlan) (r : RingIs) (n : ℕ) (e : RingEntry) → (IsLeave n e → ⊥)
-    → is_here (ring_node (after net r e) n) ≡ is_here (ring_node r n)
-step-membership net r n (Post m f) no' = here-set r.nodes m n _ refl
-step-membership net r n (Send m heard) no' = here-sent net r m (ring_node r m).outbox n
-step-membership net r n (Take m f) no' = here-set r.nodes m n _ refl
-step-membership net r n (Local m id op result) no' = refl
-step-membership net r n (GiveUp id word) no' = here-set r.nodes id.node n _ refl
-step-membership net r n (Pass m done words) no' = here-set r.nodes m n _ refl
-step-membership net r n (Leave m cause) no' = ap is_here (out r.nodes n m _ no')
-
-pub membership-stays : MembershipStays
-membership-stays net past [] n none =
-    ap (λ (l : List RingEntry). is_here (ring_node (ring_after net l) n)) (append-nil past)
-membership-stays net past (e ∷ es) n none =
-    let one : is_here (ring_node (ring_after net (past ++ e ∷ [])) n)
-    ≡ is_here (ring_node (ring_after net past) n) =
-    ap (λ (x : RingIs). is_here (ring_node x n)) (next_ring net past e)
-    ∙ step-membership net (ring_after net past) n e none.0 in
-    ap (λ (l : List RingEntry). is_here (ring_node (ring_after net l) n))
-    (sym (append_assoc past (e ∷ []) es))
-    ∙ (membership-stays net (past ++ e ∷ []) es n none.1 ∙ one)
-
--- whose Leave it is made the entry
-pub leave-made : (n : ℕ) (e : RingEntry) → IsLeave n e → maker e ≡ n
-leave-made n (Post m f) is = absurd is
-leave-made n (Send m heard) is = absurd is
-leave-made n (Take m f) is = absurd is
-leave-made n (Local m id op result) is = absurd is
-leave-made n (GiveUp id word) is = absurd is
-leave-made n (Pass m done words) is = absurd is
-leave-made n (Leave m cause) is = is
+    ap (λ (x : RingIs). ring_node x n) next ∙ same in
+    ap (λ (l : List RingEntry). ring_node (ring_after net l) n) (sym joined)
+    ∙ (outsiders-keep net (past ++ e ∷ []) es n (ap is_here one ∙ before) out_then none.1 ∙ one))
+    (λ (there : is_here (ring_node (after net (ring_after net past) e) n) ≡ true).
+    let still = member-stays net (past ++ e ∷ []) es n
+    (ap (λ (x : RingIs). is_here (ring_node x n)) next ∙ there) none.1 in
+    let no' : true ≡ false = sym still ∙ out_then in absurd (cc))
+    (step-left net (ring_after net past) n e before none.0)

@@ -4,7 +4,8 @@ use Rattle.std.specs.Prelude.{replicate, All, Option, Some, None, Result, MatchR
 use Rattle.std.specs.Prelude.{true}
 use Rattle.std.specs.Prelude.{MatchOption}
 use Rattle.std.specs.FinMap.{contains_key}
-use Rattle.ring_core.specs.Words.{NetPlan, RingEntry, Local, Pass, RingNo, NoMemory, LocalOp}
+use Rattle.ring_core.specs.Words.{NetPlan, RingEntry, Local, Pass, Leave, RingNo, NoMemory}
+use Rattle.ring_core.specs.Words.{LocalOp, Ended, Spent, Down}
 use Rattle.ring_core.specs.Words.{PutGlobal, Take, Frame, Heard, LeaveCause, Request, CallId}
 use Rattle.ring_core.specs.Machine.{NodeIs, RingIs, ring_after, opening, addresses, path_places}
 use Rattle.ring_core.specs.Machine.{ring_node, path_of, passes_of}
@@ -90,9 +91,15 @@ abbrev pub book_put : Book → ℕ → LocalOp → Book
 book_put book n (PutGlobal words) = with_put book n words
 book_put book n _ = book
 
+abbrev pub book_left : Book → ℕ → LeaveCause → Book
+book_left book n Ended = book
+book_left book n Spent = book
+book_left book n (Down number) = with_passed (with_put book n []) n
+
 abbrev pub book_step : Book → RingEntry → Book
 book_step book (Local n id op result) = book_put book n op
 book_step book (Pass n done words) = with_passed book n
+book_step book (Leave n cause) = book_left book n cause
 book_step book _ = book
 
 -- Who asks is an address, on one of its paths.

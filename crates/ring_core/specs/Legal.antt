@@ -3,11 +3,11 @@ use Rattle.std.specs.Prelude.{◌≡◌, ◌≢◌, ℕ, ◌<◌, ◌≤◌, Lis
 use Rattle.plant_types.specs.Words.{global_limit}
 use Rattle.ring_core.specs.Words.{CallId, FrameKind, Request, Reply, Frame, LocalOp, PutGlobal}
 use Rattle.ring_core.specs.Words.{Heard, NetPlan, RingEntry, Post, Send, Take, Local, GiveUp, Pass}
-use Rattle.ring_core.specs.Words.{Leave}
+use Rattle.ring_core.specs.Words.{Leave, Join}
 use Rattle.ring_core.specs.Machine.{NodeIs, RingIs, ring_node, path_of, fate_at, arrival, heard_of}
 use Rattle.ring_core.specs.Machine.{ring_after, took}
 use Rattle.ring_core.specs.Refusals.{turn_no, free_no, post_no, send_no, pass_no, leave_no}
-use Rattle.ring_core.specs.Refusals.{give_up_no, word_of}
+use Rattle.ring_core.specs.Refusals.{give_up_no, join_no, word_of}
 use Rattle.ring_core.specs.Scratch.{words_put, local_result}
 
 -- A node of the plan, whether or not it has left.
@@ -58,6 +58,7 @@ IsLawful net (Local n id op result) = IsMember net n × HasRoom op
 IsLawful net (GiveUp id word) = IsMember net id.node × IsPath id.path
 IsLawful net (Pass n done words) = IsMember net n
 IsLawful net (Leave n cause) = IsMember net n
+IsLawful net (Join n) = IsMember net n
 
 -- After a history its call is not refused, and its values are those of its effect.
 abbrev pub IsTimelyEntry : NetPlan → List RingEntry → RingIs → RingEntry → Type 0
@@ -71,6 +72,7 @@ IsTimelyEntry net past r (Local n id op result) =
 IsTimelyEntry net past r (GiveUp id word) = (give_up_no net r id ≡ None) × (word ≡ word_of r id)
 IsTimelyEntry net past r (Pass n done words) = (pass_no r n ≡ None) × (words ≡ words_put n past)
 IsTimelyEntry net past r (Leave n cause) = leave_no net r n cause ≡ None
+IsTimelyEntry net past r (Join n) = join_no r n ≡ None
 
 -- An entry is a step after a history.
 abbrev pub IsRingStep : NetPlan → List RingEntry → RingEntry → Type 0

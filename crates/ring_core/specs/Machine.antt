@@ -1,7 +1,7 @@
 -- The ring as a machine: its state, and what each entry makes of it.
 -- The token, the paths and the boxes are those of the Modbus Plus Network Planning and Installation
 -- Guide;
--- fates, tries, give-ups and leaving are this project's own.
+-- fates, tries, give-ups, leaving and coming back are this project's own.
 use Rattle.std.specs.Prelude.{ℕ, zero, suc, ◌+◌, ◌<◌, ◌%◌, ◌^◌, Bool, true, false, nat_le}
 use Rattle.std.specs.Prelude.{◌==◌, not, if◌then◌else◌, List, [], ◌∷◌, ◌++◌, length, get_or, set}
 use Rattle.std.specs.Prelude.{map, drop, filter, replicate, count_by, Option, Some, None, unwrap_or}
@@ -11,7 +11,9 @@ use Rattle.std.specs.FinMap.{FinMap, get, insert, empty}
 pub use Rattle.plant_types.specs.Limits.{path_places}
 use Rattle.ring_core.specs.Words.{CallId, FrameKind, Request, Reply, Frame, Heard, Acked, Silent}
 use Rattle.ring_core.specs.Words.{Busy, Fate, D, L, A, NetPlan, RingEntry, Post, Send, Take, Local}
-use Rattle.ring_core.specs.Words.{GiveUp, Pass, Leave, Await, Nothing, Out, Arrived, Failed, Path}
+use Rattle.ring_core.specs.Words.{GiveUp, Pass, Leave, Join, NodeStatus, In, Away, Asking, Gone}
+use Rattle.ring_core.specs.Words.{LeaveCause, Ended, Spent, Down}
+use Rattle.ring_core.specs.Words.{Await, Nothing, Out, Arrived, Failed, Path}
 use Rattle.ring_core.specs.Words.{Fell, AcceptedRequest, RepeatedRequest, CrowdedOut, AcceptedReply}
 use Rattle.ring_core.specs.Words.{DroppedReply, is_request, asks_for}
 
@@ -27,9 +29,10 @@ source_cmp a b = ordering_then (nat_cmp a.0 b.0) (nat_cmp a.1 b.1)
 abbrev pub AcceptedIs : Type 0
 AcceptedIs = FinMap source_cmp ℕ
 
--- A node's part. A path is found by its number.
+-- A node's part, with the number of its latest Down, 0 for none. A path is found by its number.
 pub record NodeIs : Type 0 where
-  pub here : Bool
+  pub status : NodeStatus
+  pub down : ℕ
   pub outbox : List Frame
   pub tries : ℕ
   pub inbox : List Frame
@@ -64,9 +67,15 @@ accepting accepted id = insert accepted (source_of id) id.seq
 abbrev pub no_path : Path
 no_path = record { awaits = Nothing; posted = 0 }
 
+-- A node at first is a member, or none ever.
+abbrev pub first_status : Bool → NodeStatus
+first_status true = In
+first_status false = Gone
+
 abbrev pub fresh : Bool → NodeIs
 fresh here = record {
-  here = here;
+  status = first_status here;
+  down = 0;
   outbox = [];
   tries = 0;
   inbox = [];
@@ -83,9 +92,29 @@ part_of nodes n = get_or nodes n (fresh false)
 abbrev pub ring_node : RingIs → ℕ → NodeIs
 ring_node r n = part_of r.nodes n
 
+-- The status of a member.
+abbrev pub is_in : NodeStatus → Bool
+is_in In = true
+is_in Away = false
+is_in Asking = false
+is_in Gone = false
+
 -- A node is a member now.
 abbrev pub is_here : NodeIs → Bool
-is_here c = c.here
+is_here c = is_in c.status
+
+abbrev pub with_status : NodeIs → NodeStatus → NodeIs
+with_status c status = record c { status = status }
+
+-- As the token goes on, who asks comes in.
+abbrev pub admitted_status : NodeStatus → NodeStatus
+admitted_status In = In
+admitted_status Away = Away
+admitted_status Asking = In
+admitted_status Gone = Gone
+
+abbrev pub admitted : NodeIs → NodeIs
+admitted c = with_status c (admitted_status c.status)
 
 -- A path of a node.
 abbrev pub path_of : NodeIs → ℕ → Path
@@ -170,9 +199,26 @@ passes_of (Failed seq word) = 0
 abbrev pub CanAge : Path → Type 0
 CanAge path = passes_of path.awaits + 1 < 2 ^ 64
 
--- Leave: the node is no member from then on, and its inbox is emptied.
+-- Leave for good: the node is no member from then on, and its inbox is emptied.
 abbrev pub gone : NodeIs → NodeIs
-gone c = record c { here = false; inbox = [] }
+gone c = record c { status = Gone; inbox = [] }
+
+-- Leave as power fails: both boxes are emptied, and the row of Passes that said done is over.
+abbrev pub downed : NodeIs → ℕ → NodeIs
+downed c number = record c {
+  status = Away;
+  down = number;
+  outbox = [];
+  tries = 0;
+  inbox = [];
+  done_run = 0;
+}
+
+-- Leave, by its cause.
+abbrev pub left_with : LeaveCause → NodeIs → NodeIs
+left_with Ended c = gone c
+left_with Spent c = gone c
+left_with (Down number) c = downed c number
 
 -- The least member from a place on; 0 where there is none.
 abbrev pub least_from : List NodeIs → ℕ → ℕ
@@ -309,9 +355,25 @@ abbrev pub sent_head : NetPlan → RingIs → ℕ → List Frame → RingIs
 sent_head net r n [] = r
 sent_head net r n (f ∷ fs) = sent_one net r n f
 
--- The ring after a node left; the leaver is asked for no successor.
-abbrev pub left_by : RingIs → List NodeIs → ℕ → RingIs
-left_by r nodes n = record { holder = successor nodes n; sent = r.sent; nodes = nodes }
+-- All who ask come in, and then the token goes to a node's successor.
+abbrev pub handed_on : RingIs → List NodeIs → ℕ → RingIs
+handed_on r nodes n =
+    let all = map admitted nodes in
+    record { holder = successor all n; sent = r.sent; nodes = all }
+
+-- A member holds the token. Where none does there is no member, and the holder is said to be 0.
+abbrev pub is_held : RingIs → Bool
+is_held r = is_here (ring_node r r.holder)
+
+-- Join: the node asks to come in; where nobody holds the token it is in at once, and holds it.
+abbrev pub asked_in : RingIs → ℕ → RingIs
+asked_in r n =
+    if is_held r then with_node r n (with_status (ring_node r n) Asking)
+    else record {
+      holder = n;
+      sent = r.sent;
+      nodes = set r.nodes n (with_status (ring_node r n) In);
+    }
 
 -- The ring after an entry.
 abbrev pub after : NetPlan → RingIs → RingEntry → RingIs
@@ -320,12 +382,11 @@ after net r (Send n heard) = sent_head net r n (ring_node r n).outbox
 after net r (Take n f) = with_node r n (took (ring_node r n) f.kind f.id)
 after net r (Local n id op result) = r
 after net r (GiveUp id word) = with_node r id.node (gave_up (ring_node r id.node) id)
-after net r (Pass n done words) = record {
-  holder = successor r.nodes n;
-  sent = r.sent;
-  nodes = set r.nodes n (after_pass (ring_node r n) done);
-}
-after net r (Leave n cause) = left_by r (set r.nodes n (gone (ring_node r n))) n
+after net r (Pass n done words) =
+    handed_on r (set r.nodes n (after_pass (ring_node r n) done)) n
+after net r (Leave n cause) =
+    handed_on r (set r.nodes n (left_with cause (ring_node r n))) n
+after net r (Join n) = asked_in r n
 
 -- The ring after a list of entries.
 abbrev pub after_all : NetPlan → RingIs → List RingEntry → RingIs

@@ -1,9 +1,10 @@
 -- Why a call is refused: the first reason that fits. This project's own.
-use Rattle.std.specs.Prelude.{◌≡◌, ℕ, ◌==◌, ◌&&◌, Bool, false, nat_lt, min, if◌then◌else◌, List, []}
-use Rattle.std.specs.Prelude.{◌∷◌}
+use Rattle.std.specs.Prelude.{◌≡◌, ℕ, ◌+◌, ◌==◌, ◌&&◌, Bool, false, nat_lt, min, if◌then◌else◌}
+use Rattle.std.specs.Prelude.{List, [], ◌∷◌}
 use Rattle.std.specs.Prelude.{length, Option, Some, None}
 use Rattle.ring_core.specs.Words.{CallId, FrameKind, Request, Reply, Frame, LeaveCause, Ended}
-use Rattle.ring_core.specs.Words.{Spent, NetPlan, RingNo, NotMember, NotHolder, Unsent, Untaken}
+use Rattle.ring_core.specs.Words.{Spent, Down, NodeStatus, In, Away, Asking, Gone}
+use Rattle.ring_core.specs.Words.{NetPlan, RingNo, NotMember, NotHolder, Unsent, Untaken, NotAway}
 use Rattle.ring_core.specs.Words.{NoMemory, NotDue, NothingToSend, PathTaken, NotAwaited, Await}
 use Rattle.ring_core.specs.Words.{Nothing, Out}
 use Rattle.ring_core.specs.Words.{Arrived, Failed, LeaveDue}
@@ -100,29 +101,52 @@ or_zero (Some a) = a
 abbrev pub quiet_for : RingIs → ℕ → ℕ
 quiet_for r n = if is_here (ring_node r n) then or_zero (least_done r.nodes) else 0
 
--- For how long a node has had its cause to leave, by the cause.
+-- How much of its cause to leave a node has: Passes in a row at which all were done, Passes of its
+-- own, or failures of its power.
 abbrev pub cause_held : RingIs → ℕ → LeaveCause → ℕ
 cause_held r n Ended = quiet_for r n
 cause_held r n Spent = (ring_node r n).passes
+cause_held r n (Down number) = number
 
--- For how long it needs it.
-abbrev pub needed_of : NetPlan → LeaveCause → ℕ
-needed_of net Ended = net.rounds
-needed_of net Spent = net.holds
+-- How much of it a node needs; of failures, one more than the number of its latest Down.
+abbrev pub needed_of : NetPlan → RingIs → ℕ → LeaveCause → ℕ
+needed_of net r n Ended = net.rounds
+needed_of net r n Spent = net.holds
+needed_of net r n (Down number) = 1 + (ring_node r n).down
 
 -- Both, of a ring and a cause.
 abbrev pub leave_due : NetPlan → RingIs → ℕ → LeaveCause → LeaveDue
-leave_due net r n cause = record { held = cause_held r n cause; needed = needed_of net cause }
+leave_due net r n cause = record { held = cause_held r n cause; needed = needed_of net r n cause }
 
--- The refusal where a box is not empty that a cause to leave wants empty: each cause wants both.
+-- The refusal where a box is not empty that a cause to leave wants empty: both, or none where power
+-- failed.
 abbrev pub cause_boxes_no : LeaveCause → NodeIs → Option RingNo
-cause_boxes_no cause c = boxes_no c
+cause_boxes_no Ended c = boxes_no c
+cause_boxes_no Spent c = boxes_no c
+cause_boxes_no (Down number) c = None
 
 -- Why a Leave is refused.
 abbrev pub leave_no : NetPlan → RingIs → ℕ → LeaveCause → Option RingNo
 leave_no net r n cause =
     let due = leave_due net r n cause in
     or_no (or_no (turn_no r n) (cause_boxes_no cause (ring_node r n))) (due_no due.held due.needed)
+
+-- The refusal where the node did not leave as its power failed, or has asked already.
+abbrev pub away_no : NodeStatus → Option RingNo
+away_no In = Some NotAway
+away_no Away = None
+away_no Asking = Some NotAway
+away_no Gone = Some NotAway
+
+-- The refusal of the least path that awaits a number.
+abbrev pub paths_no : NodeIs → Option RingNo
+paths_no c =
+    or_no (path_no c Request 1)
+    (or_no (path_no c Request 2) (or_no (path_no c Request 3) (path_no c Request 4)))
+
+-- Why a Join is refused.
+abbrev pub join_no : RingIs → ℕ → Option RingNo
+join_no r n = let c = ring_node r n in or_no (away_no c.status) (paths_no c)
 
 -- The refusal where a path does not await this number.
 abbrev pub other_no : ℕ → ℕ → Option RingNo

@@ -4,7 +4,8 @@ use Rattle.std.specs.Prelude.{◌++◌, length, take, count_by, Option, Some, No
 use Rattle.ring_core.specs.Words.{CallId, FrameKind, Request, Reply, Frame, MstrResult, Good, Bad}
 use Rattle.ring_core.specs.Words.{LocalOp, GetStats, ClearStats, PutGlobal, GetGlobal, RemoteGet}
 use Rattle.ring_core.specs.Words.{RemoteClear, Heard, Acked, Silent, Busy, Fate, NetPlan, RingEntry}
-use Rattle.ring_core.specs.Words.{Post, Send, Take, Local, GiveUp, Pass, Leave, Fell}
+use Rattle.ring_core.specs.Words.{Post, Send, Take, Local, GiveUp, Pass, Leave, Join, Fell}
+use Rattle.ring_core.specs.Words.{LeaveCause, Ended, Spent, Down}
 use Rattle.ring_core.specs.Words.{AcceptedRequest, RepeatedRequest, CrowdedOut, AcceptedReply}
 use Rattle.ring_core.specs.Words.{DroppedReply}
 use Rattle.ring_core.specs.Machine.{NodeIs, RingIs, ring_node, fate_at, arrival, heard_of, after}
@@ -14,13 +15,20 @@ use Rattle.station_stats.specs.declared.event.StatEvent.TheVariants as stat
 use Rattle.station_stats.specs.Counts.{StatNote, since_clear, counts_of, stats_words}
 use Rattle.station_stats.specs.Counts.StatNote.{Counted, Cleared}
 
--- The words that a node put last.
+-- A node that leaves as its power fails loses its words.
+abbrev pub words_after_leave : ℕ → ℕ → LeaveCause → List ℕ → List ℕ
+words_after_leave n node Ended words = words
+words_after_leave n node Spent words = words
+words_after_leave n node (Down number) words = if node == n then [] else words
+
+-- The words that a node put last, after its latest Down.
 abbrev pub put_by_local : ℕ → ℕ → LocalOp → List ℕ → List ℕ
 put_by_local n node (PutGlobal words) put = if node == n then words else put
 put_by_local n node _ put = put
 
 abbrev pub put_with : ℕ → List ℕ → RingEntry → List ℕ
 put_with n put (Local node id op result) = put_by_local n node op put
+put_with n put (Leave node cause) = words_after_leave n node cause put
 put_with n put _ = put
 
 abbrev pub put_after : ℕ → List ℕ → List RingEntry → List ℕ
@@ -30,9 +38,10 @@ put_after n put (e ∷ es) = put_after n (put_with n put e) es
 abbrev pub words_put : ℕ → List RingEntry → List ℕ
 words_put n history = put_after n [] history
 
--- The heard words of a node: those that its last Pass carried, or none.
+-- The heard words of a node: those that its last Pass after its latest Down carried, or none.
 abbrev pub heard_in : ℕ → List ℕ → RingEntry → List ℕ
 heard_in n heard (Pass node done words) = if node == n then words else heard
+heard_in n heard (Leave node cause) = words_after_leave n node cause heard
 heard_in n heard _ = heard
 
 abbrev pub heard_after : ℕ → List ℕ → List RingEntry → List ℕ
@@ -111,6 +120,7 @@ ring_notes net r (Local n id op result) = local_counts n id op ∷ []
 ring_notes net r (GiveUp id word) = counts id.node stat.GiveUp ∷ []
 ring_notes net r (Pass n done words) = counts n stat.Pass ∷ []
 ring_notes net r (Leave n cause) = []
+ring_notes net r (Join n) = []
 
 -- All that was to be counted in a list of entries.
 abbrev pub all_notes : NetPlan → RingIs → List RingEntry → List Note

@@ -1,10 +1,11 @@
 -- Where the array of accepted numbers has its places. This project's own.
-use Rattle.std.specs.Prelude.{ℕ, ◌/◌, ◌%◌, Bool, List, refl}
-use Rattle.std.specs.Coded.{Coded, code_by, coded×, coded_ℕ, coded_bool, coded_list}
+use Rattle.std.specs.Prelude.{ℕ, ◌/◌, ◌%◌, List, refl}
+use Rattle.std.specs.Coded.{Coded, code_by, coded×, coded_ℕ, coded_list}
 use Rattle.std.specs.FinMap.{code}
-use Rattle.ring_core.specs.Words.{Frame, Path}
+use Rattle.ring_core.specs.Words.{Frame, NodeStatus, Path}
 use Rattle.ring_core.specs.contracts.frame.Frame as frame
 use Rattle.ring_core.specs.contracts.path.Path as path
+use Rattle.ring_core.specs.contracts.status.NodeStatus as status
 use Rattle.ring_core.specs.Machine.{NodeIs, AcceptedIs, Source}
 
 -- A place for each path of each address, 0 to 64.
@@ -23,17 +24,18 @@ coded_accepted = code (coded× coded_ℕ coded_ℕ) coded_ℕ
 abbrev pub coded_node : Coded NodeIs
 coded_node =
     code_by
-    (((Bool × List Frame) × (ℕ × List Frame)) × ((ℕ × ℕ) × (List Path × AcceptedIs)))
+    ((((NodeStatus × ℕ) × List Frame) × (ℕ × List Frame)) × ((ℕ × ℕ) × (List Path × AcceptedIs)))
     (coded×
-    (coded× (coded× coded_bool (coded_list frame.the_row.coded))
+    (coded× (coded× (coded× status.the_row.coded coded_ℕ) (coded_list frame.the_row.coded))
     (coded× coded_ℕ (coded_list frame.the_row.coded)))
     (coded× (coded× coded_ℕ coded_ℕ) (coded× (coded_list path.the_row.coded) coded_accepted)))
     (λ n. (
-      ((n.here, n.outbox), (n.tries, n.inbox)),
+      (((n.status, n.down), n.outbox), (n.tries, n.inbox)),
       ((n.passes, n.done_run), (n.paths, n.accepted)),
     ))
     (λ p. record {
-      here = p.0.0.0;
+      status = p.0.0.0.0;
+      down = p.0.0.0.1;
       outbox = p.0.0.1;
       tries = p.0.1.0;
       inbox = p.0.1.1;

@@ -1,29 +1,32 @@
--- What entries leave of a node as it was. This project's own.
-use Rattle.std.specs.Prelude.{◌≡◌, ◌≢◌, ℕ, true, false, List, ◌++◌}
+-- What entries leave of a node as it was, and who holds the token. This project's own.
+use Rattle.std.specs.Prelude.{◌≡◌, ◌≢◌, ◌<◌, ◌⊎◌, ℕ, true, false, List, ◌++◌, All}
 use Rattle.std.specs.List.{AllByRecursion}
-use Rattle.ring_core.specs.Words.{NetPlan, RingEntry, Leave, maker}
-use Rattle.ring_core.specs.Machine.{RingIs, ring_node, ring_after, is_here}
+use Rattle.ring_core.specs.Words.{NetPlan, RingEntry, Leave, Join, Asking, maker}
+use Rattle.ring_core.specs.Machine.{RingIs, addresses, ring_node, ring_after, is_here, is_held}
 use Rattle.ring_core.specs.Refusals.{quiet_for}
-use Rattle.ring_core.specs.Legal.{IsRun}
+use Rattle.ring_core.specs.Legal.{IsLegalRing, IsMember, IsRun}
 
 -- No entry of a list is of this node.
 abbrev pub NoneBy : ℕ → List RingEntry → Type 0
 NoneBy n es = AllByRecursion (λ (e : RingEntry). maker e ≢ n) es
 
--- The one entry of a node by which it becomes a member or is one no more: its Leave.
-abbrev pub IsLeave : ℕ → RingEntry → Type 0
-IsLeave n (Leave m cause) = m ≡ n
-IsLeave n _ = ⊥
+-- The entries of a node by which it leaves, or asks to come in again.
+abbrev pub IsLeaveOrJoin : ℕ → RingEntry → Type 0
+IsLeaveOrJoin n (Leave m cause) = m ≡ n
+IsLeaveOrJoin n (Join m) = m ≡ n
+IsLeaveOrJoin n _ = ⊥
 
 -- A list has no such entry of this node.
-abbrev pub NoLeave : ℕ → List RingEntry → Type 0
-NoLeave n es = AllByRecursion (λ (e : RingEntry). IsLeave n e → ⊥) es
+abbrev pub NoLeaveOrJoin : ℕ → List RingEntry → Type 0
+NoLeaveOrJoin n es = AllByRecursion (λ (e : RingEntry). IsLeaveOrJoin n e → ⊥) es
 
--- Whether a node is a member changes by such an entry of its own alone.
+-- Where a node stands toward the ring changes by such an entry of its own alone, but for a node
+-- that asks to come in.
 abbrev pub MembershipStays : Type 0
-MembershipStays = (net : NetPlan) (past more : List RingEntry) (n : ℕ) → NoLeave n more →
-    is_here (ring_node (ring_after net (past ++ more)) n)
-    ≡ is_here (ring_node (ring_after net past) n)
+MembershipStays = (net : NetPlan) (past more : List RingEntry) (n : ℕ) →
+    (ring_node (ring_after net past) n).status ≢ Asking → NoLeaveOrJoin n more →
+    (ring_node (ring_after net (past ++ more)) n).status
+    ≡ (ring_node (ring_after net past) n).status
 
 -- Who holds the token, a node's part, and for how long all members have been done.
 pub record Stays (r s : RingIs) (n : ℕ) : Type 0 where
@@ -44,3 +47,11 @@ OutsidersKeep = (net : NetPlan) (past more : List RingEntry) (n : ℕ) →
     is_here (ring_node (ring_after net past) n) ≡ false →
     is_here (ring_node (ring_after net (past ++ more)) n) ≡ false → NoneBy n more →
     ring_node (ring_after net (past ++ more)) n ≡ ring_node (ring_after net past) n
+
+-- Who holds the token is a member, and one of the plan's; where there is no member the holder is 0.
+abbrev pub HolderIsMember : Type 0
+HolderIsMember = (net : NetPlan) (history : List RingEntry) →
+    All (λ m. m < addresses) net.members → IsLegalRing net history →
+    let r = ring_after net history in
+    ((is_held r ≡ true) × IsMember net r.holder)
+    ⊎ ((r.holder ≡ 0) × ((n : ℕ) → is_here (ring_node r n) ≡ false))

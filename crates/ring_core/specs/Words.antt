@@ -17,14 +17,17 @@ pub use Rattle.ring_core.specs.declared.entry.LocalOp.TheVariants.{RemoteClear}
 pub use Rattle.ring_core.specs.declared.entry.Heard.{Heard}
 pub use Rattle.ring_core.specs.declared.entry.Heard.TheVariants.{Acked, Silent, Busy}
 pub use Rattle.ring_core.specs.declared.entry.LeaveCause.{LeaveCause}
-pub use Rattle.ring_core.specs.declared.entry.LeaveCause.TheVariants.{Ended, Spent}
+pub use Rattle.ring_core.specs.declared.entry.LeaveCause.TheVariants.{Ended, Spent, Down}
+pub use Rattle.ring_core.specs.declared.status.NodeStatus.{NodeStatus}
+pub use Rattle.ring_core.specs.declared.status.NodeStatus.TheVariants.{In, Away, Asking, Gone}
 pub use Rattle.ring_core.specs.declared.entry.RingEntry.{RingEntry}
 pub use Rattle.ring_core.specs.declared.entry.RingEntry.TheVariants.{Post, Send, Take, Local}
-pub use Rattle.ring_core.specs.declared.entry.RingEntry.TheVariants.{GiveUp, Pass, Leave}
+pub use Rattle.ring_core.specs.declared.entry.RingEntry.TheVariants.{GiveUp, Pass, Leave, Join}
 pub use Rattle.ring_core.specs.declared.refusal.RingNo.{RingNo}
 pub use Rattle.ring_core.specs.declared.refusal.RingNo.TheVariants.{NotMember, NotHolder, Unsent}
 pub use Rattle.ring_core.specs.declared.refusal.RingNo.TheVariants.{Untaken, NotDue, NothingToSend}
-pub use Rattle.ring_core.specs.declared.refusal.RingNo.TheVariants.{PathTaken, NotAwaited, NoMemory}
+pub use Rattle.ring_core.specs.declared.refusal.RingNo.TheVariants.{PathTaken, NotAwaited, NotAway}
+pub use Rattle.ring_core.specs.declared.refusal.RingNo.TheVariants.{NoMemory}
 pub use Rattle.ring_core.specs.declared.path.Await.{Await}
 pub use Rattle.ring_core.specs.declared.path.Await.TheVariants.{Nothing, Out, Arrived, Failed}
 pub use Rattle.ring_core.specs.declared.path.Path.{Path}
@@ -43,6 +46,7 @@ maker (Local node id op result) = node
 maker (GiveUp id word) = id.node
 maker (Pass node done words) = node
 maker (Leave node cause) = node
+maker (Join node) = node
 
 abbrev pub asks : FrameKind → Bool
 asks Request = true

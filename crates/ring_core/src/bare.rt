@@ -1,9 +1,9 @@
 //! The token ring without the list of what happened on it.
 ghost use Rattle.std.specs.Prelude.{◌≡◌, ◌<◌, [], true, length, All, None, OnOk, OnErr};
-ghost use Rattle.std.specs.Prelude.{IfOk, IfErr, IfSome, MatchOption};
+ghost use Rattle.std.specs.Prelude.{IfOk, IfSome, MatchOption};
 ghost use Rattle.ring_core.specs.Machine.{addresses, ring_after, ring_node, path_of};
 ghost use Rattle.ring_core.specs.Machine.{awaited_number, successor};
-ghost use Rattle.ring_core.specs.Refusals.{turn_no, free_no, post_no, pass_no, leave_no};
+ghost use Rattle.ring_core.specs.Refusals.{turn_no, free_no, post_no, pass_no, leave_no, join_no};
 ghost use Rattle.ring_core.specs.Refusals.{give_up_no, word_of, quiet_for, leave_due, empty_no};
 ghost use Rattle.ring_core.specs.Scratch.{words_put, local_result, statistics, global_answer};
 ghost use Rattle.ring_core.specs.Scratch.{heard_words};
@@ -12,15 +12,18 @@ ghost use Rattle.ring_core.specs.Legal.{IsHeard};
 ghost use Rattle.ring_core.specs.Bare.{bare_net, IsBehind, BareMade, BareStayed};
 
 use crate::arrival::{fate_at, heard_event, heard_of, post_event, take_event};
-use crate::counting::{count, count_arrival, count_local, put_global, station_words};
+use crate::counting::{count, count_arrival, count_local, lose_words, put_global, station_words};
 use crate::entry::{Heard, LeaveCause, LocalOp, RingEntry};
 use crate::frame::{Frame, FrameKind};
 use crate::global::global_answer;
-use crate::members::{arrival, hears, least_done, least_from, members_now, settle, successor};
+use crate::members::{
+    arrival, hand_on, hears, least_done, least_from, members_now, settle, successor,
+};
 use crate::node::{Node, silence_word};
 use crate::opening::{opening_nodes, opening_stats};
 use crate::path::{Await, LeaveDue, due_no};
 use crate::refusal::RingNo;
+use crate::status::NodeStatus;
 use global_data::GlobalBook;
 use mstr_block::{CallId, MstrResult};
 use plant_types::{Block, Copied, NetPlan, Words};
@@ -31,7 +34,7 @@ use std::alloc::{AllocError, Global};
 /// which its clauses are about and nothing reads. This project's own.
 #[derive(Drop)]
 pub struct BareRing {
-    alloc: Global,
+    pub(crate) alloc: Global,
     plan: NetPlan,
     holder: u8,
     sent: u64,
@@ -89,6 +92,15 @@ impl BareRing {
             (path_of (ring_node (ring_after (bare_net self.now) past.now) node) path).awaits }
     {
         self.nodes[node as usize].awaits(path).seq()
+    }
+
+    /// Where a node stands toward the ring.
+    pub fn status(&self, past: &[RingEntry], node: u8) -> NodeStatus
+        requires kept { IsBehind past.now self.now }
+        requires member { IsMember (bare_net self.now) node }
+        ensures { result ≡ (ring_node (ring_after (bare_net self.now) past.now) node).status }
+    {
+        self.nodes[node as usize].status()
     }
 
     /// For how many Passes in a row every member has been done; 0 where the node has left.
@@ -164,7 +176,7 @@ impl BareRing {
     }
 
     /// Puts a frame last into the node's outbox, where nothing refuses it.
-    pub fn post(&mut self, past: &[RingEntry], node: u8, frame: Frame) -> Result<(), RingNo>
+    pub fn post(&mut self, past: &[RingEntry], node: u8, frame: Frame) -> Result<(), AllocError>
         requires kept { IsBehind past.now self.old }
         requires member { IsMember (bare_net self.old) node }
         requires from { IsFrom node frame.kind frame }
@@ -173,8 +185,7 @@ impl BareRing {
         requires free { post_no (ring_after (bare_net self.old) past.now) node frame ≡ None }
         ensures ok { OnOk result
             (BareMade past.now (RingEntry.Post node frame) self.old self.new) }
-        ensures err { IfErr result (λ why.
-            (why ≡ RingNo.NoMemory) × BareStayed past.now self.old self.new) }
+        ensures err { OnErr result (BareStayed past.now self.old self.new) }
     {
         let kind = frame.kind;
         let part = &mut self.nodes[node as usize];
@@ -227,7 +238,7 @@ impl BareRing {
     }
 
     /// Transmits the first frame of the node's outbox, and says what the node was told of it.
-    pub fn send(&mut self, past: &[RingEntry], node: u8, frame: Frame) -> Result<Heard, RingNo>
+    pub fn send(&mut self, past: &[RingEntry], node: u8, frame: Frame) -> Result<Heard, AllocError>
         requires kept { IsBehind past.now self.old }
         requires member { IsMember (bare_net self.old) node }
         requires turn { turn_no (ring_after (bare_net self.old) past.now) node ≡ None }
@@ -238,8 +249,7 @@ impl BareRing {
             (ring_node (ring_after (bare_net self.old) past.now) node).outbox heard) }
         ensures ok { IfOk result (λ heard.
             BareMade past.now (RingEntry.Send node heard) self.old self.new) }
-        ensures err { IfErr result (λ why.
-            (why ≡ RingNo.NoMemory) × BareStayed past.now self.old self.new) }
+        ensures err { OnErr result (BareStayed past.now self.old self.new) }
     {
         let kind = frame.kind;
         let id = frame.id;
@@ -401,8 +411,8 @@ impl BareRing {
         }
     }
 
-    /// Passes the token, with the node's global words, to its successor, where nothing refuses it.
-    /// Takes no memory.
+    /// Passes the token, with the node's global words, to its successor, where nothing refuses it,
+    /// and all who ask come in. Takes no memory.
     pub fn pass(&mut self, past: &[RingEntry], node: u8, done: bool, words: &Words)
         requires kept { IsBehind past.now self.old }
         requires member { IsMember (bare_net self.old) node }
@@ -410,15 +420,14 @@ impl BareRing {
         requires waiting { words.now ≡ words_put node past.now }
         ensures { BareMade past.now (RingEntry.Pass node done words.now) self.old self.new }
     {
-        let next = successor(&self.nodes, node);
         let part = &mut self.nodes[node as usize];
         part.pass(done);
-        self.holder = next;
+        self.holder = hand_on(&mut self.nodes, node);
         self.book.heard(node);
         count(&mut self.stats, node, StatEvent::Pass);
     }
 
-    // For how long a node has had its cause to leave, and for how long it needs it.
+    // How much of its cause to leave a node has, and how much it needs.
     fn leave_due(&self, past: &[RingEntry], node: u8, cause: LeaveCause) -> LeaveDue
         requires kept { IsBehind past.now self.now }
         requires member { IsMember (bare_net self.now) node }
@@ -428,11 +437,15 @@ impl BareRing {
         match cause {
             LeaveCause::Ended => LeaveDue {
                 held: self.quiet(past, node),
-                needed: self.plan.rounds,
+                needed: self.plan.rounds as u64,
             },
             LeaveCause::Spent => LeaveDue {
                 held: self.nodes[node as usize].passes(),
-                needed: self.plan.holds,
+                needed: self.plan.holds as u64,
+            },
+            LeaveCause::Down(down) => LeaveDue {
+                held: down as u64,
+                needed: self.nodes[node as usize].down() as u64 + 1,
             },
         }
     }
@@ -454,8 +467,8 @@ impl BareRing {
         due_no(due.held, due.needed)
     }
 
-    /// The node leaves the ring, where nothing refuses it, and its successor holds the token. Takes
-    /// no memory.
+    /// The node leaves the ring, where nothing refuses it, all who ask come in, and its successor
+    /// holds the token. Takes no memory.
     pub fn leave(&mut self, past: &[RingEntry], node: u8, cause: LeaveCause)
         requires kept { IsBehind past.now self.old }
         requires member { IsMember (bare_net self.old) node }
@@ -463,8 +476,36 @@ impl BareRing {
             (ring_after (bare_net self.old) past.now) node cause ≡ None }
         ensures { BareMade past.now (RingEntry.Leave node cause) self.old self.new }
     {
+        lose_words(&mut self.book, node, cause);
         let part = &mut self.nodes[node as usize];
-        part.leave();
-        self.holder = successor(&self.nodes, node);
+        part.leave(cause);
+        self.holder = hand_on(&mut self.nodes, node);
+    }
+
+    /// Why a node may not ask to come in again.
+    pub fn join_no(&self, past: &[RingEntry], node: u8) -> Option<RingNo>
+        requires kept { IsBehind past.now self.now }
+        requires member { IsMember (bare_net self.now) node }
+        ensures { result ≡ join_no (ring_after (bare_net self.now) past.now) node }
+    {
+        self.nodes[node as usize].join_no()
+    }
+
+    /// The node asks to come in, where nothing refuses it; where nobody holds the token it is in at
+    /// once, and holds it. Takes no memory.
+    pub fn join(&mut self, past: &[RingEntry], node: u8)
+        requires kept { IsBehind past.now self.old }
+        requires member { IsMember (bare_net self.old) node }
+        requires free { join_no (ring_after (bare_net self.old) past.now) node ≡ None }
+        ensures { BareMade past.now (RingEntry.Join node) self.old self.new }
+    {
+        if hears(&self.nodes, self.holder) {
+            let part = &mut self.nodes[node as usize];
+            part.set_status(NodeStatus::Asking);
+        } else {
+            let part = &mut self.nodes[node as usize];
+            part.set_status(NodeStatus::In);
+            self.holder = node;
+        }
     }
 }

@@ -70,6 +70,7 @@ impl Copied for RingEntry {
                 node: *node,
                 cause: *cause,
             }),
+            RingEntry::Join { node } => Ok(RingEntry::Join { node: *node }),
         }
     }
 }

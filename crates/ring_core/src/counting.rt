@@ -2,13 +2,13 @@
 ghost use Rattle.std.specs.Prelude.{◌≡◌, ◌==◌, ◌<◌, length, ◌∷◌, [], true, IfSome};
 ghost use Rattle.std.specs.FinMap.{contains_key};
 ghost use Rattle.ring_core.specs.Scratch.{counts, arrival_notes, local_counts, owner_event};
-ghost use Rattle.ring_core.specs.Kept.{stats_at, noted_at, noted_all, book_put};
+ghost use Rattle.ring_core.specs.Kept.{stats_at, noted_at, noted_all, book_put, book_left};
 ghost use Rattle.ring_core.specs.Legal.{HasRoom};
 ghost use Rattle.station_stats.specs.Counts.StatNote.{Cleared};
 ghost use Rattle.station_stats.specs.Counts.{stats_words};
 
 use crate::arrival::{Fell, arrival_event};
-use crate::entry::LocalOp;
+use crate::entry::{LeaveCause, LocalOp};
 use global_data::GlobalBook;
 use mstr_block::CallId;
 use station_stats::{StatEvent, Stats};
@@ -78,5 +78,16 @@ pub(crate) fn put_global(book: &mut GlobalBook, node: u8, op: &LocalOp)
 {
     if let LocalOp::PutGlobal(words) = op {
         book.put(node, words.words());
+    }
+}
+
+// Who leaves as its power fails has put and passed nothing.
+pub(crate) fn lose_words(book: &mut GlobalBook, node: u8, cause: LeaveCause)
+    requires { contains_key book.old node ≡ true }
+    ensures { book.new ≡ book_left book.old node cause }
+{
+    if let LeaveCause::Down(_) = cause {
+        book.put(node, &[]);
+        book.heard(node);
     }
 }

@@ -60,6 +60,8 @@ pub enum LeaveCause {
     Ended,
     /// Its Passes are used up.
     Spent,
+    /// Its power failed, for so many times by now.
+    Down(u32),
 }
 
 /// One thing that happened on the ring.
@@ -97,5 +99,9 @@ pub enum RingEntry {
     Leave {
         node: u8,
         cause: LeaveCause,
+    },
+    /// A node that lost its power asks to come in again.
+    Join {
+        node: u8,
     },
 }

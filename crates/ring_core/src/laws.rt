@@ -1,8 +1,9 @@
-//! What holds of all legal histories. All of it stays true where a node can come back, if the
-//! entry by which it does counts as one of those by which its membership changes.
-ghost use Rattle.ring_core.specs.Stability.{HoldersKeep, MembershipStays, OutsidersKeep};
+//! What holds of all legal histories.
+ghost use Rattle.ring_core.specs.Stability.{HolderIsMember, HoldersKeep, MembershipStays};
+ghost use Rattle.ring_core.specs.Stability.{OutsidersKeep};
 
-/// Whether a node is a member changes by its own Leave alone.
+/// Where a node stands toward the ring changes by its own Leave and Join alone, but for a node that
+/// asks to come in.
 pub fn membership_stays()
     ensures { MembershipStays }
 {}
@@ -16,4 +17,9 @@ pub fn holders_keep()
 /// While a node is no member, no entry of another changes its boxes and paths.
 pub fn outsiders_keep()
     ensures { OutsidersKeep }
+{}
+
+/// Who holds the token is a member, one of the plan's; where there is no member the holder is 0.
+pub fn holder_is_member()
+    ensures { HolderIsMember }
 {}

@@ -19,12 +19,14 @@ mod path;
 mod refusal;
 mod ring;
 mod stats_request;
+mod status;
 
 pub use bare::BareRing;
 pub use conditions::{is_from, is_net, is_path};
 pub use entry::{Heard, LeaveCause, LocalOp, RingEntry};
 pub use frame::{Frame, FrameKind};
-pub use laws::{holders_keep, membership_stays, outsiders_keep};
+pub use laws::{holder_is_member, holders_keep, membership_stays, outsiders_keep};
 pub use refusal::RingNo;
 pub use ring::Ring;
 pub use stats_request::{CLEAR_STATISTICS, GET_STATISTICS, is_stats};
+pub use status::NodeStatus;

@@ -1,18 +1,18 @@
 //! What is read of all nodes: who is a member, and who comes next.
-ghost use Rattle.std.specs.Prelude.{◌≡◌, ◌<◌, ◌≤◌, ◌+◌, false, length, drop, get_or, IfSome, IfErr};
-ghost use Rattle.std.specs.Prelude.{OnOk, None};
+ghost use Rattle.std.specs.Prelude.{◌≡◌, ◌<◌, ◌≤◌, ◌+◌, false, length, drop, get_or, map, IfSome};
+ghost use Rattle.std.specs.Prelude.{OnOk, OnErr, None};
 ghost use Rattle.std.specs.Prelude.{Some};
 ghost use Rattle.ring_core.specs.Machine.{least_from, successor, part_of, arrival, arrived, fresh};
-ghost use Rattle.ring_core.specs.Machine.{is_here, hears};
-ghost use Rattle.ring_core.specs.Refusals.{least_done, least_of, least_over, WantsMemory};
+ghost use Rattle.ring_core.specs.Machine.{is_here, hears, admitted};
+ghost use Rattle.ring_core.specs.Refusals.{least_done, least_of, least_over};
 ghost use Rattle.ring_core.specs.Scratch.{count_members};
 ghost use Rattle.ring_core.specs.Kept.{IsSource};
 
 use crate::arrival::{Fell, fate_reaches};
 use crate::frame::Frame;
 use crate::node::Node;
-use crate::refusal::RingNo;
 use plant_types::Fate;
+use std::alloc::AllocError;
 
 // The least member from a place on, or 0.
 pub(crate) fn least_from(nodes: &[Node], from: usize) -> u8
@@ -82,6 +82,25 @@ fn lower(number: u64, other: Option<u64>) -> u64
     }
 }
 
+// Each node that asks comes in.
+fn admit(nodes: &mut Vec<Node>)
+    ensures { nodes.new.items ≡ map admitted nodes.old.items }
+{
+    for node in nodes.iter_mut() {
+        node.admit();
+    }
+}
+
+// All who ask come in; who holds the token after a node then.
+pub(crate) fn hand_on(nodes: &mut Vec<Node>, node: u8) -> u8
+    requires { length nodes.old.items ≤ 256 }
+    ensures nodes { nodes.new.items ≡ map admitted nodes.old.items }
+    ensures next { result ≡ successor (map admitted nodes.old.items) node }
+{
+    admit(nodes);
+    successor(nodes, node)
+}
+
 // What becomes of a frame; None where it does not arrive, as where its target is none of the nodes.
 pub(crate) fn arrival(nodes: &[Node], fate: Fate, frame: &Frame) -> Option<Fell>
     ensures fell { result ≡ arrival nodes.now fate frame.now }
@@ -95,11 +114,15 @@ pub(crate) fn arrival(nodes: &[Node], fate: Fate, frame: &Frame) -> Option<Fell>
 }
 
 // A frame comes to its target, one of the nodes, if it arrives.
-pub(crate) fn settle(nodes: &mut Vec<Node>, frame: Frame, fell: Option<Fell>) -> Result<(), RingNo>
+pub(crate) fn settle(
+    nodes: &mut Vec<Node>,
+    frame: Frame,
+    fell: Option<Fell>,
+) -> Result<(), AllocError>
     requires there { IfSome fell (λ _. frame.to < length nodes.old.items) }
     requires source { fell ≡ Some Fell.AcceptedRequest → IsSource frame.id }
     ensures ok { OnOk result (nodes.new.items ≡ arrived nodes.old.items frame fell) }
-    ensures err { IfErr result (WantsMemory nodes.old.items nodes.new.items) }
+    ensures err { OnErr result (nodes.new.items ≡ nodes.old.items) }
 {
     let Some(fell) = fell else {
         return Ok(());

@@ -2,14 +2,15 @@
 ghost use Rattle.std.specs.Prelude.{◌≡◌, ◌<◌, ◌≤◌, ◌+◌, ◌^◌, ℕ, List, [], ◌∷◌, ◌++◌, length};
 ghost use Rattle.std.specs.Prelude.{get_or};
 ghost use Rattle.std.specs.Prelude.{set, drop, filter, not, true, false, OnOk, OnErr, IfOk, IfSome};
-ghost use Rattle.std.specs.Prelude.{IfErr, None, MatchOption, All};
-ghost use Rattle.ring_core.specs.Machine.{NodeIs, posted, took, after_pass, gone, fresh, path_of};
+ghost use Rattle.std.specs.Prelude.{None, MatchOption, All};
+ghost use Rattle.ring_core.specs.Machine.{NodeIs, posted, took, after_pass, left_with, fresh};
+ghost use Rattle.ring_core.specs.Machine.{path_of, is_here, downed, admitted, with_status};
 ghost use Rattle.ring_core.specs.Machine.{no_path, awaited_number, CanAge, is_repeat, is_full};
 ghost use Rattle.ring_core.specs.Machine.{waits_for, fell, with_frame, heard_by, sent_off, failed};
 ghost use Rattle.ring_core.specs.Machine.{gave_up, is_head, silence_word, paths_awaiting};
 ghost use Rattle.ring_core.specs.Kept.{IsSource};
 ghost use Rattle.ring_core.specs.Refusals.{path_no, boxes_no, cause_boxes_no, empty_no};
-ghost use Rattle.ring_core.specs.Refusals.{WantsMemory};
+ghost use Rattle.ring_core.specs.Refusals.{away_no, paths_no, or_no};
 ghost use Rattle.ring_core.specs.Legal.{IsFirst, IsNextNumber, TookFirst};
 ghost use Rattle.ring_core.specs.Words.{asks_for};
 
@@ -18,7 +19,8 @@ use crate::arrival::Fell;
 use crate::entry::{Heard, LeaveCause};
 use crate::frame::{Frame, FrameKind};
 use crate::path::{Await, Path, no_path};
-use crate::refusal::RingNo;
+use crate::refusal::{RingNo, or_no};
+use crate::status::NodeStatus;
 use mstr_block::CallId;
 use plant_types::{Copied, PATH_PLACES};
 use std::alloc::{AllocError, Global};
@@ -41,7 +43,9 @@ const NO_MEMBER: u16 = 0x6103;
 
 #[derive(Drop)]
 pub(crate) struct Node {
-    here: bool,
+    status: NodeStatus,
+    // The number of its latest Down; 0 for none.
+    down: u32,
     outbox: VecDeque<Frame>,
     tries: u8,
     inbox: VecDeque<Frame>,
@@ -60,7 +64,8 @@ impl Model for Node {
     ghost coded = { coded_node };
 
     ghost view = { λ n. record {
-      here = n.here;
+      status = n.status;
+      down = n.down;
       outbox = n.outbox.items;
       tries = n.tries;
       inbox = n.inbox.items;
@@ -105,7 +110,8 @@ impl Node {
         ensures { IfOk result (λ node. node ≡ fresh here) }
     {
         Ok(Node {
-            here,
+            status: NodeStatus::at_first(here),
+            down: 0,
             outbox: VecDeque::new(alloc),
             tries: 0,
             inbox: VecDeque::new(alloc),
@@ -118,9 +124,23 @@ impl Node {
 
     /// Whether it is a member now.
     pub fn is_here(&self) -> bool
-        ensures { result ≡ self.now.here }
+        ensures { result ≡ is_here self.now }
     {
-        self.here
+        self.status.is_in()
+    }
+
+    /// Where it stands toward the ring.
+    pub fn status(&self) -> NodeStatus
+        ensures { result ≡ self.now.status }
+    {
+        self.status
+    }
+
+    /// The number of its latest Down; 0 for none.
+    pub fn down(&self) -> u32
+        ensures { result ≡ self.now.down }
+    {
+        self.down
     }
 
     /// How often it passed the token on.
@@ -205,21 +225,46 @@ impl Node {
     {
         match cause {
             LeaveCause::Ended | LeaveCause::Spent => self.boxes_no(),
+            LeaveCause::Down(_) => None,
         }
     }
 
+    // Why a node that is not away cannot ask to come in.
+    fn away_no(&self) -> Option<RingNo>
+        ensures { result ≡ away_no self.now.status }
+    {
+        match self.status {
+            NodeStatus::Away => None,
+            NodeStatus::In | NodeStatus::Asking | NodeStatus::Gone => Some(RingNo::NotAway),
+        }
+    }
+
+    // Why a node whose calls are not given up cannot ask to come in: the first path that waits.
+    fn paths_no(&self) -> Option<RingNo>
+        ensures { result ≡ paths_no self.now }
+    {
+        let third = or_no(self.awaits(3).taken_no(), self.awaits(4).taken_no());
+        let second = or_no(self.awaits(2).taken_no(), third);
+        or_no(self.awaits(1).taken_no(), second)
+    }
+
+    /// Why the node cannot ask to come in, if so.
+    pub fn join_no(&self) -> Option<RingNo>
+        ensures { result ≡ or_no (away_no self.now.status) (paths_no self.now) }
+    {
+        or_no(self.away_no(), self.paths_no())
+    }
+
     /// Puts a frame last in the outbox.
-    pub fn post(&mut self, frame: Frame) -> Result<(), RingNo>
+    pub fn post(&mut self, frame: Frame) -> Result<(), AllocError>
         requires path { frame.kind ≡ FrameKind.Request → frame.id.path < length self.old.paths }
         ensures ok { OnOk result (self.new ≡ posted self.old frame) }
-        ensures err { IfErr result (WantsMemory self.old self.new) }
+        ensures err { OnErr result (self.new ≡ self.old) }
     {
         let kind = frame.kind;
         let id = frame.id;
         let to = frame.to;
-        if self.outbox.push_back(frame).is_err() {
-            return Err(RingNo::NoMemory);
-        }
+        self.outbox.push_back(frame)?;
         if let FrameKind::Request = kind {
             self.paths[id.path as usize] = asked_path(id.seq, to);
         }
@@ -308,36 +353,32 @@ impl Node {
         }
     }
 
-    fn accept_request(&mut self, frame: Frame) -> Result<(), RingNo>
+    fn accept_request(&mut self, frame: Frame) -> Result<(), AllocError>
         requires source { IsSource frame.id }
         ensures ok { OnOk result (self.new ≡ with_frame self.old Fell.AcceptedRequest frame) }
-        ensures err { IfErr result (WantsMemory self.old self.new) }
+        ensures err { OnErr result (self.new ≡ self.old) }
     {
         let id = frame.id;
-        if self.inbox.push_back(frame).is_err() {
-            return Err(RingNo::NoMemory);
-        }
+        self.inbox.push_back(frame)?;
         self.accepted.accept(id);
         Ok(())
     }
 
-    fn accept_reply(&mut self, frame: Frame) -> Result<(), RingNo>
+    fn accept_reply(&mut self, frame: Frame) -> Result<(), AllocError>
         ensures ok { OnOk result (self.new ≡ with_frame self.old Fell.AcceptedReply frame) }
-        ensures err { IfErr result (WantsMemory self.old self.new) }
+        ensures err { OnErr result (self.new ≡ self.old) }
     {
         let id = frame.id;
-        if self.inbox.push_back(frame).is_err() {
-            return Err(RingNo::NoMemory);
-        }
+        self.inbox.push_back(frame)?;
         set_await(&mut self.paths, id.path, Await::Arrived(id.seq));
         Ok(())
     }
 
     /// A frame arrives.
-    pub fn receive(&mut self, fell: Fell, frame: Frame) -> Result<(), RingNo>
+    pub fn receive(&mut self, fell: Fell, frame: Frame) -> Result<(), AllocError>
         requires source { fell ≡ Fell.AcceptedRequest → IsSource frame.id }
         ensures ok { OnOk result (self.new ≡ with_frame self.old fell frame) }
-        ensures err { IfErr result (WantsMemory self.old self.new) }
+        ensures err { OnErr result (self.new ≡ self.old) }
     {
         match fell {
             Fell::AcceptedRequest => self.accept_request(frame),
@@ -416,12 +457,43 @@ impl Node {
         }
     }
 
-    /// The node leaves.
-    pub fn leave(&mut self)
-        ensures { self.new ≡ gone self.old }
+    // Power fails: what was to be sent is lost, and the row of Passes that said done is over.
+    fn lose(&mut self, down: u32)
+        ensures { self.new ≡ downed self.old down }
     {
-        self.here = false;
+        self.status = NodeStatus::Away;
+        self.down = down;
+        self.outbox.clear();
+        self.tries = 0;
         self.inbox.clear();
+        self.done_run = 0;
+    }
+
+    /// The node leaves.
+    pub fn leave(&mut self, cause: LeaveCause)
+        ensures { self.new ≡ left_with cause self.old }
+    {
+        match cause {
+            LeaveCause::Ended | LeaveCause::Spent => {
+                self.status = NodeStatus::Gone;
+                self.inbox.clear();
+            }
+            LeaveCause::Down(down) => self.lose(down),
+        }
+    }
+
+    /// The node has another status.
+    pub fn set_status(&mut self, status: NodeStatus)
+        ensures { self.new ≡ with_status self.old status }
+    {
+        self.status = status;
+    }
+
+    /// The node comes in if it asks.
+    pub fn admit(&mut self)
+        ensures { self.new ≡ admitted self.old }
+    {
+        self.status = self.status.admitted();
     }
 }
 

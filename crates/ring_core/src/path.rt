@@ -60,11 +60,11 @@ impl Await {
     }
 }
 
-// For how long a node has had its cause to leave, and for how long it needs it.
+// How much of its cause to leave a node has, and how much it needs.
 #[derive(Clone, Copy, Drop)]
 pub(crate) struct LeaveDue {
     pub held: u64,
-    pub needed: u32,
+    pub needed: u64,
 }
 
 // A path that awaits another number.
@@ -79,10 +79,9 @@ fn other_no(out: u32, seq: u32) -> Option<RingNo>
 }
 
 // It is too early.
-pub(crate) fn due_no(held: u64, needed: u32) -> Option<RingNo>
+pub(crate) fn due_no(held: u64, needed: u64) -> Option<RingNo>
     ensures { result ≡ due_no held needed }
 {
-    let needed = needed as u64;
     if held < needed {
         Some(RingNo::NotDue { held, needed })
     } else {
@@ -108,7 +107,7 @@ impl Await {
         ensures { result ≡ answer_after answer self }
     {
         match self {
-            Await::Out { passes, .. } => due_no(passes, answer),
+            Await::Out { passes, .. } => due_no(passes, answer as u64),
             Await::Arrived(_) => Some(RingNo::Untaken(1)),
             _ => None,
         }

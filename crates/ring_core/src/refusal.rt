@@ -1,5 +1,6 @@
 //! Why a call on the ring is refused.
 ghost use Rattle.std.specs.Prelude.{◌≡◌};
+ghost use Rattle.ring_core.specs.Refusals.{or_no};
 ghost use Rattle.ring_core.specs.declared.refusal.RingNo.TheVariants as refusals;
 
 use std::alloc::AllocError;
@@ -7,7 +8,7 @@ use std::alloc::AllocError;
 /// Why a call on the ring was refused. This project's own.
 #[derive(Clone, Copy, Debug, Drop, PartialEq, Eq)]
 pub enum RingNo {
-    /// The node has left.
+    /// The node has left, or only asks to come in.
     NotMember,
     /// This other node holds the token.
     NotHolder(u8),
@@ -23,7 +24,19 @@ pub enum RingNo {
     PathTaken(u32),
     /// The path awaits this other number, or nothing: 0.
     NotAwaited(u32),
+    /// The node did not leave as its power failed, or has asked already.
+    NotAway,
     NoMemory,
+}
+
+// The first of two reasons.
+pub(crate) fn or_no(first: Option<RingNo>, other: Option<RingNo>) -> Option<RingNo>
+    ensures { result ≡ or_no first other }
+{
+    match first {
+        None => other,
+        Some(why) => Some(why),
+    }
 }
 
 impl From<AllocError> for RingNo {

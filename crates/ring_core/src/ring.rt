@@ -6,7 +6,7 @@ ghost use Rattle.ring_core.specs.Words.{NetPlan};
 ghost use Rattle.ring_core.specs.Machine.{RingIs, addresses, ring_node, path_of, awaited_number};
 ghost use Rattle.ring_core.specs.Machine.{successor};
 ghost use Rattle.ring_core.specs.Refusals.{turn_no, free_no, post_no, send_no, pass_no, leave_no};
-ghost use Rattle.ring_core.specs.Refusals.{give_up_no, word_of, quiet_for, WantsMemory};
+ghost use Rattle.ring_core.specs.Refusals.{give_up_no, join_no, word_of, quiet_for, WantsMemory};
 ghost use Rattle.ring_core.specs.Scratch.{local_result};
 ghost use Rattle.ring_core.specs.Legal.{IsMember, IsPath, IsFrom, IsNextNumber, HasRoom, IsFirst};
 ghost use Rattle.ring_core.specs.Legal.{IsLegalRing};
@@ -18,6 +18,7 @@ use crate::entry::{Heard, LeaveCause, LocalOp, RingEntry};
 use crate::frame::{Frame, FrameKind};
 use crate::history::{make_room, note};
 use crate::refusal::RingNo;
+use crate::status::NodeStatus;
 use mstr_block::{CallId, MstrResult};
 use plant_types::{Copied, List, NetPlan};
 use std::alloc::{AllocError, Global};
@@ -28,7 +29,6 @@ use std::marker::Model;
 /// and the spare: for how many entries memory is kept.
 #[derive(Drop)]
 pub struct Ring {
-    alloc: Global,
     bare: BareRing,
     history: Vec<RingEntry>,
     spare: u32,
@@ -92,6 +92,14 @@ impl Ring {
         self.bare.awaits(self.history.as_slice(), node, path)
     }
 
+    /// Where a node stands toward the ring.
+    pub fn status(&self, node: u8) -> NodeStatus
+        requires { IsMember self.now.net node }
+        ensures { result ≡ (ring_node (ring_of self.now) node).status }
+    {
+        self.bare.status(self.history.as_slice(), node)
+    }
+
     /// For how many Passes in a row every member has been done; 0 where the node has left.
     pub fn quiet(&self, node: u8) -> u64
         requires { IsMember self.now.net node }
@@ -150,7 +158,7 @@ impl Ring {
         if let Some(why) = self.bare.post_no(self.history.as_slice(), node, &frame) {
             return Err(why);
         }
-        let copy = frame.copied(self.alloc)?;
+        let copy = frame.copied(self.bare.alloc)?;
         make_room(&mut self.history, self.spare)?;
         self.bare.post(self.history.as_slice(), node, copy)?;
         note(&mut self.history, RingEntry::Post { node, frame });
@@ -229,7 +237,7 @@ impl Ring {
             return Err(why);
         }
         let result = self.bare.local_result(self.history.as_slice(), node, &op);
-        let copy = result.copied(self.alloc)?;
+        let copy = result.copied(self.bare.alloc)?;
         make_room(&mut self.history, self.spare)?;
         self.bare
             .local(self.history.as_slice(), node, id, &op, &result);
@@ -265,7 +273,7 @@ impl Ring {
         Ok(word)
     }
 
-    /// Passes the token, with the node's global words, to its successor.
+    /// Passes the token, with the node's global words, to its successor; all who ask come in.
     pub fn pass(&mut self, node: u8, done: bool) -> Result<(), RingNo>
         requires { IsMember self.old.net node }
         ensures ok { OnOk result (self.new ≡ passed_on self.old node done) }
@@ -282,8 +290,8 @@ impl Ring {
         Ok(())
     }
 
-    /// The node leaves the ring, and its successor holds the token. Takes one of the spare, and no
-    /// memory: it is never refused for want of it.
+    /// The node leaves the ring, all who ask come in, and its successor holds the token. Takes one
+    /// of the spare, and no memory: it is never refused for want of it.
     pub fn leave(&mut self, node: u8, cause: LeaveCause) -> Result<(), RingNo>
         requires member { IsMember self.old.net node }
         requires spare { 1 ≤ self.old.spare }
@@ -302,6 +310,22 @@ impl Ring {
         Ok(())
     }
 
+    /// A node that left as its power failed, and whose calls were given up, asks to come in again.
+    pub fn join(&mut self, node: u8) -> Result<(), RingNo>
+        requires { IsMember self.old.net node }
+        ensures ok { OnOk result (self.new ≡ with_entry self.old (RingEntry.Join node)) }
+        ensures err { OnErr result (self.new ≡ self.old) }
+        ensures answer { RefusedAs result (join_no (ring_of self.old) node) }
+    {
+        if let Some(why) = self.bare.join_no(self.history.as_slice(), node) {
+            return Err(why);
+        }
+        make_room(&mut self.history, self.spare)?;
+        self.bare.join(self.history.as_slice(), node);
+        note(&mut self.history, RingEntry::Join { node });
+        Ok(())
+    }
+
     /// A ring on which nothing has happened: the least member holds the token.
     pub fn new(alloc: Global, plan: &NetPlan) -> Result<Ring, AllocError>
         requires members { All (λ m. m < addresses) plan.now.members }
@@ -310,7 +334,6 @@ impl Ring {
             (λ ring. ring ≡ record { net = plan.now; history = []; spare = 0 }) }
     {
         Ok(Ring {
-            alloc,
             bare: BareRing::new(alloc, plan)?,
             history: Vec::new(alloc),
             spare: 0,

@@ -10,7 +10,7 @@ use Rattle.ring_core.specs.declared.frame.Frame.{Frame}
 use Rattle.plant_types.specs.declared.net.NetPlan.{NetPlan}
 use Rattle.ring_core.specs.declared.entry.RingEntry.{RingEntry}
 use Rattle.ring_core.specs.declared.entry.RingEntry.TheVariants.{Post, Send, Take, Local, GiveUp}
-use Rattle.ring_core.specs.declared.entry.RingEntry.TheVariants.{Pass, Leave}
+use Rattle.ring_core.specs.declared.entry.RingEntry.TheVariants.{Pass, Leave, Join}
 use Rattle.ring_core.specs.declared.path.Await.{Await}
 use Rattle.ring_core.specs.declared.path.Await.TheVariants.{Nothing, Out, Arrived, Failed}
 use Rattle.ring_core.specs.declared.path.Path.{Path}
@@ -64,6 +64,7 @@ entry-more net h e (Local n id op result) k = k
 entry-more net h e (GiveUp id word) k = k
 entry-more net h e (Pass n done words) k = k
 entry-more net h e (Leave n cause) k = k
+entry-more net h e (Join n) k = k
 
 -- counts below a mark
 pub below-less : (c d mark number : ℕ) → d ≤ c → Below c mark number → Below d mark number

@@ -9,7 +9,7 @@ use Rattle.ring_core.specs.declared.frame.FrameKind.TheVariants.{Request, Reply}
 use Rattle.ring_core.specs.declared.frame.Frame.{Frame}
 use Rattle.ring_core.specs.declared.entry.RingEntry.{RingEntry}
 use Rattle.ring_core.specs.declared.entry.RingEntry.TheVariants.{Post, Send, Take, Local, GiveUp}
-use Rattle.ring_core.specs.declared.entry.RingEntry.TheVariants.{Pass, Leave}
+use Rattle.ring_core.specs.declared.entry.RingEntry.TheVariants.{Pass, Leave, Join}
 use Rattle.ring_core.specs.Words.{is_same_call, asks}
 use Rattle.ring_core.specs.Machine.{ring_after}
 use Rattle.ring_core.specs.Legal.{IsFrom}
@@ -76,6 +76,7 @@ takes-view net h id (Local n own op result) k t = absurd (let no' : false ≡ tr
 takes-view net h id (GiveUp own word) k t = absurd (let no' : false ≡ true = t in cc)
 takes-view net h id (Pass n done words) k t = absurd (let no' : false ≡ true = t in cc)
 takes-view net h id (Leave n cause) k t = absurd (let no' : false ≡ true = t in cc)
+takes-view net h id (Join n) k t = absurd (let no' : false ≡ true = t in cc)
 
 takes-there : (net : NetPlan) (h : List RingEntry) (id : CallId) (v : RingEntry)
     (w : Takes net h id v) → count_by (posts id) h ≤ 1 → (e : RingEntry)
@@ -93,6 +94,7 @@ takes-there net h id v w le (Local n own op result) k t = t
 takes-there net h id v w le (GiveUp own word) k t = t
 takes-there net h id v w le (Pass n done words) k t = t
 takes-there net h id v w le (Leave n cause) k t = t
+takes-there net h id v w le (Join n) k t = t
 
 pub taken-once : TakenOnce
 taken-once net h id is =

@@ -1,10 +1,10 @@
--- Each of the seven entries keeps what boxes, paths and numbers rest on.
+-- Each of the eight entries keeps what boxes, paths and numbers rest on.
 use Rattle.std.proofs.Common.{◌≡◌, ℕ, zero, suc, ◌+◌, ◌<◌, ◌≤◌, ◌==◌, ◌&&◌, nat_le, Bool, true}
 use Rattle.std.proofs.Common.{false, cond, not, List, [], ◌∷◌, ◌++◌, get_or, set, map, drop, length}
 use Rattle.std.proofs.Common.{replicate, count_by, All, Contains, Some, None, refl, sym, ap, ◌∙◌}
 use Rattle.std.proofs.Common.{subst, inl, inr, ⊎_elim, arith, get_or-set_same, append-nil}
 use Rattle.std.proofs.Common.{append_assoc}
-use Rattle.std.proofs.lemmas.List.{length-set, length-replicate}
+use Rattle.std.proofs.lemmas.List.{length-set, length-map, length-replicate}
 use Rattle.std.proofs.lemmas.List.Elements.{Contains-push, All-contains}
 use Rattle.std.proofs.lemmas.Bool.{eqb-true, eq-eqb, ne_eqb, cases_Bool, and_left, and_right}
 use Rattle.std.proofs.lemmas.Bool.{cond_both, leb-false}
@@ -21,8 +21,10 @@ use Rattle.plant_types.specs.declared.net.Fate.{Fate}
 use Rattle.plant_types.specs.declared.net.NetPlan.{NetPlan}
 use Rattle.ring_core.specs.declared.entry.RingEntry.{RingEntry}
 use Rattle.ring_core.specs.declared.entry.RingEntry.TheVariants.{Post, Send, Take, Local, GiveUp}
-use Rattle.ring_core.specs.declared.entry.RingEntry.TheVariants.{Pass, Leave}
+use Rattle.ring_core.specs.declared.entry.RingEntry.TheVariants.{Pass, Leave, Join}
+use Rattle.ring_core.specs.declared.entry.LeaveCause.TheVariants.{Ended, Spent, Down}
 use Rattle.ring_core.specs.Words.{is_same_call, asks, asks_for}
+use Rattle.ring_core.specs.declared.status.NodeStatus.TheVariants.{In, Asking}
 use Rattle.ring_core.specs.declared.path.Await.{Await}
 use Rattle.ring_core.specs.declared.path.Await.TheVariants.{Nothing, Out, Arrived, Failed}
 use Rattle.ring_core.specs.declared.path.Path.{Path}
@@ -32,12 +34,14 @@ use Rattle.ring_core.specs.Machine.{aged_await, is_repeat, is_full, waits_for, f
 use Rattle.ring_core.specs.Machine.{AcceptedIs, accepted_of, accepting, arrives, arrival, arrived}
 use Rattle.ring_core.specs.Machine.{heard_of, fate_at}
 use Rattle.ring_core.specs.Machine.{heard_by, failed, silence_word, sent_head, after, opening}
-use Rattle.ring_core.specs.Machine.{with_members, ring_after}
+use Rattle.ring_core.specs.Machine.{with_members, ring_after, is_here, is_held, with_status}
+use Rattle.ring_core.specs.Machine.{admitted, left_with}
 use Rattle.ring_core.specs.Refusals.{end_word}
 use Rattle.ring_core.specs.Legal.{IsMember, IsFrom, IsNextNumber, IsFirst, IsLawful, IsRingStep}
 use Rattle.ring_core.specs.Legal.{IsRun, IsLegalRing}
 use Rattle.ring_core.proofs.Numbers.{number-own, number-more}
 use Rattle.ring_core.proofs.Runs.{after_all-push}
+use Rattle.ring_core.proofs.Stability.{admitted-part}
 use Rattle.ring_laws.specs.Once.{posts, HasAsked, IsFailWord}
 use Rattle.ring_laws.proofs.Rests.{Each, takes_at, Sending, AskedIfReply, CameTo, IsAskedFor, Below}
 use Rattle.ring_laws.proofs.Rests.{PartsRest, NodeRests, RingRests}
@@ -218,7 +222,7 @@ fail-word false = inr (inl refl)
 word-is : (h : List RingEntry) (n p : ℕ) (r : RingIs) (here : Bool) (a : Await) → IsAskedFor h n p a
     → IsFailWord (end_word r here a)
 word-is h n p r here Nothing k = fail-word false
-word-is h n p r here (Out seq to passes) k = fail-word (here && (ring_node r to).here)
+word-is h n p r here (Out seq to passes) k = fail-word (here && is_here (ring_node r to))
 word-is h n p r here (Arrived seq) k = fail-word false
 word-is h n p r here (Failed seq word) k = k
 
@@ -231,15 +235,16 @@ give_up-step net h id word s r is i =
     let c = ring_node r n in
     let all = quiet-all net h r e (λ x. refl) (λ k x. refl) i in
     let k = awaiting-rests net (h ++ e ∷ []) n c _ _ _ id.path Nothing tt (all n) in
-    let told : word ≡ end_word r c.here (path_of c id.path).awaits = subst
+    let told : word ≡ end_word r (is_here c) (path_of c id.path).awaits = subst
     (λ (x : RingIs). word
-    ≡ end_word x (ring_node x n).here (path_of (ring_node x n) id.path).awaits) (sym is) s.1.1 in
+    ≡ end_word x (is_here (ring_node x n)) (path_of (ring_node x n) id.path).awaits)
+    (sym is) s.1.1 in
     quiet-step net h r (after net r e) e (length-set _ _ _)
     (each-put (NodeRests net (h ++ e ∷ [])) r.nodes (fresh false) n _ all
     (out-rests net _ n _ _ c.outbox _ c.inbox
     (each-filter _ (λ f. not (asks_for id f)) c.outbox (all n).sending) k))
     (subst IsFailWord (sym told)
-    (word-is h n id.path r c.here (path_of c id.path).awaits ((i.nodes n).awaits id.path))) i
+    (word-is h n id.path r (is_here c) (path_of c id.path).awaits ((i.nodes n).awaits id.path))) i
 
 -- Local
 local-step : (net : NetPlan) (h : List RingEntry) (n : ℕ) (id : CallId) (op : LocalOp)
@@ -248,6 +253,13 @@ local-step : (net : NetPlan) (h : List RingEntry) (n : ℕ) (id : CallId) (op : 
 local-step net h n id op result r i =
     let e : RingEntry = Local n id op result in
     quiet-step net h r r e refl (quiet-all net h r e (λ x. refl) (λ k x. refl) i) tt i
+
+-- all who ask come in: boxes, paths and numbers stay
+handed-rests : (net : NetPlan) (h : List RingEntry) (nodes : List NodeIs)
+    → ((k : ℕ) → NodeRests net h k (part_of nodes k)) → (k : ℕ)
+    → NodeRests net h k (part_of (map admitted nodes) k)
+handed-rests net h nodes all k =
+    subst (NodeRests net h k) (sym (admitted-part nodes k)) (all k)
 
 -- Pass
 aged-at : (ps : List Path) (p : ℕ) → get_or (map aged ps) p no_path ≡ aged (get_or ps p no_path)
@@ -286,20 +298,42 @@ pass-step : (net : NetPlan) (h : List RingEntry) (n : ℕ) (done : Bool) (words 
 pass-step net h n done words r i =
     let e : RingEntry = Pass n done words in
     let all = quiet-all net h r e (λ x. refl) (λ k x. refl) i in
-    quiet-step net h r (after net r e) e (length-set _ _ _)
-    (each-put (NodeRests net (h ++ e ∷ [])) r.nodes (fresh false) n _ all
-    (aged-rests net _ n _ _ _ _ (all n))) tt i
+    quiet-step net h r (after net r e) e (length-map _ admitted ∙ length-set _ _ _)
+    (handed-rests net _ _ (each-put (NodeRests net (h ++ e ∷ [])) r.nodes (fresh false) n _ all
+    (aged-rests net _ n _ _ _ _ (all n)))) tt i
 
 -- Leave
+left-rests : (net : NetPlan) (h : List RingEntry) (n : ℕ) (cause : LeaveCause) (c : NodeIs)
+    → NodeRests net h n c → NodeRests net h n (left_with cause c)
+left-rests net h n Ended c i = empty-rests net h n _ _ _ _ i
+left-rests net h n Spent c i = empty-rests net h n _ _ _ _ i
+left-rests net h n (Down number) c i =
+    out-rests net h n _ _ c.outbox [] [] tt (empty-rests net h n _ _ _ _ i)
+
 leave-step : (net : NetPlan) (h : List RingEntry) (n : ℕ) (cause : LeaveCause) (r : RingIs)
     → RingRests net h r → RingRests net (h ++ Leave n cause ∷ [])
     (after net r (Leave n cause))
 leave-step net h n cause r i =
     let e : RingEntry = Leave n cause in
     let all = quiet-all net h r e (λ x. refl) (λ k x. refl) i in
-    quiet-step net h r (after net r e) e (length-set _ _ _)
-    (each-put (NodeRests net (h ++ e ∷ [])) r.nodes (fresh false) n _ all
-    (empty-rests net _ n _ _ _ _ (all n))) tt i
+    quiet-step net h r (after net r e) e (length-map _ admitted ∙ length-set _ _ _)
+    (handed-rests net _ _ (each-put (NodeRests net (h ++ e ∷ [])) r.nodes (fresh false) n _ all
+    (left-rests net _ n cause (ring_node r n) (all n)))) tt i
+
+-- Join
+join-step : (net : NetPlan) (h : List RingEntry) (n : ℕ) (r : RingIs) → RingRests net h r
+    → RingRests net (h ++ Join n ∷ []) (after net r (Join n))
+join-step net h n r i =
+    let e : RingEntry = Join n in
+    let all = quiet-all net h r e (λ x. refl) (λ k x. refl) i in
+    let put : (c : NodeIs) → NodeRests net (h ++ e ∷ []) n c → (k : ℕ)
+    → NodeRests net (h ++ e ∷ []) k (part_of (set r.nodes n c) k) =
+    λ c it. each-put (NodeRests net (h ++ e ∷ [])) r.nodes (fresh false) n c all it in
+    cond_both (is_held r) _ _ (RingRests net (h ++ e ∷ []))
+    (λ _. quiet-step net h r _ e (length-set _ _ _)
+    (put (with_status (ring_node r n) Asking) (all n)) tt i)
+    (λ _. quiet-step net h r _ e (length-set _ _ _)
+    (put (with_status (ring_node r n) In) (all n)) tt i)
 
 -- Send: the target
 accepted-rests : (net : NetPlan) (h : List RingEntry) (m : ℕ) (c : NodeIs) (f : Frame)
@@ -463,7 +497,7 @@ send-step net h n heard low' r i =
     quiet-step net h r (after net r e) e (length-sent net r n (ring_node r n).outbox)
     (sent-rests net (h ++ e ∷ []) r n (ring_node r n).outbox low' (all n).sending all) tt i
 
--- all seven, and lists of them
+-- all eight, and lists of them
 step-rests : (net : NetPlan) (h : List RingEntry) (e : RingEntry) → AreLow net → IsRingStep net h e
     → (r : RingIs) → r ≡ ring_after net h → RingRests net h r
     → RingRests net (h ++ e ∷ []) (after net r e)
@@ -474,6 +508,7 @@ step-rests net h (Local n id op result) all s r is i = local-step net h n id op 
 step-rests net h (GiveUp id word) all s r is i = give_up-step net h id word s r is i
 step-rests net h (Pass n done words) all s r is i = pass-step net h n done words r i
 step-rests net h (Leave n cause) all s r is i = leave-step net h n cause r i
+step-rests net h (Join n) all s r is i = join-step net h n r i
 
 run-rests : (net : NetPlan) (h es : List RingEntry) → AreLow net → IsRun net h es
     → RingRests net h (ring_after net h) → RingRests net (h ++ es)

@@ -2,6 +2,8 @@
 #![tactic(auto)]
 
 #[cfg(test)]
+mod coming_back;
+#[cfg(test)]
 mod fates;
 #[cfg(test)]
 mod give_ups;
@@ -9,6 +11,8 @@ mod give_ups;
 mod inboxes;
 #[cfg(test)]
 mod leaving;
+#[cfg(test)]
+mod losing_power;
 #[cfg(test)]
 mod refusals;
 #[cfg(test)]

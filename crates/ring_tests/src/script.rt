@@ -12,6 +12,9 @@
 //! | `2 gives_up 1 3` | the call of path 1 with number 3 is given up |
 //! | `2 passes`, `2 passes_done` | the token is passed, with more to do or with nothing |
 //! | `2 ends`, `2 is_spent` | the node leaves: all are done, or its Passes are used up |
+//! | `2 is_down 3` | the node leaves as its power failed, for the third time |
+//! | `2 joins` | the node asks to come in again |
+//! | `2 stands` | where the node stands toward the ring |
 //! | `2 puts 7 8` | the node puts two global words |
 //! | `5 hears 2 1` | the answer to a GetGlobal of one word of node 2 |
 //! | `5 counts 2 1 3` | the node's statistics, for the call 2 1 3 |
@@ -22,7 +25,8 @@ ghost use Rattle.ring_core.specs.Legal.{HasRoom};
 use mstr_block::{CallId, MstrResult};
 use plant_types::{Fate, List, NetPlan, Pdu, Words};
 use ring_core::{
-    Frame, FrameKind, Heard, LeaveCause, LocalOp, Ring, RingNo, is_from, is_net, is_path,
+    Frame, FrameKind, Heard, LeaveCause, LocalOp, NodeStatus, Ring, RingNo, is_from, is_net,
+    is_path,
 };
 use std::alloc::{AllocError, Global};
 use std::process::Abort;
@@ -51,6 +55,7 @@ enum Told {
     InboxFull,
     OtherWord(u16),
     Sees { holder: u8, next: u8 },
+    Stands(NodeStatus),
     No(RingNo),
 }
 
@@ -207,6 +212,18 @@ fn leave(rt: &impl Abort, ring: &mut Ring, node: u8, cause: LeaveCause) -> Told 
     done(ring.leave(node, cause))
 }
 
+fn join(rt: &impl Abort, ring: &mut Ring, node: u8) -> Told {
+    let can = ring.is_member(node);
+    assert!(rt; can);
+    done(ring.join(node))
+}
+
+fn stands(rt: &impl Abort, ring: &Ring, node: u8) -> Told {
+    let can = ring.is_member(node);
+    assert!(rt; can);
+    Told::Stands(ring.status(node))
+}
+
 // A local call; at most 32 words are put.
 fn local(
     rt: &impl Abort,
@@ -288,6 +305,9 @@ fn called(
         "passes_done" => pass(rt, ring, node, true),
         "ends" => leave(rt, ring, node, LeaveCause::Ended),
         "is_spent" => leave(rt, ring, node, LeaveCause::Spent),
+        "is_down" => leave(rt, ring, node, LeaveCause::Down(first)),
+        "joins" => join(rt, ring, node),
+        "stands" => stands(rt, ring, node),
         _ => seen(ring, node),
     };
     Ok(told)

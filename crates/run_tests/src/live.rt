@@ -1,13 +1,13 @@
 //! A gate over a ring, and the plant READ2 in threads.
 ghost use Rattle.std.specs.Prelude.{◌≡◌, ◌∷◌, [], IfOk};
 
-use crate::read2::{AS_IT_IS, read2};
+use crate::read2::{AS_IT_IS, Change, read2};
 use controller_core::Entry;
 use crossbeam_utils::Backoff;
 use joint_history::Joint;
 use live_run::{Meet, NoMeet, RingCell, live};
 use mstr_block::MstrResult;
-use plant_types::{Fate, List, NetPlan};
+use plant_types::{Fate, List, NetPlan, PowerRow};
 use ring_core::{LeaveCause, Ring, RingEntry};
 use std::alloc::{AllocError, Global};
 use std::sync::Wait;
@@ -56,13 +56,22 @@ fn a_pass_behind_a_gate(rt: HostRuntime) -> Result<(), AllocError> {
     Ok(())
 }
 
+fn ran_as<M: Meet + Sync, R: Threads + Wait + Clock + Sync>(
+    rt: &R,
+    alloc: Global,
+    change: Change,
+    meet: &M,
+) -> Result<Joint, AllocError> {
+    let plant = read2(alloc, change)?;
+    live(rt, alloc, &plant, 2, meet)
+}
+
 fn ran<M: Meet + Sync, R: Threads + Wait + Clock + Sync>(
     rt: &R,
     alloc: Global,
     meet: &M,
 ) -> Result<Joint, AllocError> {
-    let plant = read2(alloc, AS_IT_IS)?;
-    live(rt, alloc, &plant, 2, meet)
+    ran_as(rt, alloc, AS_IT_IS, meet)
 }
 
 /// A letter for each event of the scan.
@@ -269,6 +278,7 @@ fn maker(entry: &RingEntry) -> u8 {
         RingEntry::Post { node, .. } | RingEntry::Send { node, .. } => *node,
         RingEntry::Take { node, .. } | RingEntry::Local { node, .. } => *node,
         RingEntry::Pass { node, .. } | RingEntry::Leave { node, .. } => *node,
+        RingEntry::Join { node } => *node,
         RingEntry::GiveUp { id, .. } => id.node,
     }
 }
@@ -309,5 +319,65 @@ fn each_solve_and_each_entry_is_told(rt: HostRuntime) -> Result<(), AllocError> 
     assert!(rt; made == [meet.two.counts(), meet.others.counts()]);
     let [solves, entries] = meet.two.counts();
     assert!(rt; solves == 2 && entries > 2);
+    Ok(())
+}
+
+/// Power of node 5 fails as its first scan begins.
+const FIRST: &[PowerRow] = &[PowerRow {
+    scan: 1,
+    row: 0,
+    dark: 0,
+}];
+
+/// It fails as its second scan, the last one, begins.
+const LAST: &[PowerRow] = &[PowerRow {
+    scan: 2,
+    row: 0,
+    dark: 0,
+}];
+
+/// How often a node asked to come in again.
+fn joins(ring: &[RingEntry], of: u8) -> u64 {
+    let mut count = 0u64;
+    for entry in ring {
+        if let RingEntry::Join { node } = entry {
+            count = count.saturating_add(u64::from(*node == of));
+        }
+    }
+    count
+}
+
+/// The events of all scans of a live run, and how often node 5 left as power failed, asked to come
+/// in again, and left as it had come to its end.
+fn ran_dark<R: Threads + Wait + Clock + Sync>(
+    rt: &R,
+    alloc: Global,
+    power: &'static [PowerRow],
+) -> Result<(Vec<u8>, [u64; 3]), AllocError> {
+    let change = Change { power, ..AS_IT_IS };
+    let joint = ran_as(rt, alloc, change, &NoMeet)?;
+    let ring = joint.ring.as_slice();
+    let events = scans(alloc, &joint)?;
+    let counts = [
+        leaves(ring, 5, LeaveCause::Down(1)),
+        joins(ring, 5),
+        leaves(ring, 5, LeaveCause::Ended),
+    ];
+    Ok((events, counts))
+}
+
+#[test]
+fn a_node_comes_back(rt: HostRuntime) -> Result<(), AllocError> {
+    let (events, counts) = ran_dark(&rt, rt.alloc(), FIRST)?;
+    assert!(rt; events.as_slice() == b"BSEBSE BXBSE ".as_slice());
+    assert!(rt; counts == [1, 1, 1]);
+    Ok(())
+}
+
+#[test]
+fn a_node_stays_away(rt: HostRuntime) -> Result<(), AllocError> {
+    let (events, counts) = ran_dark(&rt, rt.alloc(), LAST)?;
+    assert!(rt; events.as_slice() == b"BSEBSE BSEBX ".as_slice());
+    assert!(rt; counts == [1, 0, 0]);
     Ok(())
 }

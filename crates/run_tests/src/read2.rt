@@ -2,12 +2,12 @@
 ghost use Rattle.std.specs.Prelude.{◌≡◌, ◌≤◌, length, IfOk, IfSome, ◌∷◌, [], map, All};
 ghost use Rattle.std.specs.List.{AllByRecursion};
 ghost use Rattle.traffic_cop.specs.Rows.{IsRunnablePlan};
-ghost use Rattle.plant_types.specs.Plans.{IsNetPlan, KeepsPower, PassesTests};
+ghost use Rattle.plant_types.specs.Plans.{IsNetPlan, PassesTests};
 ghost use Rattle.joint_history.specs.Runnable.{CanRunPlant};
 
 use plant_types::{
     Cell, ControllerPlan, Element, Fate, List, MathOp, NetPlan, Network, Operand, OrderRow, Plant,
-    Ref, RefKind, Segment, checks_are_exact, is_net_plan,
+    PowerRow, Ref, RefKind, Segment, checks_are_exact, is_net_plan,
 };
 use std::alloc::{AllocError, Global};
 
@@ -19,6 +19,8 @@ pub struct Change {
     pub holds: u32,
     /// The node that is asked.
     pub to: u16,
+    /// The power failures of node 5.
+    pub power: &'static [PowerRow],
 }
 
 pub const AS_IT_IS: Change = Change {
@@ -26,6 +28,7 @@ pub const AS_IT_IS: Change = Change {
     rotations: 2,
     holds: 100_000,
     to: 5,
+    power: &[],
 };
 
 /// The segment is solved, whatever is on.
@@ -138,10 +141,8 @@ fn checked(plan: ControllerPlan) -> Option<ControllerPlan>
     requires rows { AllByRecursion (λ row. row ≡ ROW) plan.orders }
     requires few { length plan.orders ≤ 3 }
     requires segment { length plan.segments ≡ 1 }
-    requires power { KeepsPower plan }
     ensures runs { IfSome result IsRunnablePlan }
     ensures passes { IfSome result PassesTests }
-    ensures power { IfSome result KeepsPower }
     ensures node { IfSome result (λ checked. checked.node ≡ plan.node) }
 {
     checks_are_exact();
@@ -156,10 +157,10 @@ fn controller(
     node: u8,
     registers: u16,
     networks: List<Network>,
+    power: &[PowerRow],
 ) -> Result<Option<ControllerPlan>, AllocError>
     ensures runs { IfOk result (λ plan. IfSome plan IsRunnablePlan) }
     ensures passes { IfOk result (λ plan. IfSome plan PassesTests) }
-    ensures power { IfOk result (λ plan. IfSome plan KeepsPower) }
     ensures node { IfOk result (λ plan. IfSome plan (λ plan. plan.node ≡ node)) }
 {
     Ok(checked(ControllerPlan {
@@ -170,7 +171,7 @@ fn controller(
         registers,
         panel: List::new(alloc),
         orders: one_row(alloc)?,
-        power: List::new(alloc),
+        power: List::from_vec(Vec::from_slice(alloc, power)?),
         drops: List::new(alloc),
         segments: one_segment(alloc, networks)?,
     }))
@@ -179,11 +180,9 @@ fn controller(
 fn one_plan(alloc: Global, plan: Option<ControllerPlan>) -> Result<List<ControllerPlan>, AllocError>
     requires runs { IfSome plan IsRunnablePlan }
     requires passes { IfSome plan PassesTests }
-    requires power { IfSome plan KeepsPower }
     requires node { IfSome plan (λ plan. plan.node ≡ 2) }
     ensures runs { IfOk result (All IsRunnablePlan) }
     ensures passes { IfOk result (All PassesTests) }
-    ensures power { IfOk result (All KeepsPower) }
     ensures nodes { IfOk result (λ plans. map (λ plan. plan.node) plans ≡ 2 ∷ []) }
 {
     let mut plans = List::new(alloc);
@@ -200,15 +199,12 @@ fn two_plans(
 ) -> Result<List<ControllerPlan>, AllocError>
     requires all_run { All IsRunnablePlan plans }
     requires all_pass { All PassesTests plans }
-    requires all_keep { All KeepsPower plans }
     requires nodes { map (λ plan. plan.node) plans ≡ 2 ∷ [] }
     requires runs { IfSome plan IsRunnablePlan }
     requires passes { IfSome plan PassesTests }
-    requires power { IfSome plan KeepsPower }
     requires node { IfSome plan (λ plan. plan.node ≡ 5) }
     ensures runs { IfOk result (All IsRunnablePlan) }
     ensures passes { IfOk result (All PassesTests) }
-    ensures power { IfOk result (All KeepsPower) }
     ensures nodes { IfOk result (λ plans. map (λ plan. plan.node) plans ≡ 2 ∷ 5 ∷ []) }
 {
     match plan {
@@ -218,15 +214,14 @@ fn two_plans(
     Ok(plans)
 }
 
-fn controllers(alloc: Global, to: u16) -> Result<List<ControllerPlan>, AllocError>
+fn controllers(alloc: Global, change: Change) -> Result<List<ControllerPlan>, AllocError>
     ensures runs { IfOk result (All IsRunnablePlan) }
     ensures passes { IfOk result (All PassesTests) }
-    ensures power { IfOk result (All KeepsPower) }
     ensures nodes { IfOk result (λ plans. map (λ plan. plan.node) plans ≡ 2 ∷ 5 ∷ []) }
 {
-    let two = controller(alloc, 2, 20, asking(alloc, to)?)?;
+    let two = controller(alloc, 2, 20, asking(alloc, change.to)?, &[])?;
     let plans = one_plan(alloc, two)?;
-    let five = controller(alloc, 5, 4, asked(alloc)?)?;
+    let five = controller(alloc, 5, 4, asked(alloc)?, change.power)?;
     two_plans(plans, five)
 }
 
@@ -253,7 +248,6 @@ fn plant_of(alloc: Global, net: NetPlan, controllers: List<ControllerPlan>) -> P
     requires members { net.members ≡ 2 ∷ 5 ∷ [] }
     requires runs { All IsRunnablePlan controllers }
     requires passes { All PassesTests controllers }
-    requires power { All KeepsPower controllers }
     requires nodes { map (λ plan. plan.node) controllers ≡ 2 ∷ 5 ∷ [] }
     ensures { CanRunPlant result }
 {
@@ -270,6 +264,6 @@ pub fn read2(alloc: Global, change: Change) -> Result<Plant, AllocError>
     ensures { IfOk result CanRunPlant }
 {
     let net = net(alloc, change)?;
-    let controllers = controllers(alloc, change.to)?;
+    let controllers = controllers(alloc, change)?;
     Ok(plant_of(alloc, net, controllers))
 }

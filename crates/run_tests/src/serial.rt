@@ -6,7 +6,7 @@ use crate::read2::{AS_IT_IS, Change, read2};
 use controller_core::Entry;
 use joint_history::Joint;
 use mstr_block::MstrResult;
-use plant_types::Fate;
+use plant_types::{Fate, PowerRow};
 use ring_core::{FrameKind, Heard, LeaveCause, RingEntry};
 use serial_run::{Turn, run, turns};
 use std::alloc::{AllocError, Global};
@@ -50,7 +50,9 @@ fn ring_letter(entry: &RingEntry) -> (u8, u8) {
         RingEntry::Leave { node, cause } => match cause {
             LeaveCause::Ended => (*node, b'E'),
             LeaveCause::Spent => (*node, b'X'),
+            LeaveCause::Down(_) => (*node, b'D'),
         },
+        RingEntry::Join { node } => (*node, b'J'),
     }
 }
 
@@ -219,5 +221,48 @@ fn a_run_brings_words_loses_frames_and_spends_passes(rt: HostRuntime) -> Result<
         let ran = ran_letters(rt.alloc(), change, scans)?;
         assert!(rt; ran.as_slice() == text);
     }
+    Ok(())
+}
+
+/// Power fails right as the first scan begins.
+const AT_ONCE: &[PowerRow] = &[PowerRow {
+    scan: 1,
+    row: 0,
+    dark: 0,
+}];
+
+/// Power fails right as the second scan begins, and the third is dark.
+const FOR_TWO: &[PowerRow] = &[PowerRow {
+    scan: 2,
+    row: 0,
+    dark: 1,
+}];
+
+#[test]
+fn a_request_is_lost_as_power_fails(rt: HostRuntime) -> Result<(), AllocError> {
+    let change = Change {
+        power: AT_ONCE,
+        ..AS_IT_IS
+    };
+    let text = ran_letters(rt.alloc(), change, 2)?;
+    let all = text.as_slice();
+    assert!(rt; all.starts_with(b"BSELBSEf BXBSE 2Q2A2n5D2n5J2n5d2n5d2n"));
+    assert!(rt; all.ends_with(b"5d2n5d2G2d5E2E"));
+    assert!(rt; all.len() == 15 + 2 * 46);
+    Ok(())
+}
+
+#[test]
+fn a_node_comes_back_where_power_does(rt: HostRuntime) -> Result<(), AllocError> {
+    let change = Change {
+        power: FOR_TWO,
+        ..AS_IT_IS
+    };
+    let text = ran_letters(rt.alloc(), change, 4)?;
+    let controllers = b"BSELFBSEBSELfBSE BSEPBXKBSE ";
+    let ring = b"2Q2A2n5T5R5A5n2T2n5n2n5D2n2Q2S2S2S2G2n2n5J2d5d2E5E";
+    assert!(rt; text.as_slice().starts_with(controllers));
+    assert!(rt; text.as_slice().ends_with(ring));
+    assert!(rt; text.as_slice().len() == controllers.len() + ring.len());
     Ok(())
 }

@@ -1,12 +1,15 @@
--- Behind a hold of the token, and behind a visit, no call is uncollected.
-use Rattle.std.proofs.Common.{◌≡◌, ℕ, Bool, true, false, List, [], ◌∷◌, ◌++◌, refl}
-use Rattle.std.proofs.Common.{sym, ap, subst, ◌∙◌, append-nil, append_assoc, filter_map}
+-- Behind a visit no call is uncollected.
+use Rattle.std.proofs.Common.{◌≡◌, ◌≢◌, ℕ, Bool, true, false, List, [], ◌∷◌, ◌++◌, refl}
+use Rattle.std.proofs.Common.{sym, ap, subst, ◌∙◌, append-nil, append_assoc}
 use Rattle.std.specs.List.{AllByRecursion}
 use Rattle.plant_types.specs.declared.net.NetPlan.{NetPlan}
 use Rattle.mstr_block.specs.Table.{has_untaken}
 use Rattle.ring_core.specs.declared.entry.RingEntry.{RingEntry}
-use Rattle.ring_core.specs.declared.entry.RingEntry.TheVariants.{Post, Send, Take, Local, GiveUp}
-use Rattle.ring_core.specs.declared.entry.RingEntry.TheVariants.{Pass, Leave}
+use Rattle.ring_core.specs.declared.status.NodeStatus.TheVariants.{Asking}
+use Rattle.ring_core.specs.Stability.{IsLeaveOrJoin}
+use Rattle.ring_core.proofs.Stability.{membership-stays}
+use Rattle.tied_lists.specs.Waits.{status_at}
+use Rattle.tied_lists.proofs.Turns.{no-leave-or-join}
 use Rattle.controller_core.specs.declared.fixed.Fixed.{Fixed}
 use Rattle.controller_core.specs.declared.call.Call.{Call}
 use Rattle.controller_core.specs.declared.call.CallKind.{CallKind}
@@ -20,12 +23,10 @@ use Rattle.controller_core.specs.Laws.{CallsFollow}
 use Rattle.controller_core.specs.Replay.{ControllerState, start, table_of}
 use Rattle.controller_core.proofs.Keeping.{replay_more}
 use Rattle.mstr_block.specs.declared.call.CallId.{CallId}
-use Rattle.tied_lists.specs.Own.{Grew, WentOn}
-use Rattle.comm_port.specs.HoldTurn.{Collects, CollectsIf, HoldsTurn, IsEnded, IsGivenUp, IsMade}
-use Rattle.comm_port.specs.HoldTurn.{EndedAs, MadeAs, VisitsEnd, finish_of}
+use Rattle.tied_lists.specs.Own.{Grew}
+use Rattle.comm_port.specs.HoldTurn.{Collects, CollectsIf, EndedAs, IsEnded, VisitsEnd}
 use Rattle.comm_port.specs.Order.{IsFinish}
 use Rattle.comm_port.specs.Parts.{InOrder}
-use Rattle.comm_port.proofs.Asked.{both-asked}
 use Rattle.joint_history.specs.Reading.{controller_at, has_started_at, is_ours}
 
 each-both : (xs ys : List Entry) → AllByRecursion IsFinish xs → AllByRecursion IsFinish ys
@@ -43,12 +44,6 @@ in-order Due (x ∷ xs) noted done each due =
     subst (AllByRecursion IsFinish) (sym due.4)
     (each-both due.0 due.1 (each x due.0 due.2 due.6) (in-order Due xs due.1 due.3 each due.7))
 
-made-each : (n : ℕ) (kind : CallKind) (id : CallId) (noted : List Entry) (done : List RingEntry)
-    → MadeAs kind n id noted done → AllByRecursion IsFinish noted
-made-each n (kinds.Net to pdu) id noted done made = subst (AllByRecursion IsFinish) (sym made.0) tt
-made-each n (kinds.Local op) id noted done made = subst (AllByRecursion IsFinish) (sym made.1)
-    (tt, tt)
-
 ended-each : (n : ℕ) (kind : CallKind) (id : CallId) (noted : List Entry) (done : List RingEntry)
     → EndedAs kind n id noted done → AllByRecursion IsFinish noted
 ended-each n (kinds.Net to pdu) id noted done made = subst (AllByRecursion IsFinish) (sym made.1)
@@ -56,19 +51,48 @@ ended-each n (kinds.Net to pdu) id noted done made = subst (AllByRecursion IsFin
 ended-each n (kinds.Local op) id noted done made = subst (AllByRecursion IsFinish) (sym made.1)
     (tt, tt)
 
-given-each : (id : CallId) (noted : List Entry) (done : List RingEntry) → IsGivenUp id noted done
-    → AllByRecursion IsFinish noted
-given-each id noted done given = subst (AllByRecursion IsFinish) (sym given.1) (tt, tt)
+-- a call that ends at once adds no Leave and no Join
+ended-stays : (m n : ℕ) (kind : CallKind) (id : CallId) (noted : List Entry)
+    (done : List RingEntry) → EndedAs kind n id noted done
+    → AllByRecursion (λ (e : RingEntry). IsLeaveOrJoin m e → ⊥) done
+ended-stays m n (kinds.Net to pdu) id noted done k =
+    subst (AllByRecursion (λ (e : RingEntry). IsLeaveOrJoin m e → ⊥)) (sym k.2)
+    ((λ is. is), ((λ is. is), tt))
+ended-stays m n (kinds.Local op) id noted done k =
+    subst (AllByRecursion (λ (e : RingEntry). IsLeaveOrJoin m e → ⊥)) (sym k.2) ((λ is. is), tt)
 
-sent-each : (done : List RingEntry) → AllByRecursion IsFinish (filter_map finish_of done)
-sent-each [] = tt
-sent-each (GiveUp id word ∷ done) = (tt, sent-each done)
-sent-each (Post n f ∷ done) = sent-each done
-sent-each (Send n heard ∷ done) = sent-each done
-sent-each (Take n f ∷ done) = sent-each done
-sent-each (Local n id op result ∷ done) = sent-each done
-sent-each (Pass n d words ∷ done) = sent-each done
-sent-each (Leave n cause ∷ done) = sent-each done
+ring-both : (P : RingEntry → Type 0) (xs ys : List RingEntry) → AllByRecursion P xs
+    → AllByRecursion P ys → AllByRecursion P (xs ++ ys)
+ring-both P [] ys a b = b
+ring-both P (x ∷ xs) ys a b = (a.0, ring-both P xs ys a.1 b)
+
+order-stays : (m n : ℕ) (calls : List Call) (noted : List Entry) (done : List RingEntry)
+    → InOrder (IsEnded n) calls noted done
+    → AllByRecursion (λ (e : RingEntry). IsLeaveOrJoin m e → ⊥) done
+order-stays m n [] noted done due =
+    subst (AllByRecursion (λ (e : RingEntry). IsLeaveOrJoin m e → ⊥)) (sym due.1) tt
+order-stays m n (x ∷ xs) noted done due =
+    subst (AllByRecursion (λ (e : RingEntry). IsLeaveOrJoin m e → ⊥)) (sym due.5)
+    (ring-both (λ (e : RingEntry). IsLeaveOrJoin m e → ⊥) due.2 due.3
+    (ended-stays m n x.kind x.id due.0 due.2 due.6) (order-stays m n xs due.1 due.3 due.7))
+
+collects-stays : (b : Bool) (m n : ℕ) (noted : List Entry) (done : List RingEntry)
+    → CollectsIf b (IsEnded n) noted done
+    → AllByRecursion (λ (e : RingEntry). IsLeaveOrJoin m e → ⊥) done
+collects-stays true m n noted done due = order-stays m n due.0 due.1 done due.3
+collects-stays false m n noted done due =
+    subst (AllByRecursion (λ (e : RingEntry). IsLeaveOrJoin m e → ⊥)) (sym due.1) tt
+
+-- a visit leaves the node where it stands
+pub visit-status : (fixed : Fixed) (net : NetPlan) (n : ℕ) (known new : List Entry)
+    (ring new_ring : List RingEntry) → VisitsEnd true true fixed net n known new ring new_ring
+    → status_at net ring n ≢ Asking → status_at net new_ring n ≡ status_at net ring n
+visit-status fixed net n known new ring new_ring v asks =
+    let g = v.calls.goes.node in
+    ap (λ (l : List RingEntry). status_at net l n) g.after_is
+    ∙ membership-stays net ring g.more n asks (no-leave-or-join n g.more
+    (subst (AllByRecursion (λ (e : RingEntry). IsLeaveOrJoin n e → ⊥)) (sym g.ours_are)
+    (collects-stays _ n n v.calls.goes.noted v.calls.goes.done v.calls.goes.due)))
 
 module _ (laws : CallsFollow) (fixed : Fixed) where
   quiet-finishes : (h xs : List Entry) → AllByRecursion IsFinish xs
@@ -101,19 +125,6 @@ module _ (laws : CallsFollow) (fixed : Fixed) where
   grew-on : (a noted b : List Entry) → Grew true is_ours a noted b → b ≡ a ++ noted
   grew-on a noted b g = g.after_is ∙ ap (λ l. a ++ l) (g.all_alone refl)
 
-  finishes-on : (a noted b : List Entry) → Grew true is_ours a noted b
-      → AllByRecursion IsFinish noted → has_started_at fixed a ≡ false
-      → has_started_at fixed b ≡ false
-  finishes-on a noted b g all none = ap (has_started_at fixed) (grew-on a noted b g)
-      ∙ (quiet-finishes a noted all ∙ none)
-
-  asks-on : (a b : List Entry) → WentOn true is_ours a [] b → has_started_at fixed a ≡ false
-      → has_started_at fixed b ≡ false
-  asks-on a b w none =
-      ap (has_started_at fixed) (w.after_is
-      ∙ (append-nil (a ++ w.between) ∙ (ap (λ l. a ++ l) (w.none_alone refl) ∙ append-nil a)))
-      ∙ none
-
   collected-by : (Due : Call → List Entry → List RingEntry → Type 0)
       → ((x : Call) (n : List Entry) (d : List RingEntry) → Due x n d → AllByRecursion IsFinish n)
       → (started : Bool) (asked noted new : List Entry) (done : List RingEntry)
@@ -138,25 +149,6 @@ module _ (laws : CallsFollow) (fixed : Fixed) where
   collects-end alone n Due each known new ring new_ring c =
       collected-by Due each (has_started_at fixed c.asked) c.asked c.goes.noted new c.goes.done refl
       c.goes.due c.goes.station
-
-  pub turn-collects : (alone : Bool) (net : NetPlan) (n : ℕ) (budget : Bool)
-      (known new : List Entry) (ring new_ring : List RingEntry) (left : Bool)
-      → HoldsTurn true alone fixed net n budget known new ring new_ring left
-      → has_started_at fixed new ≡ false
-  turn-collects alone net n budget known new ring new_ring left t =
-      let called = collects-end alone n (IsMade n) (λ x a d. made-each n x.kind x.id a d)
-      t.served_known t.called_known t.served_ring t.called_ring t.calls in
-      let sent = finishes-on t.called_known (filter_map finish_of t.sends.frames.done)
-      t.sent_known
-      t.sends.finishes (sent-each t.sends.frames.done) called in
-      let given = finishes-on t.sent_known t.gives_up.noted t.given_known t.gives_up.station
-      (in-order IsGivenUp _ t.gives_up.noted t.gives_up.done given-each t.gives_up.due) sent in
-      let both = both-asked t.ends.asked in
-      let asked = asks-on both.at_end t.ends.asked_known both.then_on
-      (asks-on t.given_known both.at_end both.first given) in
-      finishes-on t.ends.asked_known t.ends.gives_up.noted new t.ends.gives_up.station
-      (in-order IsGivenUp _ t.ends.gives_up.noted t.ends.gives_up.done given-each
-      t.ends.gives_up.due) asked
 
   pub visit-collects : (alone : Bool) (net : NetPlan) (n : ℕ) (known new : List Entry)
       (ring new_ring : List RingEntry)

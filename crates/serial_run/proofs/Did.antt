@@ -1,47 +1,52 @@
 -- What each kind of turn makes of all stations.
-use Rattle.std.proofs.Common.{◌≡◌, ℕ, ◌≤◌, ◌==◌, Bool, true, false, List}
-use Rattle.std.proofs.Common.{map, set, Option, Some, None, refl, sym, ap, subst, ◌∙◌, arith}
-use Rattle.std.proofs.Common.{⊎_elim}
-use Rattle.std.specs.Prelude.{not, ◌&&◌}
+use Rattle.std.proofs.Common.{◌≡◌, ℕ, zero, suc, ◌<◌, ◌≤◌, ◌==◌, Bool, true, false, cond, List, []}
+use Rattle.std.proofs.Common.{◌∷◌, ◌++◌, filter, map, set, Option, Some, None, All, refl, sym, ap}
+use Rattle.std.proofs.Common.{subst, ◌∙◌, arith, ⊎_elim}
+use Rattle.std.specs.Prelude.{◌&&◌}
 use Rattle.std.specs.List.{position, slice_get}
-use Rattle.std.proofs.lemmas.Bool.{eqb-true}
+use Rattle.std.proofs.lemmas.Bool.{eq-eqb, eqb-true}
 use Rattle.plant_types.specs.declared.net.NetPlan.{NetPlan}
 use Rattle.plant_types.specs.declared.net.HostPlan.{HostPlan}
 use Rattle.plant_types.specs.declared.plan.Plant.{Plant}
 use Rattle.ring_core.specs.declared.entry.RingEntry.{RingEntry}
-use Rattle.ring_core.specs.Machine.{ring_after, ring_node}
+use Rattle.ring_core.specs.declared.entry.RingEntry.TheVariants.{Join}
+use Rattle.ring_core.specs.declared.status.NodeStatus.{NodeStatus}
+use Rattle.ring_core.specs.declared.status.NodeStatus.TheVariants.{In, Away, Asking, Gone}
+use Rattle.ring_core.specs.Machine.{addresses, is_in, ring_after}
 use Rattle.ring_core.specs.Legal.{IsLegalRing}
 use Rattle.ring_core.specs.Kept.{ring_of}
 use Rattle.controller_core.specs.declared.fixed.Fixed.{Fixed}
 use Rattle.controller_core.specs.declared.entry.Entry.{Entry}
-use Rattle.controller_core.specs.Controller.{ControllerIs, due_step, has_started, made, stepped}
+use Rattle.controller_core.specs.Controller.{ControllerIs, due_step, is_off, made, stepped}
 use Rattle.joint_history.specs.JointLaws.{fixed_of}
-use Rattle.joint_history.specs.Reading.{controller_at, has_started_at}
+use Rattle.joint_history.specs.Reading.{controller_at, has_started_at, is_off_at}
 use Rattle.comm_port.specs.Worker.{Standing, WorkerIs}
 use Rattle.comm_port.specs.HostTurns.{HoldsHostTurn, HostTies}
-use Rattle.comm_port.specs.HoldTurn.{HoldsTurn, VisitsEnd}
+use Rattle.comm_port.specs.HoldTurn.{VisitsEnd}
+use Rattle.comm_port.specs.WholeTurn.{HoldsTurn}
 use Rattle.comm_port.specs.HostStands.{own_side}
 use Rattle.tied_lists.specs.Own.{is_of}
-use Rattle.tied_lists.specs.Waits.{Holds}
+use Rattle.tied_lists.specs.Waits.{Holds, has_left, status_at}
+use Rattle.serial_run.specs.declared.order.Turn.TheVariants as turns
 use Rattle.serial_run.specs.declared.order.Turn.TheVariants.{Step, Hold, Visit}
 use Rattle.serial_run.specs.declared.stations.ControllerStation.{ControllerStation}
 use Rattle.serial_run.specs.declared.stations.HostStation.{HostStation}
 use Rattle.serial_run.specs.declared.stations.Stations.{Stations}
-use Rattle.serial_run.specs.Turns.{has_left, place_of_controller, place_of_host, stepped_list}
-use Rattle.serial_run.specs.Turns.{visit_is_due, with_list}
-use Rattle.serial_run.specs.Turns.{MakesTurn, MakesHold, MakesStep, MakesVisit, VisitsWhere}
+use Rattle.serial_run.specs.Turns.{coming_back, may_visit, node_has_left, place_of_controller}
+use Rattle.serial_run.specs.Turns.{place_of_host, stepped_list, visit_is_due, with_list}
+use Rattle.serial_run.specs.Turns.{MakesAwayTurn, MakesTurn, MakesHold, MakesStep, MakesVisit}
+use Rattle.serial_run.specs.Turns.{VisitsWhere}
 use Rattle.serial_run.specs.Stations.{StandsController, StandAll, Did, MadeEvents, log_of}
 use Rattle.serial_run.specs.Stations.{host_log_of}
 use Rattle.serial_run.specs.Stations.{joint_of, plain_ram_side}
-use Rattle.serial_run.specs.Held.{StaysStation, HeldController, StandsBeside, HasToken}
+use Rattle.serial_run.specs.Held.{StaysStation, CameBack, HeldController, StandsBeside, HasToken}
 use Rattle.serial_run.specs.Held.{HostStandsBeside, HeldHost, VisitedController, VisitedWhere}
+use Rattle.serial_run.specs.Held.{is_visit_due}
 use Rattle.turn_laws.specs.KeepsOn.{HostKeepsOn, KeepsOn}
-use Rattle.serial_run.proofs.Distinct.{controller-member, host-member, member-node}
+use Rattle.turn_laws.specs.Laws.{SomebodyHolds}
+use Rattle.serial_run.proofs.Distinct.{controller-member, host-member, low-members, member-node}
 use Rattle.serial_run.proofs.Grown.{Further, further-none}
 use Rattle.serial_run.proofs.HeldTurns.{turn-ring, host-turn-ring, visit-ring}
-use Rattle.turn_laws.proofs.Gone.{inner-keeps}
-use Rattle.turn_laws.proofs.Holders.{holder-there}
-use Rattle.turn_laws.proofs.Went.{went-visit}
 use Rattle.serial_run.proofs.Lists.{set-there}
 use Rattle.serial_run.proofs.Standings.{stands-scans}
 use Rattle.serial_run.proofs.TurnsMade.{at-place, place-is, host-place-is, stand-with, is-at}
@@ -71,45 +76,51 @@ host-stands-beside plant scans run at s all is =
       counts = p.stands.counts;
     }
 
--- whoever holds the token and has an address is there
-token-by : (net : NetPlan) (history : List RingEntry) (n : ℕ) → 1 ≤ n
+-- whoever holds the token and has an address is in
+token-by : SomebodyHolds → (net : NetPlan) (history : List RingEntry) (n : ℕ)
+    → All (λ m. m < addresses) net.members → IsLegalRing net history → 1 ≤ n
     → (ring_after net history).holder ≡ n → Holds net history n
-token-by net history n low holder = ⊎_elim
-    (λ (there : (ring_node (ring_after net history) (ring_after net history).holder).here ≡ true).
+token-by law net history n low legal from holder = ⊎_elim
+    (λ (there : status_at net history (ring_after net history).holder ≡ In).
     record {
       holder = holder;
-      here = ap (λ (k : ℕ). (ring_node (ring_after net history) k).here)
-          (sym holder) ∙ there;
+      here = ap (λ (k : ℕ). is_in (status_at net history k)) (sym holder) ∙ ap is_in there;
     })
-    (λ (none : ((ring_after net history).holder ≡ 0) ×
-    ((k : ℕ) → (ring_node (ring_after net history) k).here ≡ false)).
-    absurd (let z = none.0 in omega (arith, z, holder, low)))
-    (holder-there net history)
+    (λ (none : ((ring_after net history).holder ≡ 0)
+    × ((k : ℕ) → has_left (status_at net history k) ≡ true)).
+    absurd (let z = none.0 in omega (arith, z, holder, from)))
+    (law net history low legal)
 
-pub has-token : (plant : Plant) (scans : ℕ) (run : Stations) (at : ℕ) (s : ControllerStation)
+pub has-token : SomebodyHolds → (plant : Plant) (scans : ℕ) (run : Stations) (at : ℕ) (s : ControllerStation)
     → StandAll plant scans run
     → slice_get run.controllers.items at ≡ Some s → (s.node == (ring_of run.ring).holder) ≡ true
     → HasToken s.worker.node run.ring
-has-token plant scans run at s all is holds =
+has-token law plant scans run at s all is holds =
     let p = at-place plant scans run at s all is in
     let node = member-node plant all.sound p.plan.node
     (controller-member plant all.sound at p.plan p.plan_is) in
     let low = node.from in
     let worker : s.worker.node ≡ p.plan.node = p.stands.worker_node in
-    token-by run.ring.net run.ring.history s.worker.node (omega (arith, low, worker))
+    token-by law run.ring.net run.ring.history s.worker.node
+    (subst (λ (net : NetPlan). All (λ m. m < addresses) net.members) (sym all.net)
+    (low-members plant all.sound))
+    (subst (λ (net : NetPlan). IsLegalRing net run.ring.history) (sym all.net) all.legal) (omega (arith, low, worker))
     (sym (eqb-true s.node (ring_of run.ring).holder holds) ∙ (p.stands.node ∙ sym worker))
 
-pub host-has-token : (plant : Plant) (scans : ℕ) (run : Stations) (at : ℕ) (s : HostStation)
+pub host-has-token : SomebodyHolds → (plant : Plant) (scans : ℕ) (run : Stations) (at : ℕ) (s : HostStation)
     → StandAll plant scans run
     → slice_get run.hosts.items at ≡ Some s → (s.node == (ring_of run.ring).holder) ≡ true
     → HasToken s.worker.node run.ring
-host-has-token plant scans run at s all is holds =
+host-has-token law plant scans run at s all is holds =
     let p = host-at-place plant scans run at s all is in
     let node = member-node plant all.sound p.plan.node
     (host-member plant all.sound at p.plan p.plan_is) in
     let low = node.from in
     let worker : s.worker.node ≡ p.plan.node = p.stands.worker_node in
-    token-by run.ring.net run.ring.history s.worker.node (omega (arith, low, worker))
+    token-by law run.ring.net run.ring.history s.worker.node
+    (subst (λ (net : NetPlan). All (λ m. m < addresses) net.members) (sym all.net)
+    (low-members plant all.sound))
+    (subst (λ (net : NetPlan). IsLegalRing net run.ring.history) (sym all.net) all.legal) (omega (arith, low, worker))
     (sym (eqb-true s.node (ring_of run.ring).holder holds) ∙ (p.stands.node ∙ sym worker))
 
 -- ---- the due step
@@ -195,7 +206,7 @@ module _ (old new : Stations) (at : ℕ) (s t : ControllerStation)
     (stays : StaysStation s t old.ring new.ring)
     (further : Further (is_of s.worker.node) old.ring.history new.ring.history)
     (left : (plant : Plant) (scans : ℕ) → StandAll plant scans old
-    → t.left ≡ has_left old.ring.net new.ring.history s.worker.node)
+    → t.left ≡ node_has_left old.ring.net new.ring.history s.worker.node)
     (keeps : KeepsOn s.controller.fixed old.ring.net s.worker.node t.controller.history
     new.ring.history t.left) where
   pub own-stands : (plant : Plant) (scans : ℕ) → StandAll plant scans old → StandAll plant scans new
@@ -213,7 +224,7 @@ module _ (old new : Stations) (at : ℕ) (s t : ControllerStation)
         standing = subst (λ (net : NetPlan). Standing t.worker (plain_ram_side t.controller)
             t.controller.history (own_side net) new.ring.history)
             net stays.stands;
-        left = left plant scans all ∙ (λ i. has_left (all.net i) new.ring.history (worker i));
+        left = left plant scans all ∙ (λ i. node_has_left (all.net i) new.ring.history (worker i));
         keeps = subst (λ (f : Fixed). KeepsOn f plant.net p.plan.node t.controller.history
             new.ring.history t.left) p.stands.fixed
             (subst (λ (net : NetPlan). KeepsOn s.controller.fixed net p.plan.node
@@ -235,7 +246,7 @@ pub hold-did : (old new : Stations) (at : ℕ) (s t : ControllerStation)
 hold-did old new at s t is found items hosts budget held = record {
   stand = own-stands old new at s t is items hosts held.stays
       (turn-ring s.controller.fixed old.ring.net s.worker.node s.controller.history
-      t.controller.history old.ring.history new.ring.history t.left turn)
+      t.controller.history old.ring.history new.ring.history held.end turn)
       (λ plant scans all. held.left) held.keeps;
   made = λ plant scans all.
       let p = at-place plant scans old at s all is in
@@ -252,25 +263,25 @@ hold-did old new at s t is found items hosts budget held = record {
         is = is-at plant scans old new at s t all is items hosts;
         entries = t.controller.history;
         ring = new.ring.history;
-        left = t.left;
+        end = held.end;
         turn = subst (λ (f : Fixed). HoldsTurn true true f plant.net p.plan.node true
             s.controller.history t.controller.history
-            old.ring.history new.ring.history t.left) p.stands.fixed
+            old.ring.history new.ring.history held.end) p.stands.fixed
             (subst (λ (net : NetPlan). HoldsTurn true true s.controller.fixed net p.plan.node true
             s.controller.history t.controller.history
-            old.ring.history new.ring.history t.left) all.net
+            old.ring.history new.ring.history held.end) all.net
             (subst (λ (n : ℕ). HoldsTurn true true s.controller.fixed old.ring.net n true
             s.controller.history t.controller.history
-            old.ring.history new.ring.history t.left) p.stands.worker_node turn));
+            old.ring.history new.ring.history held.end) p.stands.worker_node turn));
         made = joint-is plant scans old new at s t all is items hosts held.stays.node;
       });
 } where
   turn : HoldsTurn true true s.controller.fixed old.ring.net s.worker.node true s.controller.history
       t.controller.history
-      old.ring.history new.ring.history t.left
+      old.ring.history new.ring.history held.end
   turn = subst (λ (b : Bool). HoldsTurn true true s.controller.fixed old.ring.net s.worker.node b
       s.controller.history t.controller.history
-      old.ring.history new.ring.history t.left) budget held.turn
+      old.ring.history new.ring.history held.end) budget held.turn
 
 -- ---- a host's hold turn
 
@@ -307,7 +318,7 @@ module _ (old new : Stations) (at : ℕ) (s t : HostStation)
             (subst (λ (n : ℕ). HostTies n t.host (own_side new.ring.net) new.ring.history) now
             held.stands.ties);
         counts = held.stands.counts;
-        left = held.left ∙ (λ i. has_left (all.net i) new.ring.history (worker i));
+        left = held.left ∙ (λ i. node_has_left (all.net i) new.ring.history (worker i));
         keeps = subst (λ (plan : HostPlan). HostKeepsOn plan plant.net t.host.history
             new.ring.history t.left) p.stands.plan_is
             (subst (λ (net : NetPlan). HostKeepsOn s.host.plan net t.host.history new.ring.history
@@ -379,14 +390,6 @@ no-hold-did old none no-host = record {
 
 -- ---- a visit
 
-pub and-first : (a b : Bool) → (a && b) ≡ true → a ≡ true
-and-first true b is = refl
-and-first false b is = absurd (cc)
-
-pub not-true : (b : Bool) → not b ≡ true → b ≡ false
-not-true true is = absurd (cc)
-not-true false is = refl
-
 module _ (old new : Stations) (at : ℕ) (s t : ControllerStation)
     (is : slice_get old.controllers.items at ≡ Some s)
     (items : new.controllers.items ≡ set old.controllers.items at t)
@@ -403,30 +406,16 @@ module _ (old new : Stations) (at : ℕ) (s t : ControllerStation)
         l) (sym (ap (λ r. r.history) v.1))
         (further-none (is_of s.worker.node) old.ring.history)
 
-    visit-further : Further (is_of s.worker.node) old.ring.history new.ring.history
-    visit-further = further-by (s.left && has_started s.controller) visited.visit
+    pub visit-further : Further (is_of s.worker.node) old.ring.history new.ring.history
+    visit-further = further-by (is_visit_due old.ring s) visited.visit
 
     -- a visit keeps whether the node has left
-    left-still : (b : Bool) → VisitedWhere b s t old.ring new.ring
-        → s.left ≡ has_left old.ring.net old.ring.history s.worker.node
-        → s.left ≡ has_left old.ring.net new.ring.history s.worker.node
-    left-still false v is-left = is-left
-        ∙ ap (λ r. has_left old.ring.net r.history s.worker.node)
-        (sym v.1)
-    left-still true v is-left =
-        let w = went-visit s.worker.node true true s.controller.fixed s.controller.history
-        t.controller.history old.ring.history new.ring.history v.calls in
-        is-left
-        ∙ sym (ap not (inner-keeps old.ring.net s.worker.node old.ring.history visit-further.more
-        new.ring.history w.done visit-further.is w.own_is w.quiet))
-
     visit-left : (plant : Plant) (scans : ℕ) → StandAll plant scans old
-        → t.left ≡ has_left old.ring.net new.ring.history s.worker.node
+        → t.left ≡ node_has_left old.ring.net new.ring.history s.worker.node
     visit-left plant scans all =
         let p = at-place plant scans old at s all is in
-        visited.left ∙ left-still (s.left && has_started s.controller) visited.visit
-        (p.stands.left ∙ (λ i. has_left (sym all.net i) old.ring.history
-        (sym p.stands.worker_node i)))
+        visited.left ∙ (p.stands.left ∙ ((λ i. node_has_left (sym all.net i) old.ring.history
+        (sym p.stands.worker_node i)) ∙ ap has_left (sym visited.status)))
 
     visits-by : (plant : Plant) (scans : ℕ) (all : StandAll plant scans old) (b : Bool)
         → VisitedWhere b s t old.ring new.ring
@@ -467,16 +456,18 @@ module _ (old new : Stations) (at : ℕ) (s t : ControllerStation)
           (λ (o : Option ℕ). MakesVisit plant scans o (joint_of old) (joint_of new))
           (sym found ∙ place-is plant scans old node all)
           (let p = at-place plant scans old at s all is in
-          let due : (s.left && has_started s.controller) ≡ visit_is_due plant scans p.plan
+          let due : is_visit_due old.ring s ≡ visit_is_due plant scans p.plan
           s.controller.history old.ring.history =
-          λ i. p.stands.left i && has_started_at (p.stands.fixed i) s.controller.history in
+          λ i. may_visit (p.stands.fixed i) s.controller.history
+          (status_at (all.net i) old.ring.history (p.stands.node i))
+          && has_started_at (p.stands.fixed i) s.controller.history in
           record {
             plan = p.plan;
             log = log_of s;
             is = is-at plant scans old new at s t all is items hosts;
             visits = subst (λ (b : Bool). VisitsWhere b plant scans at p.plan (log_of s)
                 (joint_of old) (joint_of new)) due
-                (visits-by plant scans all (s.left && has_started s.controller) visited.visit);
+                (visits-by plant scans all (is_visit_due old.ring s) visited.visit);
           });
     }
 
@@ -487,5 +478,77 @@ no-visit-did old node none = record {
   stand = λ plant scans all. all;
   made = λ plant scans all. subst
       (λ (o : Option ℕ). MakesVisit plant scans o (joint_of old) (joint_of old))
+      (sym none ∙ place-is plant scans old node all) refl;
+}
+
+-- ---- an away turn
+
+coming-mine : (status : NodeStatus) (off : Bool) (n : ℕ)
+    → filter (is_of n) (coming_back status off n) ≡ coming_back status off n
+coming-mine In off n = refl
+coming-mine Away true n = refl
+coming-mine Away false n = ap (λ b. cond b (Join n ∷ []) []) (eq-eqb n n refl)
+coming-mine Asking off n = refl
+coming-mine Gone off n = refl
+
+logs-same : (xs : List ControllerStation) (at : ℕ) (s t : ControllerStation)
+    → slice_get xs at ≡ Some s → log_of t ≡ log_of s → map log_of (set xs at t) ≡ map log_of xs
+logs-same [] at s t is same = refl
+logs-same (x ∷ xs) zero s t is same =
+    let there : x ≡ s = cc in λ i. (same ∙ ap log_of (sym there)) i ∷ map log_of xs
+logs-same (x ∷ xs) (suc at) s t is same = λ i. log_of x ∷ logs-same xs at s t is same i
+
+module _ (old new : Stations) (at : ℕ) (s t : ControllerStation)
+    (is : slice_get old.controllers.items at ≡ Some s)
+    (items : new.controllers.items ≡ set old.controllers.items at t)
+    (hosts : new.hosts.items ≡ old.hosts.items) (came : CameBack s t old.ring new.ring)
+  where
+    pub came-further : Further (is_of s.worker.node) old.ring.history new.ring.history
+    came-further = record {
+      more = coming_back (status_at old.ring.net old.ring.history s.worker.node)
+          (is_off s.controller) s.worker.node;
+      is = came.came;
+      mine = coming-mine (status_at old.ring.net old.ring.history s.worker.node)
+          (is_off s.controller) s.worker.node;
+    }
+
+    pub came-did : (node : ℕ) → position (λ (s : ControllerStation). s.node == node)
+        old.controllers.items ≡ Some at
+        → Did (λ plant scans. MakesTurn plant scans (turns.Away node)) old new
+    came-did node found = record {
+      stand = own-stands old new at s t is items hosts came.stays came-further
+          (λ plant scans all. came.left) came.keeps;
+      made = λ plant scans all. subst
+          (λ (o : Option ℕ). MakesAwayTurn plant scans o (joint_of old) (joint_of new))
+          (sym found ∙ place-is plant scans old node all)
+          (let p = at-place plant scans old at s all is in
+          let logs : map log_of new.controllers.items ≡ map log_of old.controllers.items =
+          ap (map log_of) items ∙ logs-same old.controllers.items at s t is
+          (λ i. record { node = came.stays.node i; entries = came.history i }) in
+          let ring : new.ring.history ≡ old.ring.history
+          ++ coming_back (status_at plant.net old.ring.history p.plan.node)
+          (is_off_at (fixed_of plant scans p.plan) s.controller.history) p.plan.node =
+          came.came ∙ (λ i. old.ring.history
+          ++ coming_back (status_at (all.net i) old.ring.history (p.stands.worker_node i))
+          (is_off_at (p.stands.fixed i) s.controller.history) (p.stands.worker_node i)) in
+          record {
+            plan = p.plan;
+            log = log_of s;
+            is = is-at plant scans old new at s t all is items hosts;
+            made = λ i. record {
+              controllers = logs i;
+              hosts = map host_log_of (hosts i);
+              ring = ring i;
+            };
+          });
+    }
+
+pub no-away-did : (old : Stations) (node : ℕ)
+    → position (λ (s : ControllerStation). s.node == node) old.controllers.items ≡ None
+    → Did (λ plant scans. MakesTurn plant scans (turns.Away node)) old old
+no-away-did old node none = record {
+  stand = λ plant scans all. all;
+  made = λ plant scans all. subst
+      (λ (o : Option ℕ). MakesAwayTurn plant scans o (joint_of old) (joint_of old))
       (sym none ∙ place-is plant scans old node all) refl;
 }

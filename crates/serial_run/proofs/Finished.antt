@@ -1,10 +1,8 @@
 -- A run at whose end all stations have finished.
-use Rattle.std.proofs.Common.{◌≡◌, ℕ, zero, suc, ◌==◌, Bool, true, false, not, List, [], ◌∷◌}
-use Rattle.std.proofs.Common.{map, Some, None, refl, sym, ap, subst, ◌∙◌, arith, All, count_by}
+use Rattle.std.proofs.Common.{◌≡◌, ℕ, zero, suc, ◌==◌, Bool, true, false, List, [], ◌∷◌}
+use Rattle.std.proofs.Common.{map, Some, None, refl, sym, ap, subst, ◌∙◌, arith}
 use Rattle.std.specs.Prelude.{◌&&◌, if◌then◌else◌}
 use Rattle.std.specs.List.{AllZip, list_all, slice_get}
-use Rattle.std.proofs.lemmas.Option.{get_or_from_slice_get, slice_get_within}
-use Rattle.tied_lists.proofs.Boxes.{count-cons, one-if}
 use Rattle.plant_types.specs.declared.net.HostPlan.{HostPlan}
 use Rattle.plant_types.specs.declared.plan.ControllerPlan.{ControllerPlan}
 use Rattle.plant_types.specs.declared.plan.Plant.{Plant}
@@ -12,25 +10,27 @@ use Rattle.ring_core.specs.declared.entry.RingEntry.{RingEntry}
 use Rattle.scan_order.specs.declared.due.ScanStep.{ScanStep}
 use Rattle.controller_core.specs.declared.fixed.Fixed.{Fixed}
 use Rattle.controller_core.specs.Controller.{ControllerIs, first_step, has_ended, has_started}
-use Rattle.controller_core.specs.Controller.{is_none, left_of}
+use Rattle.controller_core.specs.Controller.{is_none, is_off, left_of}
 use Rattle.controller_core.specs.Controller.{state_of}
 use Rattle.joint_history.specs.JointLaws.{fixed_of}
-use Rattle.joint_history.specs.Reading.{has_ended_at, has_started_at}
+use Rattle.joint_history.specs.Reading.{has_ended_at, has_started_at, is_off_at}
 use Rattle.comm_port.specs.Worker.{IsMemberWorker}
 use Rattle.comm_port.specs.HostStands.{own_side}
+use Rattle.tied_lists.specs.Waits.{status_at}
 use Rattle.turn_laws.specs.KeepsOn.{HasFinished, HostHasFinished, HostKeepsOn, HostStandsTied}
-use Rattle.turn_laws.specs.KeepsOn.{KeepsOn}
+use Rattle.turn_laws.specs.KeepsOn.{KeepsOn, is_out_of_ring}
 use Rattle.turn_laws.specs.KeepsOn.{StandsTied}
 use Rattle.turn_laws.proofs.Stands.{host-stands-of, stands-of}
 use Rattle.serial_run.specs.declared.stations.ControllerStation.{ControllerStation}
-use Rattle.serial_run.specs.declared.stations.HostStation.{HostStation}
 use Rattle.serial_run.specs.declared.stations.Stations.{Stations}
 use Rattle.serial_run.specs.Scans.{have_ended, KeepScans, KeepsStepsLeft}
 use Rattle.serial_run.specs.Stations.{StandAll, StandsController, StandsHost, host_log_of, log_of}
 use Rattle.serial_run.specs.Stations.{plain_ram_side}
-use Rattle.serial_run.specs.Held.{AreCollected, stations_here}
+use Rattle.serial_run.specs.Held.{AllHave, IsOffAway, IsVisited, stations_here, status_in}
+use Rattle.serial_run.specs.Turns.{node_has_left}
 use Rattle.serial_run.proofs.Distinct.{controller-member, low-members}
 use Rattle.serial_run.proofs.Lists.{zip-other}
+use Rattle.serial_run.proofs.Rounds.{all-at, controller-left, host-left, left-out}
 
 -- ---- who has ended has
 
@@ -67,27 +67,6 @@ list-all-at p (y ∷ xs) zero x all is = let same : y ≡ x = cc in ap p (sym sa
 list-all-at p (y ∷ xs) (suc k) x all is = list-all-at p xs k x
     (both-true (p y) (list_all p xs) all).1 is
 
-all-at : {X : Type 0} (P : X → Type 0) (xs : List X) (k : ℕ) (x : X) → All P xs
-    → slice_get xs k ≡ Some x → P x
-all-at P xs k x all is = subst P (get_or_from_slice_get xs k x x is)
-    (all k x (slice_get_within xs k x is))
-
-none-counted : {X : Type 0} (p : X → Bool) (xs : List X) (k : ℕ) (x : X) → count_by p xs ≡ 0
-    → slice_get xs k ≡ Some x → p x ≡ false
-none-counted p [] k x none is = absurd (cc)
-none-counted p (y ∷ xs) zero x none is =
-    let same : y ≡ x = cc in ap p (sym same) ∙ first (p y) refl where
-      first : (b : Bool) → p y ≡ b → p y ≡ false
-      first true on = absurd (let c = count-cons p y xs in let o = one-if (p y) on in omega
-          (arith, c, o, none))
-      first false off = off
-none-counted p (y ∷ xs) (suc k) x none is =
-    none-counted p xs k x (let c = count-cons p y xs in omega (arith, c, none)) is
-
-not-false : (b : Bool) → not b ≡ false → b ≡ true
-not-false true is = refl
-not-false false is = absurd (cc)
-
 zip-map-at : {A B C : Type 0} (S : A → C → Type 0) (g : B → C) (xs : List A) (ys : List B)
     → AllZip (λ x y. S x (g y)) xs ys → AllZip S xs (map g ys)
 zip-map-at S g [] [] all = tt
@@ -100,22 +79,30 @@ module _ (plant : Plant) (scans : ℕ) (run : Stations) (all : StandAll plant sc
   abbrev ring : List RingEntry
   ring = run.ring.history
 
-  left-at : (k : ℕ) (s : ControllerStation) → slice_get run.controllers.items k ≡ Some s
-      → s.left ≡ true
-  left-at k s is = not-false s.left
-      (none-counted (λ (s : ControllerStation). not s.left) run.controllers.items k s
-      (omega (arith, here)) is)
+  -- a node that has left is out of the ring, where it has no power while it is away
+  out-at : (plan : ControllerPlan) (s : ControllerStation)
+      → StandsController plant scans ring plan s → s.left ≡ true → IsOffAway run.ring s
+      → is_out_of_ring (is_off s.controller) (status_in run.ring s.node) ≡ true
+  out-at plan s st left off =
+      left-out (is_off s.controller) (status_in run.ring s.node)
+      ((λ i. node_has_left (all.net i) ring (st.node i)) ∙ (sym st.left ∙ left)) off
 
-  host-left-at : (k : ℕ) (s : HostStation) → slice_get run.hosts.items k ≡ Some s → s.left ≡ true
-  host-left-at k s is = not-false s.left
-      (none-counted (λ (s : HostStation). not s.left) run.hosts.items k s (omega (arith, here)) is)
+  -- a visit that is not due has nothing to collect
+  none-started : (s : ControllerStation) → has_ended s.controller ≡ true
+      → is_out_of_ring (is_off s.controller) (status_in run.ring s.node) ≡ true
+      → IsVisited run.ring s → has_started s.controller ≡ false
+  none-started s ended out' visited =
+      sym (ap (λ b. is_out_of_ring (b && is_off s.controller) (status_in run.ring s.node)
+      && has_started s.controller) ended
+      ∙ ap (λ b. b && has_started s.controller) out') ∙ visited
 
   finished-at : (k : ℕ) (plan : ControllerPlan) (s : ControllerStation)
       → slice_get plant.controllers k ≡ Some plan → s.left ≡ true
       → has_ended s.controller ≡ true → has_started s.controller ≡ false
+      → is_out_of_ring (is_off s.controller) (status_in run.ring s.node) ≡ true
       → StandsController plant scans ring plan s
       → HasFinished plant scans ring plan (log_of s)
-  finished-at k plan s at-plan left ended collected st =
+  finished-at k plan s at-plan left ended collected out' st =
       let answer = all.sound.net.answer.from in
       let node : s.worker.node ≡ s.node = st.worker_node ∙ sym st.node in
       let member : IsMemberWorker plant.net s.worker.node = subst (IsMemberWorker plant.net)
@@ -138,22 +125,26 @@ module _ (plant : Plant) (scans : ℕ) (run : Stations) (all : StandAll plant sc
         ended = ap (λ (f : Fixed). has_ended_at f s.controller.history) (sym st.fixed) ∙ ended;
         collected = ap (λ (f : Fixed). has_started_at f s.controller.history) (sym st.fixed)
             ∙ collected;
+        out = sym (λ i. is_out_of_ring (is_off_at (st.fixed i) s.controller.history)
+            (status_at (all.net i) ring s.node)) ∙ out';
       }
 
-  pub all-finished-there : have_ended run ≡ true → AreCollected run
+  pub all-finished-there : have_ended run ≡ true → AllHave IsOffAway run → AllHave IsVisited run
       → AllZip (HasFinished plant scans ring) plant.controllers (map log_of run.controllers.items)
-  all-finished-there ended collected =
+  all-finished-there ended off visited =
       zip-map-at (HasFinished plant scans ring) log_of plant.controllers run.controllers.items
       (zip-other (StandsController plant scans ring)
       (λ plan s. HasFinished plant scans ring plan (log_of s)) plant.controllers
       run.controllers.items
       all.controllers (λ k plan s at-plan at-s st.
-      let left = left-at k s at-s in
-      finished-at k plan s at-plan left
-      (list-all-at (λ (x : ControllerStation). has_ended x.controller) run.controllers.items k s
-      ended at-s)
-      (all-at (λ (x : ControllerStation). x.left ≡ true → has_started x.controller ≡ false)
-      run.controllers.items k s collected at-s left) st))
+      let left = controller-left run here k s at-s in
+      let over = list-all-at (λ (x : ControllerStation). has_ended x.controller)
+      run.controllers.items k s ended at-s in
+      let out' = out-at plan s st left
+      (all-at (IsOffAway run.ring) run.controllers.items k s off at-s) in
+      finished-at k plan s at-plan left over
+      (none-started s over out' (all-at (IsVisited run.ring) run.controllers.items k s visited at-s))
+      out' st))
 
   pub all-hosts-finished : AllZip (HostHasFinished plant ring) plant.hosts
       (map host_log_of run.hosts.items)
@@ -166,5 +157,5 @@ module _ (plant : Plant) (scans : ℕ) (run : Stations) (all : StandAll plant sc
         stands = subst (λ (p : HostPlan). HostStandsTied p plant.net s.host.history ring) st.plan_is
             (host-stands-of plan.node s.host (own_side plant.net) ring st.ties);
         keeps = subst (λ (b : Bool). HostKeepsOn plan plant.net s.host.history ring b)
-            (host-left-at k s at-s) st.keeps;
+            (host-left run here k s at-s) st.keeps;
       }))

@@ -7,9 +7,11 @@ use Rattle.std.proofs.lemmas.List.Elements.{filter-append}
 use Rattle.plant_types.specs.declared.net.NetPlan.{NetPlan}
 use Rattle.ring_core.specs.declared.entry.RingEntry.{RingEntry}
 use Rattle.ring_core.specs.Words.{maker}
-use Rattle.tied_lists.specs.Own.{is_of, own, Adds, Grew}
-use Rattle.tied_lists.proofs.Turns.{membership-kept}
-use Rattle.serial_run.specs.Turns.{has_left}
+use Rattle.tied_lists.specs.Own.{is_of, own, Adds, Grew, WentOn}
+use Rattle.tied_lists.specs.Waits.{status_at}
+use Rattle.ring_core.specs.declared.status.NodeStatus.TheVariants.{Away}
+use Rattle.turn_laws.proofs.Holders.{away-others, left-others}
+use Rattle.serial_run.specs.Turns.{node_has_left}
 
 -- a list went on by entries of one maker alone
 pub record Further {E : Type 0} (ours : E → Bool) (old new : List E) : Type 0 where
@@ -32,6 +34,15 @@ pub further-grew : {E : Type 0} (ours : E → Bool) (added old new : List E)
     → Grew true ours old added new → Further ours old new
 further-grew ours added old new g = record
     { more = g.more; is = g.after_is; mine = g.ours_are ∙ sym (g.all_alone refl) }
+
+-- nobody else writes
+pub further-went : {E : Type 0} (ours : E → Bool) (old new : List E) → WentOn true ours old [] new
+    → Further ours old new
+further-went ours old new w = record {
+  more = w.between;
+  is = w.after_is ∙ append-nil (old ++ w.between);
+  mine = w.others ∙ sym (w.none_alone refl);
+}
 
 pub further-adds : {E : Type 0} (ours : E → Bool) (Sort : E → Type 0) (old new : List E)
     → Adds true ours Sort old new → Further ours old new
@@ -63,8 +74,14 @@ others-own n m old new other f =
 
 pub others-left : (net : NetPlan) (n m : ℕ) (old new : List RingEntry) → m ≢ n
     → Further (is_of n) old new
-    → has_left net new m ≡ has_left net old m
+    → node_has_left net new m ≡ node_has_left net old m
 others-left net n m old new other f =
-    ap (λ (l : List RingEntry). has_left net l m) f.is
-    ∙ ap Rattle.std.specs.Prelude.not
-    (membership-kept net m old f.more (others-none n m old new other f))
+    ap (λ (l : List RingEntry). node_has_left net l m) f.is
+    ∙ left-others net m old f.more (others-none n m old new other f)
+
+-- who is away behind a turn of another was away before
+pub others-away : (net : NetPlan) (n m : ℕ) (old new : List RingEntry) → m ≢ n
+    → Further (is_of n) old new → status_at net new m ≡ Away → status_at net old m ≡ Away
+others-away net n m old new other f away =
+    away-others net m old f.more (others-none n m old new other f)
+    (ap (λ (l : List RingEntry). status_at net l m) (sym f.is) ∙ away)

@@ -15,6 +15,7 @@ pub mod Rounds
 pub mod AllScans
 pub mod Collecting
 pub mod Keeping
-pub mod Collected
+pub mod Off
+pub mod Gained
 pub mod Finished
 pub mod Handed

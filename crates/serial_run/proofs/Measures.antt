@@ -1,5 +1,5 @@
 -- What hold turns and visits leave of scans and of hold turns.
-use Rattle.std.proofs.Common.{◌≡◌, ◌≢◌, ◌⊎◌, ℕ, zero, suc, ◌+◌, ◌-◌, ◌<◌, ◌≤◌, ◌==◌, Bool, true}
+use Rattle.std.proofs.Common.{◌≡◌, ◌≢◌, ◌⊎◌, ℕ, zero, suc, ◌+◌, ◌-◌, ◌*◌, ◌<◌, ◌≤◌, ◌==◌, Bool, true}
 use Rattle.std.proofs.Common.{false}
 use Rattle.std.proofs.Common.{cond, not, List, [], ◌∷◌, filter, set, length, Some, None}
 use Rattle.std.proofs.Common.{refl, sym, ap, subst, ◌∙◌, arith, ⊎_elim, inl, inr, count_by}
@@ -10,14 +10,18 @@ use Rattle.std.proofs.lemmas.List.Sums.{sum_by-cons}
 use Rattle.plant_types.specs.declared.net.NetPlan.{NetPlan}
 use Rattle.plant_types.specs.declared.plan.Plant.{Plant}
 use Rattle.ring_core.specs.declared.entry.RingEntry.{RingEntry}
-use Rattle.ring_core.specs.Machine.{ring_after, ring_node}
+use Rattle.ring_core.specs.Machine.{is_in, ring_after}
 use Rattle.ring_core.specs.Kept.{RingLog, ring_of}
+use Rattle.ring_core.specs.Legal.{IsMember}
 use Rattle.controller_core.specs.declared.entry.Entry.{Entry}
 use Rattle.controller_core.specs.declared.entry.Entry.TheVariants as entries
 use Rattle.controller_core.specs.declared.entry.Maker.TheVariants.{Communication}
 use Rattle.controller_core.specs.Controller.{ControllerIs, AreOf, grown}
 use Rattle.joint_history.specs.Reading.{is_ours}
 use Rattle.tied_lists.specs.Own.{is_of}
+use Rattle.tied_lists.specs.Waits.{status_at}
+use Rattle.ring_core.specs.declared.status.NodeStatus.TheVariants.{In}
+use Rattle.serial_run.specs.Turns.{node_has_left}
 use Rattle.tied_lists.proofs.Boxes.{count-cons, none-if}
 use Rattle.joint_history.specs.Complete.{is_pass}
 use Rattle.serial_run.specs.declared.stations.ControllerStation.{ControllerStation}
@@ -25,11 +29,13 @@ use Rattle.serial_run.specs.declared.stations.HostStation.{HostStation}
 use Rattle.serial_run.specs.declared.stations.Stations.{Stations}
 use Rattle.serial_run.specs.Scans.{KeepsStepsLeft, KeepScans}
 use Rattle.serial_run.specs.Stations.{StandAll, StandsController, StandsHost}
+use Rattle.serial_run.specs.Held.{failures_of, stations_here, turns_left, turns_of, unnoticed_of}
 use Rattle.serial_run.specs.Held.{Lessens}
-use Rattle.serial_run.specs.Held.{stations_here, turns_left, turns_of}
-use Rattle.serial_run.proofs.Distinct.{member-station, same-controller, same-host, not-both}
+use Rattle.serial_run.proofs.Distinct.{low-members, member-station, not-both, same-controller}
+use Rattle.serial_run.proofs.Distinct.{same-host}
 use Rattle.serial_run.proofs.Grown.{Further, others-own}
-use Rattle.turn_laws.proofs.Holders.{holder-there, there-member}
+use Rattle.turn_laws.specs.Laws.{SomebodyHolds}
+use Rattle.turn_laws.proofs.Holders.{there-member}
 use Rattle.serial_run.proofs.Lists.{zip-at, zip-at-first, position-none}
 use Rattle.serial_run.proofs.ScanSteps.{quiet-scan}
 
@@ -69,7 +75,7 @@ all-ours (entries.Off id request ∷ more)
 all-ours (entries.Finish id result ∷ more)
     mine = (refl, all-ours more (rest-ours (entries.Finish id result) more mine))
 
-keep-further : (v w : ControllerIs) → w.fixed ≡ v.fixed → Further is_ours v.history w.history
+pub keep-further : (v w : ControllerIs) → w.fixed ≡ v.fixed → Further is_ours v.history w.history
     → KeepsStepsLeft v w
 keep-further v w fixed f =
     let quiet = quiet-scan v f.more w.reserved (all-ours f.more f.mine) in
@@ -77,8 +83,15 @@ keep-further v w fixed f =
     { fixed = fixed i; history = f.is i; reserved = w.reserved } in
     subst (KeepsStepsLeft v) (sym same) quiet
 
-keep-same : (v : ControllerIs) → KeepsStepsLeft v v
-keep-same v = record { fixed = refl; left = refl; gone = refl; stop = refl }
+pub keep-same : (v : ControllerIs) → KeepsStepsLeft v v
+keep-same v = record {
+  fixed = refl;
+  left = refl;
+  gone = refl;
+  stop = refl;
+  powered = refl;
+  failures = refl;
+}
 
 zip-self : {X : Type 0} (R : X → X → Type 0) → ((x : X) → R x x) → (xs : List X) → AllZip R xs xs
 zip-self R same [] = tt
@@ -145,24 +158,27 @@ sum-less f g (z ∷ xs) (suc at) x y is less same =
 
 -- ---- hold turns
 
-abbrev turns_in : RingLog → ℕ → Bool → ℕ
-turns_in ring node left = turns_of ring.net ring.history node left
+abbrev turns_in : RingLog → ℕ → ℕ → Bool → ℕ
+turns_in ring node failures left = turns_of ring.net ring.history node failures left
 
 -- those of other nodes
-other-turns : (old new : RingLog) (n m : ℕ) (left : Bool) → new.net ≡ old.net → m ≢ n
+other-turns : (old new : RingLog) (n m failures : ℕ) (left : Bool) → new.net ≡ old.net → m ≢ n
     → Further (is_of n) old.history new.history
-    → turns_in new m left ≡ turns_in old m left
-other-turns old new n m left net other f =
-    (λ i. turns_of (net i) new.history m left)
-    ∙ ap (λ (b : List RingEntry). if left then 0 else (old.net.holds - count_by is_pass b) + 1)
+    → turns_in new m failures left ≡ turns_in old m failures left
+other-turns old new n m failures left net other f =
+    (λ i. turns_of (net i) new.history m failures left)
+    ∙ ap (λ (b : List RingEntry). if left then 0
+    else (old.net.holds - count_by is_pass b) * 2 + unnoticed_of failures b + 1)
     (others-own n m old.history new.history other f)
 
-pub own-turns : (old new : RingLog) (n : ℕ) (left was : Bool) → new.net ≡ old.net → was ≡ false
-    → turns_of old.net new.history n left < turns_of old.net old.history n false
-    → turns_in new n left < turns_in old n was
-own-turns old new n left was net none less =
-    subst (λ (b : Bool). turns_in new n left < turns_in old n b) (sym none)
-    (subst (λ (p : NetPlan). turns_of p new.history n left < turns_in old n false) (sym net) less)
+pub own-turns : (old new : RingLog) (n failures : ℕ) (left was : Bool) → new.net ≡ old.net
+    → was ≡ false
+    → turns_of old.net new.history n failures left < turns_of old.net old.history n failures false
+    → turns_in new n failures left < turns_in old n failures was
+own-turns old new n failures left was net none less =
+    subst (λ (b : Bool). turns_in new n failures left < turns_in old n failures b) (sym none)
+    (subst (λ (p : NetPlan). turns_of p new.history n failures left
+    < turns_in old n failures false) (sym net) less)
 
 -- nobody else is there
 here-counted : (left : Bool) → not left ≡ true → left ≡ false
@@ -170,10 +186,10 @@ here-counted true is = absurd (cc)
 here-counted false is = refl
 
 abbrev station_turns : RingLog → ControllerStation → ℕ
-station_turns ring s = turns_in ring s.node s.left
+station_turns ring s = turns_in ring s.node (failures_of s) s.left
 
 abbrev host_turns : RingLog → HostStation → ℕ
-host_turns ring s = turns_in ring s.node s.left
+host_turns ring s = turns_in ring s.node 0 s.left
 
 -- a hold turn of a controller's node
 pub controller-less : (plant : Plant) (scans : ℕ) (old new : Stations) (at : ℕ)
@@ -182,7 +198,8 @@ pub controller-less : (plant : Plant) (scans : ℕ) (old new : Stations) (at : �
     → new.controllers.items ≡ set old.controllers.items at t
     → new.hosts.items ≡ old.hosts.items → new.ring.net ≡ old.ring.net → t.node ≡ s.node
     → Further (is_of s.node) old.ring.history new.ring.history
-    → turns_in new.ring s.node t.left < turns_in old.ring s.node s.left
+    → turns_in new.ring s.node (failures_of t) t.left
+    < turns_in old.ring s.node (failures_of s) s.left
     → turns_left new < turns_left old
 controller-less plant scans old new at s t all is items hosts net node f less =
     let mine = zip-at (StandsController plant scans old.ring.history) plant.controllers
@@ -190,12 +207,12 @@ controller-less plant scans old new at s t all is items hosts net node f less =
     let controllers : sum_by (station_turns new.ring) (set old.controllers.items at t) < sum_by
     (station_turns old.ring) old.controllers.items =
     sum-less (station_turns old.ring) (station_turns new.ring) old.controllers.items at s t is
-    (subst (λ (n : ℕ). turns_in new.ring n t.left < turns_in old.ring s.node s.left) (sym node)
-    less)
+    (subst (λ (n : ℕ). turns_in new.ring n (failures_of t) t.left
+    < turns_in old.ring s.node (failures_of s) s.left) (sym node) less)
     (λ k z other is-z.
     let its = zip-at (StandsController plant scans old.ring.history) plant.controllers
     old.controllers.items k z all.controllers is-z in
-    other-turns old.ring new.ring s.node z.node z.left net
+    other-turns old.ring new.ring s.node z.node (failures_of z) z.left net
     (λ same. other (same-controller plant all.sound k at its.0 mine.0 its.1 mine.1
     (sym its.2.node ∙ (same ∙ mine.2.node)))) f) in
     let rest : sum_by (host_turns new.ring) old.hosts.items ≡ sum_by (host_turns old.ring)
@@ -204,7 +221,7 @@ controller-less plant scans old new at s t all is items hosts net node f less =
     (λ k z is-z.
     let its = zip-at (StandsHost plant old.ring.history) plant.hosts old.hosts.items k z all.hosts
     is-z in
-    other-turns old.ring new.ring s.node z.node z.left net
+    other-turns old.ring new.ring s.node z.node 0 z.left net
     (λ same. not-both plant all.sound at k mine.0 its.0 mine.1 its.1
     (sym mine.2.node ∙ (sym same ∙ its.2.node))) f) in
     let a : sum_by (station_turns new.ring) new.controllers.items ≡ sum_by (station_turns new.ring)
@@ -220,7 +237,7 @@ pub host-less : (plant : Plant) (scans : ℕ) (old new : Stations) (at : ℕ) (s
     → slice_get old.hosts.items at ≡ Some s → new.hosts.items ≡ set old.hosts.items at t
     → new.controllers.items ≡ old.controllers.items → new.ring.net ≡ old.ring.net → t.node ≡ s.node
     → Further (is_of s.node) old.ring.history new.ring.history
-    → turns_in new.ring s.node t.left < turns_in old.ring s.node s.left
+    → turns_in new.ring s.node 0 t.left < turns_in old.ring s.node 0 s.left
     → turns_left new < turns_left old
 host-less plant scans old new at s t all is items controllers net node f less =
     let mine = zip-at (StandsHost plant old.ring.history) plant.hosts old.hosts.items at s all.hosts
@@ -228,12 +245,12 @@ host-less plant scans old new at s t all is items controllers net node f less =
     let hosts : sum_by (host_turns new.ring) (set old.hosts.items at t) < sum_by
     (host_turns old.ring) old.hosts.items =
     sum-less (host_turns old.ring) (host_turns new.ring) old.hosts.items at s t is
-    (subst (λ (n : ℕ). turns_in new.ring n t.left < turns_in old.ring s.node s.left) (sym node)
+    (subst (λ (n : ℕ). turns_in new.ring n 0 t.left < turns_in old.ring s.node 0 s.left) (sym node)
     less)
     (λ k z other is-z.
     let its = zip-at (StandsHost plant old.ring.history) plant.hosts old.hosts.items k z all.hosts
     is-z in
-    other-turns old.ring new.ring s.node z.node z.left net
+    other-turns old.ring new.ring s.node z.node 0 z.left net
     (λ same. other (same-host plant all.sound k at its.0 mine.0 its.1 mine.1
     (sym its.2.node ∙ (same ∙ mine.2.node)))) f) in
     let rest : sum_by (station_turns new.ring) old.controllers.items ≡ sum_by
@@ -242,7 +259,7 @@ host-less plant scans old new at s t all is items controllers net node f less =
     (λ k z is-z.
     let its = zip-at (StandsController plant scans old.ring.history) plant.controllers
     old.controllers.items k z all.controllers is-z in
-    other-turns old.ring new.ring s.node z.node z.left net
+    other-turns old.ring new.ring s.node z.node (failures_of z) z.left net
     (λ same. not-both plant all.sound k at its.0 mine.0 its.1 mine.1
     (sym its.2.node ∙ (same ∙ mine.2.node))) f) in
     let a : sum_by (station_turns new.ring) new.controllers.items ≡ sum_by (station_turns new.ring)
@@ -274,34 +291,56 @@ not-both-zero : (a b : ℕ) → a + b ≢ 0 → (a ≢ 0) ⊎ (b ≢ 0)
 not-both-zero zero b some = inr (λ e. some (omega (arith, e)))
 not-both-zero (suc a) b some = inl (λ e. absurd (cc))
 
-false-of : (b : Bool) → false ≡ not b → b ≡ true
-false-of true is = refl
-false-of false is = absurd (cc)
+pub station-open : (run : Stations) → stations_here run ≢ 0
+    → ((k : ℕ) × (s : ControllerStation) × (slice_get run.controllers.items k ≡ Some s)
+    × (s.left ≡ false))
+    ⊎ ((k : ℕ) × (s : HostStation) × (slice_get run.hosts.items k ≡ Some s) × (s.left ≡ false))
+station-open run some = ⊎_elim
+    (λ (c : count_by (λ (s : ControllerStation). not s.left) run.controllers.items ≢ 0).
+    let found = counts-some (λ (s : ControllerStation). not s.left) run.controllers.items c in
+    inl (found.0, found.1, found.2, here-counted found.1.left found.3))
+    (λ (c : count_by (λ (s : HostStation). not s.left) run.hosts.items ≢ 0).
+    let found = counts-some (λ (s : HostStation). not s.left) run.hosts.items c in
+    inr (found.0, found.1, found.2, here-counted found.1.left found.3))
+    (not-both-zero _ _ some)
 
--- a station that has not left is there
-module _ (plant : Plant) (scans : ℕ) (run : Stations) (all : StandAll plant scans run) where
-  abbrev there : ℕ → Bool
-  there n = (ring_node (ring_after plant.net run.ring.history) n).here
+-- a station that has not left
+module _ (law : SomebodyHolds) (plant : Plant) (scans : ℕ) (run : Stations)
+    (all : StandAll plant scans run) where
+  abbrev left : ℕ → Bool
+  left n = node_has_left plant.net run.ring.history n
 
-  some-there : stations_here run ≢ 0 → (n : ℕ) × (there n ≡ true)
+  some-there : stations_here run ≢ 0 → (n : ℕ) × (left n ≡ false)
   some-there some = ⊎_elim
       (λ (c : count_by (λ (s : ControllerStation). not s.left) run.controllers.items ≢ 0).
       let found = counts-some (λ (s : ControllerStation). not s.left) run.controllers.items c in
       let its = zip-at (StandsController plant scans run.ring.history) plant.controllers
       run.controllers.items found.0 found.1 all.controllers found.2 in (
         its.0.node,
-        false-of (there its.0.node)
-            (sym (here-counted found.1.left found.3) ∙ its.2.left),
+        sym its.2.left ∙ here-counted found.1.left found.3,
       ))
       (λ (c : count_by (λ (s : HostStation). not s.left) run.hosts.items ≢ 0).
       let found = counts-some (λ (s : HostStation). not s.left) run.hosts.items c in
       let its = zip-at (StandsHost plant run.ring.history) plant.hosts run.hosts.items found.0
       found.1 all.hosts found.2 in (
         its.0.node,
-        false-of (there its.0.node)
-            (sym (here-counted found.1.left found.3) ∙ its.2.left),
+        sym its.2.left ∙ here-counted found.1.left found.3,
       ))
       (not-both-zero _ _ some)
+
+  pub holder-member : stations_here run ≢ 0
+      → IsMember plant.net (ring_after plant.net run.ring.history).holder
+      × (is_in (status_at plant.net run.ring.history
+      (ring_after plant.net run.ring.history).holder) ≡ true)
+  holder-member some =
+      let holder = (ring_after plant.net run.ring.history).holder in
+      let somebody = some-there some in
+      ⊎_elim
+      (λ (is : status_at plant.net run.ring.history holder ≡ In).
+      (there-member plant.net run.ring.history holder all.legal (ap is_in is), ap is_in is))
+      (λ (nobody : (holder ≡ 0) × ((k : ℕ) → left k ≡ true)). absurd (true≢false
+      (sym (nobody.1 somebody.0) ∙ somebody.1)))
+      (law plant.net run.ring.history (low-members plant all.sound) all.legal)
 
   -- then the holder is a station's node
   pub holder-found : stations_here run ≢ 0
@@ -315,7 +354,7 @@ module _ (plant : Plant) (scans : ℕ) (run : Stations) (all : StandAll plant sc
       (λ (net : NetPlan). (ring_after net run.ring.history).holder) all.net in
       let somebody = some-there some in
       ⊎_elim
-      (λ (is : there holder ≡ true). ⊎_elim
+      (λ (is : status_at plant.net run.ring.history holder ≡ In). ⊎_elim
       (λ (c : (k : ℕ) × (p : _) × (slice_get plant.controllers k ≡ Some p) × (p.node ≡ holder)).
       let its = zip-at-first (StandsController plant scans run.ring.history) plant.controllers
       run.controllers.items c.0 c.1 all.controllers c.2 in
@@ -331,17 +370,17 @@ module _ (plant : Plant) (scans : ℕ) (run : Stations) (all : StandAll plant sc
       let yes = eq-eqb its.0.node (ring_of run.ring).holder (its.2.node ∙ (c.3 ∙ sym same)) in
       true≢false (sym yes ∙ no'))
       (member-station plant all.sound holder
-      (there-member plant.net run.ring.history holder is)).found)
-      (λ (nobody : (holder ≡ 0) × ((k : ℕ) → there k ≡ false)). true≢false
-      (sym somebody.1 ∙ nobody.1 somebody.0))
-      (holder-there plant.net run.ring.history)
+      (there-member plant.net run.ring.history holder all.legal (ap is_in is))).found)
+      (λ (nobody : (holder ≡ 0) × ((k : ℕ) → left k ≡ true)). true≢false
+      (sym (nobody.1 somebody.0) ∙ somebody.1))
+      (law plant.net run.ring.history (low-members plant all.sound) all.legal)
 
-pub lessens-none : (plant : Plant) (scans : ℕ) (run : Stations) → StandAll plant scans run
+pub lessens-none : (law : SomebodyHolds) (plant : Plant) (scans : ℕ) (run : Stations) → StandAll plant scans run
     → position (λ (s : ControllerStation). s.node == (ring_of run.ring).holder)
     run.controllers.items ≡ None
     → position (λ (s : HostStation). s.node == (ring_of run.ring).holder) run.hosts.items ≡ None
     → Lessens run run
-lessens-none plant scans run all none no-host = record {
+lessens-none law plant scans run all none no-host = record {
   no_more = omega arith;
-  less = λ some. absurd (holder-found plant scans run all some none no-host);
+  less = λ some. absurd (holder-found law plant scans run all some none no-host);
 }

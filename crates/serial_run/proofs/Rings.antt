@@ -1,6 +1,6 @@
 -- Members of the ring and their Passes, as the ring goes on.
 use Rattle.std.proofs.Common.{◌≡◌, ◌≢◌, ℕ, zero, suc, ◌+◌, ◌<◌, ◌==◌, Bool, true}
-use Rattle.std.proofs.Common.{false, cond, List, [], ◌∷◌, ◌++◌, length, set}
+use Rattle.std.proofs.Common.{false, cond, List, [], ◌∷◌, ◌++◌, length, set, map, nat_le}
 use Rattle.std.proofs.Common.{replicate, count_by, refl, sym, ap, subst, ◌∙◌, arith}
 use Rattle.std.proofs.Common.{⊎_elim, All, append-nil, append_assoc}
 use Rattle.std.proofs.lemmas.Bool.{cases_eq, cond_both, eq-eqb, ne_eqb}
@@ -9,12 +9,25 @@ use Rattle.std.proofs.lemmas.List.Sums.{sum_by-append}
 use Rattle.plant_types.specs.declared.net.NetPlan.{NetPlan}
 use Rattle.ring_core.specs.declared.entry.RingEntry.{RingEntry}
 use Rattle.ring_core.specs.declared.entry.RingEntry.TheVariants.{Post, Send, Take, Local, GiveUp}
-use Rattle.ring_core.specs.declared.entry.RingEntry.TheVariants.{Pass, Leave}
+use Rattle.ring_core.specs.declared.entry.RingEntry.TheVariants.{Pass, Leave, Join}
 use Rattle.ring_core.specs.Words.{maker}
 use Rattle.ring_core.specs.Machine.{NodeIs, RingIs, addresses, fresh, part_of, ring_node}
-use Rattle.ring_core.specs.Machine.{after_pass, gone}
-use Rattle.ring_core.specs.Machine.{after, ring_after}
-use Rattle.ring_core.specs.Machine.{with_members}
+use Rattle.ring_core.specs.Machine.{after_pass, admitted, left_with}
+use Rattle.ring_core.specs.Machine.{after, ring_after, is_held, is_here, sent_head}
+use Rattle.ring_core.specs.Machine.{arrival, arrived, fate_at, heard_by, heard_of, sent_off, failed}
+use Rattle.ring_core.specs.Machine.{fell, is_full, is_repeat, path_of, silence_word, waits_for}
+use Rattle.ring_core.specs.Machine.{with_frame, with_members}
+use Rattle.ring_core.specs.declared.entry.LeaveCause.{LeaveCause}
+use Rattle.ring_core.specs.declared.entry.LeaveCause.TheVariants.{Ended, Spent, Down}
+use Rattle.plant_types.specs.declared.net.Fate.{Fate}
+use Rattle.tied_lists.proofs.Histories.{arrived-part}
+use Rattle.ring_core.specs.declared.entry.Heard.{Heard}
+use Rattle.ring_core.specs.declared.entry.Heard.TheVariants.{Acked, Silent, Busy}
+use Rattle.ring_core.specs.declared.frame.Frame.{Frame}
+use Rattle.ring_core.specs.declared.frame.FrameKind.{FrameKind}
+use Rattle.ring_core.specs.declared.frame.FrameKind.TheVariants.{Request, Reply}
+use Rattle.ring_core.proofs.Stability.{admitted-part}
+use Rattle.mstr_block.specs.declared.call.CallId.{CallId}
 use Rattle.ring_core.specs.Legal.{IsLegalRing, IsRun, IsRingStep}
 use Rattle.ring_core.specs.Kept.{IsSoundRing}
 use Rattle.ring_core.proofs.Keeping.{sourced}
@@ -22,7 +35,6 @@ use Rattle.ring_core.proofs.Sound.{after-sound, opening-sound}
 use Rattle.tied_lists.specs.Own.{own}
 use Rattle.tied_lists.proofs.Turns.{next-ring}
 use Rattle.joint_history.specs.Complete.{is_pass}
-use Rattle.turn_laws.proofs.Holders.{seen-set, seen-sent}
 
 -- a write of another node
 pub other-set : (nodes : List NodeIs) (m k : ℕ) (c : NodeIs) → m ≢ k
@@ -48,6 +60,57 @@ count-more p xs ys = sum_by-append (λ x. cond (p x) 1 0) xs ys
 
 abbrev passes : RingIs → ℕ → ℕ
 passes r n = (ring_node r n).passes
+
+-- writes that keep it
+passes-set : (nodes : List NodeIs) (m k : ℕ) (c : NodeIs) → c.passes ≡ (part_of nodes m).passes
+    → (part_of (set nodes m c) k).passes ≡ (part_of nodes k).passes
+passes-set [] m k c e = refl
+passes-set (d ∷ ds) zero zero c e = e
+passes-set (d ∷ ds) zero (suc k) c e = refl
+passes-set (d ∷ ds) (suc m) zero c e = refl
+passes-set (d ∷ ds) (suc m) (suc k) c e = passes-set ds m k c e
+
+passes-admitted : (nodes : List NodeIs) (k : ℕ)
+    → (part_of (map admitted nodes) k).passes ≡ (part_of nodes k).passes
+passes-admitted nodes k = ap (λ (c : NodeIs). c.passes) (admitted-part nodes k)
+
+passes-fell : (c : NodeIs) (f : Frame) (kind : FrameKind)
+    → (with_frame c (fell c kind f.id) f).passes ≡ c.passes
+passes-fell c f Request =
+    cond_both (is_repeat c f.id) _ _ (λ x. (with_frame c x f).passes ≡ c.passes) (λ _. refl)
+    (λ _. cond_both (is_full c) _ _ (λ x. (with_frame c x f).passes ≡ c.passes) (λ _. refl)
+    (λ _. refl))
+passes-fell c f Reply = cond_both (waits_for (path_of c f.id.path).awaits f.id.seq) _ _
+    (λ x. (with_frame c x f).passes ≡ c.passes) (λ _. refl) (λ _. refl)
+
+passes-arrived : (nodes : List NodeIs) (f : Frame) (fate : Fate) (k : ℕ)
+    → (part_of (arrived nodes f (arrival nodes fate f)) k).passes ≡ (part_of nodes k).passes
+passes-arrived nodes f fate k =
+    arrived-part nodes f fate (λ (k : ℕ) (c : NodeIs). c.passes ≡ (part_of nodes k).passes)
+    (λ k. refl) (λ here. passes-fell (part_of nodes f.to) f f.kind) k
+
+passes-heard : (c : NodeIs) (kind : FrameKind) (id : CallId) (there : Bool) (h : Heard)
+    → (heard_by c kind id there h).passes ≡ c.passes
+passes-heard c kind id there Acked = refl
+passes-heard c kind id there Busy = refl
+passes-heard c kind id there Silent =
+    cond_both (nat_le 2 c.tries) (sent_off c (failed c kind id (silence_word there))) _
+    (λ (x : NodeIs). x.passes ≡ c.passes) (λ _. refl) (λ _. refl)
+
+passes-sent : (net : NetPlan) (r : RingIs) (m : ℕ) (box : List Frame) (k : ℕ)
+    → passes (sent_head net r m box) k ≡ passes r k
+passes-sent net r m [] k = refl
+passes-sent net r m (f ∷ fs) k =
+    let fall = arrival r.nodes (fate_at net.fates r.sent) f in
+    let nodes = arrived r.nodes f fall in
+    passes-set nodes m k _ (passes-heard (part_of nodes m) f.kind f.id (is_here (ring_node r f.to))
+    (heard_of (fate_at net.fates r.sent) fall))
+    ∙ passes-arrived r.nodes f (fate_at net.fates r.sent) k
+
+passes-left : (cause : LeaveCause) (c : NodeIs) → (left_with cause c).passes ≡ c.passes
+passes-left Ended c = refl
+passes-left Spent c = refl
+passes-left (Down number) c = refl
 
 abbrev passed : ℕ → List RingEntry → ℕ
 passed n es = count_by is_pass (own n es)
@@ -89,34 +152,29 @@ passes-after : (net : NetPlan) (past : List RingEntry) (r : RingIs) (n : ℕ) (e
     → All (λ m. m < addresses) net.members → IsRingStep net past e
     → passes (after net r e) n ≡ passes r n + passed n (e ∷ [])
 passes-after net past r n (Post m f) size low step =
-    none-more _ _ _ (ap (λ (p : Bool × ℕ). p.1) (seen-set r.nodes m n _ refl))
-    (quiet-entry n m (Post m f) refl)
+    none-more _ _ _ (passes-set r.nodes m n _ refl) (quiet-entry n m (Post m f) refl)
 passes-after net past r n (Send m heard) size low step =
-    none-more _ _ _ (ap (λ (p : Bool × ℕ). p.1) (seen-sent net r m (ring_node r m).outbox n))
+    none-more _ _ _ (passes-sent net r m (ring_node r m).outbox n)
     (quiet-entry n m (Send m heard) refl)
 passes-after net past r n (Take m f) size low step =
-    none-more _ _ _ (ap (λ (p : Bool × ℕ). p.1) (seen-set r.nodes m n _ refl))
-    (quiet-entry n m (Take m f) refl)
+    none-more _ _ _ (passes-set r.nodes m n _ refl) (quiet-entry n m (Take m f) refl)
 passes-after net past r n (Local m id op result) size low step = none-more _ _ _ refl
     (quiet-entry n m (Local m id op result) refl)
 passes-after net past r n (GiveUp id word) size low step =
-    none-more _ _ _ (ap (λ (p : Bool × ℕ). p.1) (seen-set r.nodes id.node n _ refl))
+    none-more _ _ _ (passes-set r.nodes id.node n _ refl)
     (quiet-entry n id.node (GiveUp id word) refl)
 passes-after net past r n (Pass m done words) size low step =
     let small : m < addresses = All-contains (λ k. k < addresses) net.members m low step.0 in
-    passes-with r.nodes r.holder r.sent m n done words (λ _. omega (arith, size, small))
+    passes-admitted (set r.nodes m (after_pass (ring_node r m) done)) n
+    ∙ passes-with r.nodes r.holder r.sent m n done words (λ _. omega (arith, size, small))
 passes-after net past r n (Leave m cause) size low step =
-    none-more _ _ _ (⊎_elim
-    (λ (e : m ≡ n). left-passes r.nodes m n e)
-    (λ (other : m ≡ n → ⊥). ap (λ (c : NodeIs). c.passes) (other-set r.nodes m n _ other))
-    (cases_eq m n)) (quiet-entry n m (Leave m cause) refl) where
-      left-passes : (nodes : List NodeIs) (a b : ℕ) → a ≡ b
-          → (part_of (set nodes a (gone (part_of nodes a))) b).passes ≡ (part_of nodes b).passes
-      left-passes [] a b e = refl
-      left-passes (d ∷ ds) zero zero e = refl
-      left-passes (d ∷ ds) zero (suc b) e = refl
-      left-passes (d ∷ ds) (suc a) zero e = refl
-      left-passes (d ∷ ds) (suc a) (suc b) e = left-passes ds a b (omega (arith, e))
+    none-more _ _ _ (passes-admitted (set r.nodes m (left_with cause (ring_node r m))) n
+    ∙ passes-set r.nodes m n _ (passes-left cause (ring_node r m)))
+    (quiet-entry n m (Leave m cause) refl)
+passes-after net past r n (Join m) size low step =
+    none-more _ _ _ (cond_both (is_held r) _ _ (λ (x : RingIs). passes x n ≡ passes r n)
+    (λ _. passes-set r.nodes m n _ refl) (λ _. passes-set r.nodes m n _ refl))
+    (quiet-entry n m (Join m) refl)
 
 counted-from : (net : NetPlan) (n : ℕ) (past es : List RingEntry) → (k : ℕ)
     → IsSoundRing k (ring_after net past)

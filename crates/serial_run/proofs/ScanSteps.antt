@@ -14,8 +14,9 @@ use Rattle.scan_order.specs.Due.{due, ends_scan, input_of, row_of}
 use Rattle.plant_types.specs.declared.drops.IoDrop.{IoDrop}
 use Rattle.controller_core.specs.declared.fixed.Fixed.{Fixed}
 use Rattle.controller_core.specs.declared.entry.Entry.{Entry}
+use Rattle.controller_core.specs.declared.entry.Entry.TheVariants as entries
 use Rattle.controller_core.specs.Replay.{ControllerState, apply, replay, start, read_in}
-use Rattle.controller_core.specs.Event.{entry_of, scan_steps}
+use Rattle.controller_core.specs.Event.{entry_of, maker_of, scan_steps}
 use Rattle.controller_core.specs.Scans.{all_due, closes_scan, scans_from}
 use Rattle.controller_core.specs.Controller.{ControllerIs, due_step, first_step, has_ended, is_none}
 use Rattle.controller_core.specs.Controller.{left_of, made, state_of, stepped, grown}
@@ -348,6 +349,36 @@ gone-stays v added of =
     ap (λ (t : ControllerState). t.gone) (replay_append v.fixed (start v.fixed.plan) v.history added)
     ∙ gone-from v.fixed (state_of v) added of
 
+-- power, and how often it failed
+abbrev SamePower : ControllerState → ControllerState → Type 0
+SamePower s t = (t.powered ≡ s.powered) × (t.failures ≡ s.failures)
+
+power-entry : (f : Fixed) (s : ControllerState) (e : Entry) → maker_of e ≡ Communication
+    → SamePower s (apply f s e)
+power-entry f s entries.Begin of = absurd (cc)
+power-entry f s (entries.Input row) of = absurd (cc)
+power-entry f s (entries.Solve row) of = absurd (cc)
+power-entry f s (entries.Output row words) of = absurd (cc)
+power-entry f s entries.End of = absurd (cc)
+power-entry f s entries.Fail of = absurd (cc)
+power-entry f s entries.Dark of = absurd (cc)
+power-entry f s (entries.Collect calls) of = (refl, refl)
+power-entry f s (entries.Peer id request reply) of = (refl, refl)
+power-entry f s (entries.Off id request) of = (refl, refl)
+power-entry f s (entries.Finish id result) of = (refl, refl)
+
+power-from : (f : Fixed) (s : ControllerState) (added : List Entry) → AreOf Communication added
+    → SamePower s (fold (apply f) s added)
+power-from f s [] of = (refl, refl)
+power-from f s (e ∷ added) of =
+    let one = power-entry f s e of.0 in
+    let more = power-from f (apply f s e) added of.1 in
+    (more.0 ∙ one.0, more.1 ∙ one.1)
+
+added-state : (v : ControllerIs) (added : List Entry)
+    → state_of (grown v added v.reserved) ≡ fold (apply v.fixed) (state_of v) added
+added-state v added = replay_append v.fixed (start v.fixed.plan) v.history added
+
 pub quiet-scan : (v : ControllerIs) (added : List Entry) (reserved : Bool)
     → AreOf Communication added → KeepsStepsLeft v (grown v added reserved)
 quiet-scan v added reserved of = record {
@@ -356,6 +387,10 @@ quiet-scan v added reserved of = record {
       (steps-stay v.history added of);
   gone = gone-stays v added of;
   stop = stop_stays v added of;
+  powered = ap (λ (t : ControllerState). t.powered) (added-state v added)
+      ∙ (power-from v.fixed (state_of v) added of).0;
+  failures = ap (λ (t : ControllerState). t.failures) (added-state v added)
+      ∙ (power-from v.fixed (state_of v) added of).1;
 } where
   steps-stay : (h added : List Entry) → AreOf Communication added
       → scan_steps (h ++ added) ≡ scan_steps h

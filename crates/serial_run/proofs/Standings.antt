@@ -14,6 +14,7 @@ use Rattle.controller_core.specs.declared.entry.Entry.TheVariants as entries
 use Rattle.controller_core.specs.declared.entry.Maker.TheVariants.{Scan}
 use Rattle.controller_core.specs.Controller.{ControllerIs, AreOf, ControllerWentOn}
 use Rattle.tied_lists.specs.Own.{is_of}
+use Rattle.tied_lists.proofs.Turns.{on-others}
 use Rattle.joint_history.specs.Reading.{is_ours}
 use Rattle.comm_port.specs.Worker.{Standing, WorkerIs}
 use Rattle.comm_port.specs.HostTurns.{HostTies}
@@ -44,11 +45,12 @@ comm-others : (plant : Plant) (w : WorkerIs) (v : ControllerIs) (n : ℕ) (old n
 comm-others plant w v n old new sound member other f legal s =
     subst (Standing w (plain_ram_side v) v.history (own_side plant.net)) (sym f.is)
     (standing-others w (plain_ram_side v) v.history (own_side plant.net) old f.more
-    (record {
+    (on-others plant.net w.node old f.more (record {
       members = low-members plant sound;
-      legal = subst (IsLegalRing plant.net) f.is legal;
+      legal = s.legal;
       member = member;
-    })
+      patient = s.patient;
+    }) (subst (IsLegalRing plant.net) f.is legal) (others-none n w.node old new other f))
     (others-none n w.node old new other f) s)
 
 ties-others : (net : NetPlan) (host : _) (m n : ℕ) (old new : List RingEntry) → m ≢ n

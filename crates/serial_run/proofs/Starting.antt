@@ -1,16 +1,14 @@
 -- Stations at their start.
-use Rattle.std.proofs.Common.{◌≡◌, ℕ, ◌+◌, true, false, List, [], None}
-use Rattle.std.proofs.Common.{replicate, refl, sym, ap, subst, ◌∙◌, arith}
-use Rattle.std.specs.Prelude.{not}
+use Rattle.std.proofs.Common.{◌≡◌, ℕ, ◌+◌, true, false, List, []}
+use Rattle.std.proofs.Common.{refl, sym, ap, subst, ◌∙◌, arith}
 use Rattle.plant_types.specs.declared.net.HostPlan.{HostPlan}
 use Rattle.plant_types.specs.declared.plan.ControllerPlan.{ControllerPlan}
 use Rattle.plant_types.specs.declared.plan.Plant.{Plant}
-use Rattle.plant_types.specs.Plans.{IsPlant, KeepsPower}
-use Rattle.ring_core.specs.Machine.{path_places}
+use Rattle.plant_types.specs.Plans.{IsPlant}
 use Rattle.ring_core.specs.Legal.{IsMember}
 use Rattle.controller_core.specs.Controller.{ControllerIs, IsLegal}
 use Rattle.joint_history.specs.JointLaws.{fixed_of}
-use Rattle.comm_port.specs.Worker.{WorkerIs}
+use Rattle.comm_port.specs.Worker.{WorkerIs, new_worker}
 use Rattle.comm_port.specs.HostTurns.{HostWorkerIs}
 use Rattle.comm_port.proofs.HostTurnLaws.{host-ties-new}
 use Rattle.host_port.specs.Host.{HostIs}
@@ -24,7 +22,8 @@ use Rattle.controller_core.specs.Controller.{left_of}
 use Rattle.controller_core.specs.Replay.{replay}
 use Rattle.controller_core.specs.Scans.{scans_from}
 use Rattle.serial_run.specs.declared.stations.Stations.{Stations}
-use Rattle.serial_run.specs.Turns.{empty_host_log, empty_log, has_left}
+use Rattle.tied_lists.specs.Waits.{has_left}
+use Rattle.serial_run.specs.Turns.{empty_host_log, empty_log, node_has_left}
 use Rattle.serial_run.specs.Scans.{IsBetweenScans}
 use Rattle.serial_run.specs.Stations.{StandsController, StandsHost, StartsController, StartsHost}
 use Rattle.serial_run.specs.Stations.{StartControllers, StartHosts, Starts, host_log_of, log_of}
@@ -37,26 +36,20 @@ use Rattle.turn_laws.proofs.HostOthers.{host-starts}
 use Rattle.turn_laws.proofs.Holders.{member-there}
 
 nobody-left : (plant : Plant) → IsPlant plant → (n : ℕ) → IsMember plant.net n
-    → false ≡ has_left plant.net [] n
+    → false ≡ node_has_left plant.net [] n
 nobody-left plant sound n member =
     let node = member-node plant sound n member in
     let to = node.to in
-    ap not (sym (member-there plant.net n (omega arith) member))
+    sym (ap has_left (member-there plant.net n (omega (arith, to)) member))
 
 pub start-controller : (plant : Plant) (scans : ℕ) (plan : ControllerPlan) (v : ControllerIs)
-    (w : WorkerIs) → IsPlant plant → IsMember plant.net plan.node → KeepsPower plan
+    (w : WorkerIs) → IsPlant plant → IsMember plant.net plan.node
     → IsLegal (fixed_of plant scans plan) []
     → v ≡ record { fixed = fixed_of plant scans plan; history = []; reserved = false }
-    → w ≡ record {
-      node = plan.node;
-      net = plant.net;
-      budget = true;
-      waiting = replicate path_places
-          None;
-    }
+    → w ≡ new_worker plan.node plant.net true
     → StartsController plant scans plan
     (record { node = plan.node; controller = v; worker = w; left = false })
-start-controller plant scans plan v w sound member power legal v-is w-is =
+start-controller plant scans plan v w sound member legal v-is w-is =
     subst (λ (v : ControllerIs). StartsController plant scans plan
     (record { node = plan.node; controller = v; worker = w; left = false })) (sym v-is)
     (subst (λ (w : WorkerIs). StartsController plant scans plan (record {
@@ -73,8 +66,8 @@ start-controller plant scans plan v w sound member power legal v-is w-is =
         fixed = refl;
         legal = legal;
         standing = standing-new plan.node plant.net true
-            (record { fixed = fixed_of plant scans plan; place = tt }) [] (own_side plant.net) refl
-            power refl tt refl;
+            (record { fixed = fixed_of plant scans plan; place = tt }) [] (own_side plant.net)
+            refl refl tt refl;
         left = nobody-left plant sound plan.node member;
         keeps = starts (fixed_of plant scans plan) plant.net plan.node [] refl;
       };
@@ -105,7 +98,12 @@ start-host plant plan v w sound member legal v-is w-is =
         budget = refl;
         plan_is = refl;
         ties = host-ties-new plan (own_side plant.net) legal tt
-            (record { members = low-members plant sound; legal = tt; member = member })
+            (record {
+              members = low-members plant sound;
+              legal = tt;
+              member = member;
+              patient = tt;
+            })
             (let from = sound.net.answer.from in omega (arith, from));
         counts = refl;
         left = nobody-left plant sound plan.node member;

@@ -1,25 +1,31 @@
 -- What a station's own turn did to it and to the ring. This project's own.
-use Rattle.std.specs.Prelude.{◌≡◌, ◌≢◌, ℕ, ◌+◌, ◌-◌, ◌<◌, ◌≤◌, ◌&&◌, Bool, true, false, not, List}
-use Rattle.std.specs.Prelude.{if◌then◌else◌}
+use Rattle.std.specs.Prelude.{◌≡◌, ◌≢◌, ℕ, ◌+◌, ◌-◌, ◌*◌, ◌<◌, ◌≤◌, ◌&&◌, Bool, true, false, not}
+use Rattle.std.specs.Prelude.{List, ◌++◌, if◌then◌else◌, nat_lt}
 use Rattle.std.specs.List.{All, AllZip, sum_by, count_by}
 use Rattle.plant_types.specs.declared.net.NetPlan.{NetPlan}
 use Rattle.ring_core.specs.declared.entry.RingEntry.{RingEntry}
+use Rattle.ring_core.specs.declared.status.NodeStatus.{NodeStatus}
+use Rattle.ring_core.specs.declared.status.NodeStatus.TheVariants.{In, Away, Asking, Gone}
 use Rattle.ring_core.specs.Kept.{RingLog}
 use Rattle.ring_core.specs.Legal.{IsLegalRing}
-use Rattle.controller_core.specs.Controller.{IsLegal, has_started}
+use Rattle.ring_core.specs.Machine.{is_in}
+use Rattle.controller_core.specs.Controller.{IsLegal, has_started, is_off, state_of}
+use Rattle.tied_lists.specs.Items.{latest_down}
 use Rattle.tied_lists.specs.Own.{own}
+use Rattle.tied_lists.specs.Waits.{Holds, status_at}
 use Rattle.joint_history.specs.Complete.{is_pass}
-use Rattle.comm_port.specs.HoldTurn.{HoldsTurn, VisitsEnd}
+use Rattle.comm_port.specs.declared.turn_end.TurnEnd.{TurnEnd}
+use Rattle.comm_port.specs.HoldTurn.{VisitsEnd}
+use Rattle.comm_port.specs.WholeTurn.{HoldsTurn}
 use Rattle.comm_port.specs.HostTurns.{CountsPasses, HoldsHostTurn, HostTies}
-use Rattle.comm_port.specs.Worker.{Standing}
-use Rattle.tied_lists.specs.Waits.{Holds}
+use Rattle.comm_port.specs.Worker.{IsMemberWorker, IsSameWorker, Standing}
+use Rattle.comm_port.specs.HostStands.{own_side}
+use Rattle.turn_laws.specs.KeepsOn.{HostKeepsOn, KeepsOn, leaves_out}
+use Rattle.turn_laws.specs.Laws.{EndsWhere}
 use Rattle.serial_run.specs.declared.stations.ControllerStation.{ControllerStation}
 use Rattle.serial_run.specs.declared.stations.HostStation.{HostStation}
 use Rattle.serial_run.specs.declared.stations.Stations.{Stations}
-use Rattle.serial_run.specs.Turns.{has_left}
-use Rattle.comm_port.specs.Worker.{IsMemberWorker}
-use Rattle.comm_port.specs.HostStands.{own_side}
-use Rattle.turn_laws.specs.KeepsOn.{HostKeepsOn, KeepsOn}
+use Rattle.serial_run.specs.Turns.{coming_back, may_visit, node_has_left}
 use Rattle.serial_run.specs.Stations.{plain_ram_side}
 
 -- A controller's station beside the ring alone.
@@ -39,7 +45,7 @@ HasToken node ring = Holds ring.net ring.history node
 -- A station knows whether its node has left.
 abbrev pub KnowsLeft : ControllerStation → RingLog → Type 0
 KnowsLeft station ring =
-    station.left ≡ has_left ring.net ring.history station.worker.node
+    station.left ≡ node_has_left ring.net ring.history station.worker.node
 
 -- What the lists of a controller's station keep from turn to turn.
 pub record KeepsBeside (station : ControllerStation) (ring : RingLog) : Type 0 where
@@ -53,33 +59,61 @@ abbrev pub HostKeepsBeside : HostStation → RingLog → Type 0
 HostKeepsBeside station ring =
     HostKeepsOn station.host.plan ring.net station.host.history ring.history station.left
 
--- A station that has left has collected all calls.
-abbrev pub HasCollected : ControllerStation → Type 0
-HasCollected station = station.left ≡ true → has_started station.controller ≡ false
+-- Where the node of a station stands.
+abbrev pub status_in : RingLog → ℕ → NodeStatus
+status_in ring node = status_at ring.net ring.history node
 
-abbrev pub AreCollected : Stations → Type 0
-AreCollected run = All HasCollected run.controllers.items
+-- A node left as its power failed, and has not asked to come in since.
+abbrev pub is_away_status : NodeStatus → Bool
+is_away_status In = false
+is_away_status Away = true
+is_away_status Asking = false
+is_away_status Gone = false
 
--- Stations that had collected all calls still have.
-abbrev pub StaysCollected : ControllerStation → ControllerStation → Type 0
-StaysCollected old new = HasCollected old → HasCollected new
+abbrev pub is_away : RingLog → ℕ → Bool
+is_away ring node = is_away_status (status_in ring node)
 
-abbrev pub StayCollected : Stations → Stations → Type 0
-StayCollected old new = AllZip StaysCollected old.controllers.items new.controllers.items
+-- A node is a member now.
+abbrev pub is_in_ring : RingLog → ℕ → Bool
+is_in_ring ring node = is_in (status_in ring node)
 
--- The station of a node has collected all calls, and the others that had still have.
-pub record CollectsFor (node : ℕ) (old new : ControllerStation) : Type 0 where
-  pub stays : StaysCollected old new
-  pub visited : old.node ≡ node → HasCollected new
+-- A station whose node is away has no power.
+abbrev pub IsOffAway : RingLog → ControllerStation → Type 0
+IsOffAway ring station = is_away ring station.node ≡ true → is_off station.controller ≡ true
 
-abbrev pub CollectFor : ℕ → Stations → Stations → Type 0
-CollectFor node old new =
-    AllZip (CollectsFor node) old.controllers.items new.controllers.items
+-- A station's visit is due.
+abbrev pub is_visit_due : RingLog → ControllerStation → Bool
+is_visit_due ring station =
+    may_visit station.controller.fixed station.controller.history (status_in ring station.node)
+    && has_started station.controller
+
+abbrev pub IsVisited : RingLog → ControllerStation → Type 0
+IsVisited ring station = is_visit_due ring station ≡ false
+
+-- All stations have something.
+abbrev pub AllHave : (RingLog → ControllerStation → Type 0) → Stations → Type 0
+AllHave Has run = All (Has run.ring) run.controllers.items
+
+-- Stations that had it still have.
+abbrev pub Stay : (RingLog → ControllerStation → Type 0) → Stations → Stations → Type 0
+Stay Has old new = AllZip
+    (λ (a b : ControllerStation). Has old.ring a → Has new.ring b)
+    old.controllers.items new.controllers.items
+
+-- The station of a node has it, and the others that had still have.
+pub record Gains (Has : RingLog → ControllerStation → Type 0) (node : ℕ) (ring new_ring : RingLog)
+    (old new : ControllerStation) : Type 0 where
+  pub stays : Has ring old → Has new_ring new
+  pub gains : old.node ≡ node → Has new_ring new
+
+abbrev pub GainFor : (RingLog → ControllerStation → Type 0) → ℕ → Stations → Stations → Type 0
+GainFor Has node old new =
+    AllZip (Gains Has node old.ring new.ring) old.controllers.items new.controllers.items
 
 -- What no turn changes of a controller's station, and that its lists are legal.
 pub record StaysStation (old new : ControllerStation) (ring new_ring : RingLog) : Type 0 where
   pub node : new.node ≡ old.node
-  pub worker : new.worker ≡ record old.worker { waiting = new.worker.waiting }
+  pub worker : IsSameWorker old.worker new.worker
   pub fixed : new.controller.fixed ≡ old.controller.fixed
   pub legal : IsLegal new.controller.fixed new.controller.history
   pub net : new_ring.net ≡ ring.net
@@ -89,12 +123,15 @@ pub record StaysStation (old new : ControllerStation) (ring new_ring : RingLog) 
 -- A controller's station made its hold turn.
 pub record HeldController (old new : ControllerStation) (ring new_ring : RingLog) : Type 0 where
   pub stays : StaysStation old new ring new_ring
+  pub end : TurnEnd
   pub turn : HoldsTurn true true old.controller.fixed ring.net old.worker.node old.worker.budget
-      old.controller.history new.controller.history ring.history new_ring.history new.left
-  pub left : new.left ≡ has_left ring.net new_ring.history old.worker.node
+      old.controller.history new.controller.history ring.history new_ring.history end
+  pub ends_where : EndsWhere old.controller.fixed ring.net old.worker.node end
+      new.controller.history new_ring.history
+  pub left_is : new.left ≡ leaves_out end
+  pub left : new.left ≡ node_has_left ring.net new_ring.history old.worker.node
   pub keeps : KeepsOn old.controller.fixed ring.net old.worker.node new.controller.history
       new_ring.history new.left
-  pub collected : has_started new.controller ≡ false
 
 -- A host's station made its hold turn.
 pub record HeldHost (old new : HostStation) (ring new_ring : RingLog) : Type 0 where
@@ -107,7 +144,7 @@ pub record HeldHost (old new : HostStation) (ring new_ring : RingLog) : Type 0 w
   pub stands : HostStandsBeside new new_ring
   pub turn : HoldsHostTurn true ring.net old.worker.node old.host.plan old.worker.budget
       old.host.history new.host.history ring.history new_ring.history new.left
-  pub left : new.left ≡ has_left ring.net new_ring.history old.worker.node
+  pub left : new.left ≡ node_has_left ring.net new_ring.history old.worker.node
   pub keeps : HostKeepsOn old.host.plan ring.net new.host.history new_ring.history new.left
 
 -- A controller's station made its visit, or none was due.
@@ -122,26 +159,58 @@ pub record VisitedController (old new : ControllerStation) (ring new_ring : Ring
     : Type 0 where
   pub stays : StaysStation old new ring new_ring
   pub left : new.left ≡ old.left
-  pub visit : VisitedWhere (old.left && has_started old.controller) old new ring new_ring
+  pub visit : VisitedWhere (is_visit_due ring old) old new ring new_ring
   pub keeps : KeepsOn old.controller.fixed ring.net old.worker.node new.controller.history
       new_ring.history new.left
-  pub collected : HasCollected new
+  pub status : status_at ring.net new_ring.history old.worker.node
+      ≡ status_at ring.net ring.history old.worker.node
+  pub visited : IsVisited new_ring new
 
--- How many hold turns a node has before it at most: one for each Pass that its budget leaves, and
--- one for its Leave.
-abbrev pub turns_of : NetPlan → List RingEntry → ℕ → Bool → ℕ
-turns_of net ring node left =
-    if left then 0 else (net.holds - count_by is_pass (own node ring)) + 1
+-- A controller's station made its away turn: its node asked to come in again, or nothing changed.
+pub record CameBack (old new : ControllerStation) (ring new_ring : RingLog) : Type 0 where
+  pub stays : StaysStation old new ring new_ring
+  pub history : new.controller.history ≡ old.controller.history
+  pub came : new_ring.history ≡ ring.history
+      ++ coming_back (status_at ring.net ring.history old.worker.node) (is_off old.controller)
+      old.worker.node
+  pub left : new.left ≡ node_has_left ring.net new_ring.history old.worker.node
+  pub keeps : KeepsOn old.controller.fixed ring.net old.worker.node new.controller.history
+      new_ring.history new.left
+  pub off : IsOffAway new_ring new
 
--- How many hold turns all nodes have before them at most.
+-- A failure of a node's controller is unnoticed, as its own list on the ring tells.
+abbrev pub unnoticed_of : ℕ → List RingEntry → ℕ
+unnoticed_of failures own_list = if nat_lt (latest_down own_list) failures then 1 else 0
+
+-- A bound of the hold turns that a node has before it: two for each Pass that its budget leaves,
+-- one for a failure that is unnoticed, and one for its Leave.
+abbrev pub turns_of : NetPlan → List RingEntry → ℕ → ℕ → Bool → ℕ
+turns_of net ring node failures left =
+    if left then 0
+    else (net.holds - count_by is_pass (own node ring)) * 2
+    + unnoticed_of failures (own node ring) + 1
+
+-- How often power has failed.
+abbrev pub failures_of : ControllerStation → ℕ
+failures_of station = (state_of station.controller).failures
+
+-- A bound of the hold turns that all nodes have before them.
 abbrev pub turns_left : Stations → ℕ
 turns_left run =
     sum_by (λ (station : ControllerStation).
-    turns_of run.ring.net run.ring.history station.node station.left) run.controllers.items
+    turns_of run.ring.net run.ring.history station.node (failures_of station) station.left)
+    run.controllers.items
     + sum_by (λ (station : HostStation).
-    turns_of run.ring.net run.ring.history station.node station.left) run.hosts.items
+    turns_of run.ring.net run.ring.history station.node 0 station.left) run.hosts.items
 
--- How many stations have not left.
+-- How many stations' nodes are members now.
+abbrev pub members_in : Stations → ℕ
+members_in run =
+    count_by (λ (station : ControllerStation). is_in_ring run.ring station.node)
+    run.controllers.items
+    + count_by (λ (station : HostStation). is_in_ring run.ring station.node) run.hosts.items
+
+-- How many stations have not left, or ask to come in again.
 abbrev pub stations_here : Stations → ℕ
 stations_here run =
     count_by (λ (station : ControllerStation). not station.left) run.controllers.items

@@ -17,13 +17,15 @@ abbrev pub AreBetweenScans : Stations → Type 0
 AreBetweenScans run =
     All (λ (station : ControllerStation). IsBetweenScans station.controller) run.controllers.items
 
--- A controller has as many steps left as before, as many scans are gone, and it has stopped if it
--- had.
+-- A controller has as many steps left as before, as many scans are gone, it has stopped if it had,
+-- and its power is as it was, and has failed as often.
 pub record KeepsStepsLeft (v w : ControllerIs) : Type 0 where
   pub fixed : w.fixed ≡ v.fixed
   pub left : left_of w.fixed w.history ≡ left_of v.fixed v.history
   pub gone : (state_of w).gone ≡ (state_of v).gone
   pub stop : (state_of w).stop ≡ (state_of v).stop
+  pub powered : (state_of w).powered ≡ (state_of v).powered
+  pub failures : (state_of w).failures ≡ (state_of v).failures
 
 abbrev pub KeepScans : Stations → Stations → Type 0
 KeepScans old new = AllZip

@@ -28,7 +28,7 @@ use Rattle.comm_port.specs.HostTurns.{CountsPasses, HostTies}
 use Rattle.serial_run.specs.declared.stations.ControllerStation.{ControllerStation}
 use Rattle.serial_run.specs.declared.stations.HostStation.{HostStation}
 use Rattle.serial_run.specs.declared.stations.Stations.{Stations}
-use Rattle.serial_run.specs.Turns.{has_left, nothing_made}
+use Rattle.serial_run.specs.Turns.{node_has_left, nothing_made}
 use Rattle.serial_run.specs.Scans.{AreBetweenScans}
 use Rattle.turn_laws.specs.KeepsOn.{HostKeepsOn, KeepsOn}
 
@@ -69,7 +69,7 @@ pub record StandsController (plant : Plant) (scans : ℕ) (ring : List RingEntry
   pub legal : IsLegal station.controller.fixed station.controller.history
   pub standing : Standing station.worker (plain_ram_side station.controller)
       station.controller.history (own_side (net_of plant plan.node)) ring
-  pub left : station.left ≡ has_left (net_of plant plan.node) ring plan.node
+  pub left : station.left ≡ node_has_left (net_of plant plan.node) ring plan.node
   pub keeps : KeepsOn (fixed_of plant scans plan) (net_of plant plan.node) plan.node
       station.controller.history ring station.left
 
@@ -82,7 +82,7 @@ pub record StandsHost (plant : Plant) (ring : List RingEntry) (plan : HostPlan)
   pub plan_is : station.host.plan ≡ plan
   pub ties : HostTies plan.node station.host (own_side (net_of plant plan.node)) ring
   pub counts : CountsPasses station.worker ring
-  pub left : station.left ≡ has_left (net_of plant plan.node) ring plan.node
+  pub left : station.left ≡ node_has_left (net_of plant plan.node) ring plan.node
   pub keeps : HostKeepsOn plan (net_of plant plan.node) station.host.history ring station.left
 
 -- All stations stand between their turns, those of the plant in its order.

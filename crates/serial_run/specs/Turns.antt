@@ -1,12 +1,14 @@
 -- How a turn of a station changes a joint history. This project's own.
-use Rattle.std.specs.Prelude.{◌≡◌, ℕ, ◌==◌, Bool, true, false, ◌&&◌, not, List, [], ◌∷◌, map, set}
-use Rattle.std.specs.Prelude.{Option, Some, None}
+use Rattle.std.specs.Prelude.{◌≡◌, ℕ, ◌==◌, Bool, true, false, ◌&&◌, not, List, [], ◌∷◌, ◌++◌}
+use Rattle.std.specs.Prelude.{Option, Some, None, map, set}
 use Rattle.std.specs.List.{position, slice_get}
 use Rattle.plant_types.specs.declared.net.NetPlan.{NetPlan}
 use Rattle.plant_types.specs.declared.net.HostPlan.{HostPlan}
 use Rattle.plant_types.specs.declared.plan.ControllerPlan.{ControllerPlan}
 use Rattle.plant_types.specs.declared.plan.Plant.{Plant}
-use Rattle.ring_core.specs.Machine.{ring_after, ring_node, is_here}
+use Rattle.ring_core.specs.Machine.{ring_after}
+use Rattle.ring_core.specs.declared.status.NodeStatus.{NodeStatus}
+use Rattle.ring_core.specs.declared.status.NodeStatus.TheVariants as statuses
 use Rattle.ring_core.specs.declared.entry.RingEntry.{RingEntry}
 use Rattle.controller_core.specs.declared.fixed.Fixed.{Fixed}
 use Rattle.controller_core.specs.declared.entry.Entry.{Entry}
@@ -17,11 +19,16 @@ use Rattle.joint_history.specs.declared.joint.HostLog.{HostLog}
 use Rattle.joint_history.specs.declared.joint.Joint.{Joint}
 use Rattle.joint_history.specs.JointLaws.{fixed_of}
 use Rattle.joint_history.specs.Nets.{net_of}
-use Rattle.joint_history.specs.Reading.{controller_at, has_started_at}
-use Rattle.comm_port.specs.HoldTurn.{HoldsTurn, VisitsEnd}
+use Rattle.joint_history.specs.Reading.{controller_at, has_ended_at, has_started_at, is_off_at}
+use Rattle.tied_lists.specs.Waits.{has_left, status_at}
+use Rattle.comm_port.specs.declared.turn_end.TurnEnd.{TurnEnd}
+use Rattle.comm_port.specs.Failing.{join_entries}
+use Rattle.comm_port.specs.HoldTurn.{VisitsEnd}
+use Rattle.comm_port.specs.WholeTurn.{HoldsTurn}
 use Rattle.comm_port.specs.HostTurns.{HoldsHostTurn}
 use Rattle.serial_run.specs.declared.order.Turn.{Turn}
-use Rattle.serial_run.specs.declared.order.Turn.TheVariants.{Step, Hold, Visit}
+use Rattle.serial_run.specs.declared.order.Turn.TheVariants.{Step, Hold, Visit, Away}
+use Rattle.turn_laws.specs.KeepsOn.{is_out_of_ring}
 
 -- The empty list of a controller, and that of a host.
 abbrev pub empty_log : ControllerPlan → ControllerLog
@@ -91,9 +98,9 @@ pub record MakesHoldTurnAt (plant : Plant) (scans at : ℕ) (old new : Joint) : 
   pub is : IsControllerAt plant old at plan log
   pub entries : List Entry
   pub ring : List RingEntry
-  pub left : Bool
+  pub end : TurnEnd
   pub turn : HoldsTurn true true (fixed_of plant scans plan) (net_of plant plan.node) plan.node true
-      log.entries entries old.ring ring left
+      log.entries entries old.ring ring end
   pub made : new ≡ record (with_list at log entries old) { ring = ring }
 
 -- The host at a place makes its hold turn: its own list and the ring's go on.
@@ -108,21 +115,28 @@ pub record HostHoldsAt (plant : Plant) (at : ℕ) (old new : Joint) : Type 0 whe
       old.ring ring left
   pub made : new ≡ record (with_host_list at log entries old) { ring = ring }
 
--- Hold: the station of the node that holds the token makes its hold turn; nothing where all have
--- left, so that no station's node holds it.
+-- Hold: the station of the node that holds the token makes its hold turn; nothing where no node
+-- holds it.
 abbrev pub MakesHold : Plant → ℕ → Option ℕ → Option ℕ → Joint → Joint → Type 0
 MakesHold plant scans (Some at) host old new = MakesHoldTurnAt plant scans at old new
 MakesHold plant scans None (Some at) old new = HostHoldsAt plant at old new
 MakesHold plant scans None None old new = new ≡ old
 
--- A node has left the ring.
-abbrev pub has_left : NetPlan → List RingEntry → ℕ → Bool
-has_left net ring node = not (is_here (ring_node (ring_after net ring) node))
+-- A node has left the ring, and does not ask to come in.
+abbrev pub node_has_left : NetPlan → List RingEntry → ℕ → Bool
+node_has_left net ring node = has_left (status_at net ring node)
 
--- A controller's visit is due: it has left, and has calls that were not collected.
+-- A controller with this list may make its visit: its node is gone; or it is away, the scans are
+-- gone and there is no power.
+abbrev pub may_visit : Fixed → List Entry → NodeStatus → Bool
+may_visit fixed entries status =
+    is_out_of_ring (has_ended_at fixed entries && is_off_at fixed entries) status
+
+-- A controller's visit is due: it may make it, and has calls that were not collected.
 abbrev pub visit_is_due : Plant → ℕ → ControllerPlan → List Entry → List RingEntry → Bool
 visit_is_due plant scans plan entries ring =
-    has_left (net_of plant plan.node) ring plan.node
+    may_visit (fixed_of plant scans plan) entries
+    (status_at (net_of plant plan.node) ring plan.node)
     && has_started_at (fixed_of plant scans plan) entries
 
 -- The controller at a place makes its visit: its own list and the ring's go on.
@@ -152,6 +166,28 @@ abbrev pub MakesVisit : Plant → ℕ → Option ℕ → Joint → Joint → Typ
 MakesVisit plant scans None old new = new ≡ old
 MakesVisit plant scans (Some at) old new = VisitsIfDue plant scans at old new
 
+-- The entries by which a node comes back: it asks to come in where it is away and has power.
+abbrev pub coming_back : NodeStatus → Bool → ℕ → List RingEntry
+coming_back statuses.In off node = []
+coming_back statuses.Away off node = join_entries node (not off)
+coming_back statuses.Asking off node = []
+coming_back statuses.Gone off node = []
+
+-- The controller at a place makes its away turn.
+pub record ComesBackAt (plant : Plant) (scans at : ℕ) (old new : Joint) : Type 0 where
+  pub plan : ControllerPlan
+  pub log : ControllerLog
+  pub is : IsControllerAt plant old at plan log
+  pub made : new ≡ record old {
+    ring = old.ring ++ coming_back (status_at (net_of plant plan.node) old.ring plan.node)
+        (is_off_at (fixed_of plant scans plan) log.entries) plan.node;
+  }
+
+-- Away: nothing where no controller has the node.
+abbrev pub MakesAwayTurn : Plant → ℕ → Option ℕ → Joint → Joint → Type 0
+MakesAwayTurn plant scans None old new = new ≡ old
+MakesAwayTurn plant scans (Some at) old new = ComesBackAt plant scans at old new
+
 -- A turn leads from one joint history to the next.
 abbrev pub MakesTurn : Plant → ℕ → Turn → Joint → Joint → Type 0
 MakesTurn plant scans (Step node) old new =
@@ -161,6 +197,8 @@ MakesTurn plant scans Hold old new =
     MakesHold plant scans (place_of_controller plant holder) (place_of_host plant holder) old new
 MakesTurn plant scans (Visit node) old new =
     MakesVisit plant scans (place_of_controller plant node) old new
+MakesTurn plant scans (Away node) old new =
+    MakesAwayTurn plant scans (place_of_controller plant node) old new
 
 -- Turns one after another.
 abbrev pub MakesTurns : Plant → ℕ → List Turn → Joint → Joint → Type 0

@@ -7,6 +7,9 @@ pub enum Turn {
     Step(u8),
     /// The station of the node that holds the token makes its hold turn.
     Hold,
-    /// The controller of this node, which has left, ends the calls that it still starts.
+    /// The controller of this node, which is out of the ring for good, ends the calls that it still
+    /// starts.
     Visit(u8),
+    /// The controller of this node, which is away, asks to come in again where it has power.
+    Away(u8),
 }

@@ -3,7 +3,7 @@ ghost use Rattle.std.specs.Prelude.{◌≡◌, ◌≤◌, ◌==◌, IfOk};
 ghost use Rattle.std.specs.List.{position};
 ghost use Rattle.plant_types.specs.Limits.{most_scans};
 ghost use Rattle.traffic_cop.specs.Rows.{IsRunnablePlan};
-ghost use Rattle.plant_types.specs.Plans.{IsHostPlan, KeepsPower};
+ghost use Rattle.plant_types.specs.Plans.{IsHostPlan};
 ghost use Rattle.ring_core.specs.Legal.{IsMember};
 ghost use Rattle.joint_history.specs.Runnable.{CanRunPlant};
 ghost use Rattle.serial_run.specs.Stations.{Starts, StartsController};
@@ -17,7 +17,7 @@ use plant_types::{ControllerPlan, HostPlan, List, Plant};
 use ring_core::Ring;
 use std::alloc::{AllocError, Global};
 
-/// A controller, its worker, and whether its node has left the ring.
+/// A controller, its worker, and whether its node has left the ring and does not ask to come in.
 #[derive(Drop)]
 pub(crate) struct ControllerStation {
     pub(crate) node: u8,
@@ -51,7 +51,6 @@ fn controller_of(
 ) -> Result<ControllerStation, AllocError>
     requires plant { CanRunPlant plant.now }
     requires runs { IsRunnablePlan plan.now }
-    requires power { KeepsPower plan.now }
     requires member { IsMember plant.now.net plan.now.node }
     requires scans { scans ≤ most_scans }
     ensures { IfOk result (StartsController plant.now scans plan.now) }

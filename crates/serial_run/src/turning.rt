@@ -1,20 +1,27 @@
 //! The turns of the stations.
-ghost use Rattle.std.specs.Prelude.{◌≡◌, ◌&&◌, true, false, OnOk};
-ghost use Rattle.controller_core.specs.Controller.{has_started, stepped};
+ghost use Rattle.std.specs.Prelude.{◌≡◌, true, false, OnOk};
+ghost use Rattle.controller_core.specs.Controller.{stepped};
+ghost use Rattle.turn_laws.specs.KeepsOn.{is_out_of_ring, leaves_out};
+ghost use Rattle.ring_core.specs.Legal.{IsMember};
 ghost use Rattle.serial_run.specs.Turns.{MakesTurn};
 ghost use Rattle.serial_run.specs.Stations.{Did, MadeEvents, Stand};
 ghost use Rattle.serial_run.specs.Scans.{KeepScans};
 ghost use Rattle.serial_run.specs.Held.{HasToken, HeldController, HeldHost, HostStandsBeside};
-ghost use Rattle.serial_run.specs.Held.{CollectFor, HostKeepsBeside, KeepsBeside, KnowsLeft};
-ghost use Rattle.serial_run.specs.Held.{StayCollected};
-ghost use Rattle.serial_run.specs.Held.{Lessens, StandsBeside, VisitedController};
+ghost use Rattle.serial_run.specs.Held.{HostKeepsBeside, KeepsBeside, KnowsLeft, Lessens};
+ghost use Rattle.serial_run.specs.Held.{StandsBeside, VisitedController, is_away, is_visit_due};
+ghost use Rattle.serial_run.specs.Held.{CameBack, GainFor, IsOffAway, IsVisited, Stay};
+ghost use Rattle.serial_run.specs.Held.{stations_here};
 
 use crate::order::Turn;
 use crate::stations::{ControllerStation, HostStation, Stations};
+use comm_port::TurnEnd;
 use controller_core::{Controller, calls_follow, ended_controllers_stay};
-use ring_core::Ring;
+use ring_core::{NodeStatus, Ring};
 use std::alloc::AllocError;
-use turn_laws::{host_turns_keep_on, turns_keep_on, visits_keep_on};
+use turn_laws::{
+    away_turns_keep_on, host_turns_keep_on, somebody_holds, turns_end_where, turns_keep_on,
+    visits_keep_on,
+};
 
 /// Reserves the memory of a scan, if that was not done yet.
 pub(crate) fn reserve(controller: &mut Controller) -> Result<(), AllocError>
@@ -41,6 +48,16 @@ fn make_step(controller: &mut Controller) -> Result<(), AllocError>
     Ok(())
 }
 
+/// Whether a turn that ended so left the node out of the ring.
+fn leaves_out(end: TurnEnd) -> bool
+    ensures { result ≡ leaves_out end }
+{
+    match end {
+        TurnEnd::Passed | TurnEnd::Asking => false,
+        TurnEnd::Left | TurnEnd::Away => true,
+    }
+}
+
 /// One hold turn of a controller's station.
 fn hold_controller(station: &mut ControllerStation, ring: &mut Ring) -> Result<(), AllocError>
     requires stands { StandsBeside station.old ring.old }
@@ -50,11 +67,11 @@ fn hold_controller(station: &mut ControllerStation, ring: &mut Ring) -> Result<(
     ensures { OnOk result (HeldController station.old station.new ring.old ring.new) }
 {
     turns_keep_on();
-    calls_follow();
-    let left = station.worker.hold_turn(&mut station.controller, ring)?;
+    turns_end_where();
+    let end = station.worker.hold_turn(&mut station.controller, ring)?;
     let _ = station.controller.history();
     let _ = ring.history();
-    station.left = left;
+    station.left = leaves_out(end);
     Ok(())
 }
 
@@ -73,15 +90,69 @@ fn hold_host(station: &mut HostStation, ring: &mut Ring) -> Result<(), AllocErro
     Ok(())
 }
 
-/// Whether a controller's visit is due: it has left, and has calls that were not collected.
-fn is_visit_due(station: &ControllerStation) -> bool
-    ensures { result ≡ (station.now.left && has_started station.now.controller) }
+/// Whether a node is out of the ring: it is gone; or it is away, and this keeps it away.
+fn is_out_of_ring(stays: bool, status: NodeStatus) -> bool
+    ensures { result ≡ is_out_of_ring stays status }
 {
-    if station.left {
-        station.controller.has_started()
-    } else {
-        false
+    match status {
+        NodeStatus::In | NodeStatus::Asking => false,
+        NodeStatus::Away => stays,
+        NodeStatus::Gone => true,
     }
+}
+
+/// Whether a controller's visit is due: its node is gone, or it is away with no scan left that could
+/// bring power back; and it has calls that were not collected.
+fn is_visit_due(station: &ControllerStation, ring: &Ring) -> bool
+    requires member { IsMember ring.now.net station.now.worker.node }
+    requires node { station.now.node ≡ station.now.worker.node }
+    ensures { result ≡ is_visit_due ring.now station.now }
+{
+    let controller = &station.controller;
+    let stays = controller.has_ended() && controller.is_off();
+    is_out_of_ring(stays, ring.status(station.node)) && controller.has_started()
+}
+
+/// Whether a node left as its power failed, and has not asked to come in since.
+fn is_away(node: u8, ring: &Ring) -> bool
+    requires { IsMember ring.now.net node }
+    ensures { result ≡ is_away ring.now node }
+{
+    matches!(ring.status(node), NodeStatus::Away)
+}
+
+/// The turn of a controller's station that is away.
+fn make_away_turn(station: &mut ControllerStation, ring: &mut Ring) -> Result<(), AllocError>
+    requires stands { StandsBeside station.old ring.old }
+    requires left { KnowsLeft station.old ring.old }
+    requires keeps { KeepsBeside station.old ring.old }
+    requires node { station.old.node ≡ station.old.worker.node }
+    requires away { is_away ring.old station.old.worker.node ≡ true }
+    ensures { OnOk result (CameBack station.old station.new ring.old ring.new) }
+{
+    away_turns_keep_on();
+    turns_end_where();
+    let joined = station.worker.away_turn(&mut station.controller, ring)?;
+    let _ = station.controller.history();
+    let _ = ring.history();
+    station.left = !joined;
+    Ok(())
+}
+
+/// The turn of a controller's station, where it is away.
+fn come_back(station: &mut ControllerStation, ring: &mut Ring) -> Result<(), AllocError>
+    requires stands { StandsBeside station.old ring.old }
+    requires left { KnowsLeft station.old ring.old }
+    requires keeps { KeepsBeside station.old ring.old }
+    requires node { station.old.node ≡ station.old.worker.node }
+    ensures { OnOk result (CameBack station.old station.new ring.old ring.new) }
+{
+    if is_away(station.node, ring) {
+        return make_away_turn(station, ring);
+    }
+    let _ = station.controller.history();
+    let _ = ring.history();
+    Ok(())
 }
 
 /// The visit of a controller's station.
@@ -89,7 +160,8 @@ fn make_visit(station: &mut ControllerStation, ring: &mut Ring) -> Result<(), Al
     requires stands { StandsBeside station.old ring.old }
     requires left { KnowsLeft station.old ring.old }
     requires keeps { KeepsBeside station.old ring.old }
-    requires due { (station.old.left && has_started station.old.controller) ≡ true }
+    requires node { station.old.node ≡ station.old.worker.node }
+    requires due { is_visit_due ring.old station.old ≡ true }
     ensures { OnOk result (VisitedController station.old station.new ring.old ring.new) }
 {
     visits_keep_on();
@@ -105,9 +177,10 @@ fn visit_controller(station: &mut ControllerStation, ring: &mut Ring) -> Result<
     requires stands { StandsBeside station.old ring.old }
     requires left { KnowsLeft station.old ring.old }
     requires keeps { KeepsBeside station.old ring.old }
+    requires node { station.old.node ≡ station.old.worker.node }
     ensures { OnOk result (VisitedController station.old station.new ring.old ring.new) }
 {
-    if is_visit_due(station) {
+    if is_visit_due(station, ring) {
         return make_visit(station, ring);
     }
     let _ = station.controller.history();
@@ -134,8 +207,9 @@ impl Stations {
             self.old self.new) }
         ensures scans { OnOk result (KeepScans self.old self.new) }
         ensures less { OnOk result (Lessens self.old self.new) }
-        ensures collected { OnOk result (StayCollected self.old self.new) }
+        ensures off { OnOk result (Stay IsOffAway self.old self.new) }
     {
+        somebody_holds();
         let holder = self.ring.holder();
         if let Some(at) = self.controller_at(holder) {
             return hold_controller(&mut self.controllers[at], &mut self.ring);
@@ -152,10 +226,26 @@ impl Stations {
         ensures visited { OnOk result (Did (λ plant scans. MakesTurn plant scans (Turn.Visit node))
             self.old self.new) }
         ensures scans { OnOk result (KeepScans self.old self.new) }
-        ensures collected { OnOk result (CollectFor node self.old self.new) }
+        ensures off { OnOk result (Stay IsOffAway self.old self.new) }
+        ensures gain { OnOk result (GainFor IsVisited node self.old self.new) }
+        ensures here { OnOk result (stations_here self.new ≡ stations_here self.old) }
     {
         match self.controller_at(node) {
             Some(at) => visit_controller(&mut self.controllers[at], &mut self.ring),
+            None => Ok(()),
+        }
+    }
+
+    /// The controller of a node asks to come in again, where it is away and has power.
+    pub(crate) fn away(&mut self, node: u8) -> Result<(), AllocError>
+        requires { Stand self.old }
+        ensures did { OnOk result (Did (λ plant scans. MakesTurn plant scans (Turn.Away node))
+            self.old self.new) }
+        ensures scans { OnOk result (KeepScans self.old self.new) }
+        ensures gain { OnOk result (GainFor IsOffAway node self.old self.new) }
+    {
+        match self.controller_at(node) {
+            Some(at) => come_back(&mut self.controllers[at], &mut self.ring),
             None => Ok(()),
         }
     }
@@ -169,6 +259,7 @@ impl Stations {
             Turn::Step(node) => self.step(node),
             Turn::Hold => self.hold(),
             Turn::Visit(node) => self.visit(node),
+            Turn::Away(node) => self.away(node),
         }
     }
 }

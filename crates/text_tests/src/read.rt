@@ -39,7 +39,7 @@ const TEXTS: [(&str, u32); 24] = [
     ("%JOURNAL\nR\n%END\nR", 4),
     ("%JOURNAL\nC 2\nB", 3),
     ("%JOURNAL\nC 2\nB\n", 4),
-    ("%JOURNAL\nC 2\nX\nY\n", 3),
+    ("%JOURNAL\nC 2\nZ\nY\n", 3),
     ("%JOURNAL\nC 0\nC 255\nR\n%END\n", 0),
     ("%JOURNAL\nC 256\nR\n%END\n", 2),
     ("%JOURNAL\nC 02\nR\n%END\n", 2),
@@ -64,7 +64,10 @@ L 2.0.1=PG:- 2.0.2=GG:64:32
 P 2.4.4294967295 01 8101
 F 2.0.4 G -
 F 2.0.4 G 0001
-F 2.0.4 B 200a";
+F 2.0.4 B 200a
+X
+K
+N 2.4.1 01";
 
 /// Lines of a controller, each wrong in one way.
 const CONTROLLER_WRONG: &str = "B\x20
@@ -109,9 +112,12 @@ F 2.0.4 B 20a
 F 2.0.4 B -
 F 2.0.4 C 200a
 F 2.0.4 G
-X
-K
-N 2.4.1 01
+X\x20
+K 1
+N 2.4.1
+N 2.4.1 01 8101
+N 2.4.1 -
+Z
 Q 2.1.1 5 03";
 
 /// Lines of a host, each right.
@@ -125,6 +131,7 @@ const HOST_WRONG: &str = "Q 10.1.1 2
 Q 10.1.1 02 03
 A 10.1.1 G 6103
 A 10.1.1 R\x20
+N 2.4.1 01
 B";
 
 /// Lines of the ring, each right.
@@ -142,7 +149,11 @@ GU 2.1.2 6101
 PA 2 0 -
 PA 2 1 00070008
 LE 2 E
-LE 5 S";
+LE 5 S
+LE 5 D0
+LE 5 D1
+LE 5 D4294967295
+JN 5";
 
 /// Lines of the ring, each wrong in one way.
 const RING_WRONG: &str = "PO 2 Q 2.1.1 0300000002
@@ -155,7 +166,17 @@ LO 3 2.1.2 GS
 GU 2.1.2 61011
 PA 2 2 -
 PA 2 0
-LE 5 A";
+LE 5 A
+LE 1 F
+LE 5 D
+LE 5 D01
+LE 5 D4294967296
+LE 5 D 1
+LE 5 E1
+JN
+JN 05
+JN 256
+JN 5 1";
 
 /// The number of the first wrong line; 0 where the text is a journal, which is written as it was.
 fn wrong_line(alloc: Global, text: &str) -> Result<u32, Fail> {

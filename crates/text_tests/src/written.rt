@@ -9,7 +9,7 @@ use ring_core::{Frame, FrameKind, Heard, LeaveCause, LocalOp, RingEntry};
 use std::alloc::{AllocError, Global};
 use std::test::Fail;
 
-/// Two controllers, of which one reads two registers of the other.
+/// Two controllers, of which one reads two registers of the other, whose power fails then.
 const READ: &str = "%JOURNAL
 C 2
 B
@@ -22,6 +22,9 @@ I 1
 O 1 -
 O 2 00ffabcd
 P 2.1.1 0300000002 0304002a002b
+X
+N 2.1.1 0300000002
+K
 R
 PO 2 Q 2.1.1 5 0300000002
 SE 2 A
@@ -34,6 +37,8 @@ TA 2 R 2.1.1 0304002a002b
 GU 2.1.2 6101
 PA 2 1 00070008
 LE 2 E
+LE 5 D2
+JN 5
 LE 5 S
 %END
 ";
@@ -130,6 +135,15 @@ fn push_peer(alloc: Global, entries: &mut List<Entry>) -> Result<(), Fail> {
     Ok(())
 }
 
+fn push_failure(alloc: Global, entries: &mut List<Entry>) -> Result<(), Fail> {
+    entries.push(Entry::Fail)?;
+    let id = id(2, 1, 1);
+    let request = pdu(alloc, &READS)?;
+    entries.push(Entry::Off { id, request })?;
+    entries.push(Entry::Dark)?;
+    Ok(())
+}
+
 /// The entries of the controllers: of one that reads, of the one that it reads, and of one that
 /// asks its own port.
 fn push_reader(alloc: Global, entries: &mut List<Entry>) -> Result<(), Fail> {
@@ -146,7 +160,8 @@ fn push_target(alloc: Global, entries: &mut List<Entry>) -> Result<(), Fail> {
     entries.push(Entry::Input(1))?;
     push_output(entries, 1, Block::of(&[]))?;
     push_output(entries, 2, Block::of(&[255, 0xabcd]))?;
-    push_peer(alloc, entries)
+    push_peer(alloc, entries)?;
+    push_failure(alloc, entries)
 }
 
 fn push_asker(alloc: Global, entries: &mut List<Entry>) -> Result<(), Fail> {
@@ -259,6 +274,8 @@ fn push_turns(alloc: Global, ring: &mut List<RingEntry>) -> Result<(), Fail> {
     push_give_up(ring)?;
     push_pass(alloc, ring, true, &[7, 8])?;
     push_leave(ring, 2, LeaveCause::Ended)?;
+    push_leave(ring, 5, LeaveCause::Down(2))?;
+    ring.push(RingEntry::Join { node: 5 })?;
     push_leave(ring, 5, LeaveCause::Spent)?;
     Ok(())
 }

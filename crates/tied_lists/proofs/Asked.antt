@@ -7,7 +7,7 @@ use Rattle.std.proofs.lemmas.Bool.{eq-eqb, ne_eqb, cases_eq, cond-true}
 use Rattle.std.proofs.lemmas.Bool.{cond-false}
 use Rattle.ring_core.specs.Words.{is_same_call}
 use Rattle.tied_lists.specs.Words.{CallId, FrameKind, Request, Reply, Frame, RingEntry, Post, Send}
-use Rattle.tied_lists.specs.Words.{Take, Local, GiveUp, Pass, Leave}
+use Rattle.tied_lists.specs.Words.{Take, Local, GiveUp, Pass, Leave, Join}
 use Rattle.tied_lists.specs.Items.{asked_in, asked_of, asked_by, or_some, last_asked, Called}
 use Rattle.tied_lists.specs.Items.{Ended, Kind, kind_in, kind_of_sort}
 use Rattle.tied_lists.specs.Calls.{NoEnd}
@@ -108,6 +108,8 @@ last-of p g now (Pass n done words ∷ es) path is =
     skip p g now now (Pass n done words) es refl (λ x. x) (last-of p g now es path is)
 last-of p g now (Leave n cause ∷ es) path is =
     skip p g now now (Leave n cause) es refl (λ x. x) (last-of p g now es path is)
+last-of p g now (Join n ∷ es) path is =
+    skip p g now now (Join n) es refl (λ x. x) (last-of p g now es path is)
 
 pub waiting-last : (p : ℕ) (g : Frame) (b : List RingEntry) → g.id.path ≡ p → waiting p b ≡ Some g
     → last_asked g.id (asked_by b) ≡ Some g.pdu

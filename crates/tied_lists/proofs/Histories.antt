@@ -1,194 +1,49 @@
 -- Each legal history keeps what a node's paths and boxes follow.
 use Rattle.std.proofs.Common.{◌≡◌, ◌≢◌, ℕ, zero, suc, ◌+◌, ◌<◌, ◌≤◌, ◌==◌, ◌&&◌, nat_le, Bool, true}
 use Rattle.std.proofs.Common.{false, cond, List, [], ◌∷◌, ◌++◌, get_or, set, map, drop, length}
-use Rattle.std.proofs.Common.{replicate, All, Option, Some, None, refl, sym, ap}
-use Rattle.std.proofs.Common.{◌∙◌, subst, inl, inr, ◌⊎◌, ⊎_elim, arith, get_or-set_same}
-use Rattle.std.proofs.Common.{get_or-set_other, append-nil, append_assoc}
+use Rattle.std.proofs.Common.{replicate, Option, Some, None, refl, sym, ap}
+use Rattle.std.proofs.Common.{◌∙◌, subst, inl, inr, ◌⊎◌, ⊎_elim, arith}
+use Rattle.std.proofs.Common.{append-nil, append_assoc}
 use Rattle.std.specs.List.{AllByRecursion as Each}
-use Rattle.std.proofs.lemmas.Bool.{eqb-true, eq-eqb, ne_eqb, cases_eq, cases_Bool, cond_both}
+use Rattle.std.proofs.lemmas.Bool.{cases_eq, cases_Bool, cond_both}
 use Rattle.std.proofs.lemmas.Bool.{leb-false, leb-true}
 use Rattle.std.proofs.lemmas.List.{length-set, length-replicate}
-use Rattle.std.proofs.lemmas.List.Elements.{filter-append, All-contains}
-use Rattle.ring_core.specs.declared.refusal.RingNo.{RingNo}
-use Rattle.ring_core.specs.declared.refusal.RingNo.TheVariants.{NotMember, NotHolder, NotAwaited}
 use Rattle.ring_core.specs.declared.path.Await.{Await}
 use Rattle.ring_core.specs.declared.path.Await.TheVariants.{Nothing, Out, Arrived, Failed}
 use Rattle.ring_core.specs.declared.path.Path.{Path}
 use Rattle.plant_types.specs.declared.net.Fate.{Fate}
 use Rattle.ring_core.specs.Words.{asks, maker}
 use Rattle.ring_core.specs.Machine.{NodeIs, RingIs, addresses, path_places, no_path, fresh, part_of}
-use Rattle.ring_core.specs.Machine.{ring_node, path_of, asked, awaiting, posted, paths_after_take}
+use Rattle.ring_core.specs.Machine.{ring_node, path_of, asked, posted, paths_after_take}
 use Rattle.ring_core.specs.Machine.{took, gave_up, aged, after_pass, gone, is_repeat, is_full}
 use Rattle.ring_core.specs.Machine.{waits_for, fell, with_frame, arrives, arrival, arrived}
 use Rattle.ring_core.specs.Machine.{heard_of, fate_at, heard_by, failed, silence_word, busy_word}
 use Rattle.ring_core.specs.Machine.{sent_off, sent_head, sent_one, after, opening}
-use Rattle.ring_core.specs.Machine.{with_members, ring_after, awaited_number}
-use Rattle.ring_core.specs.Refusals.{or_no, turn_no, free_no, post_no, path_no, taken_no}
-use Rattle.ring_core.specs.Refusals.{unsent_no, untaken_no, pass_no, give_up_no}
-use Rattle.ring_core.specs.Refusals.{awaited_no, other_no, answer_after}
-use Rattle.ring_core.specs.Legal.{IsMember, IsFrom, IsNextNumber, IsFirst}
+use Rattle.ring_core.specs.Machine.{with_members, ring_after, awaited_number, is_here, is_in}
+use Rattle.ring_core.specs.Machine.{admitted, with_status, left_with}
+use Rattle.ring_core.specs.Machine.{is_held, asked_in}
+use Rattle.ring_core.specs.Refusals.{or_no, free_no, post_no, path_no}
+use Rattle.ring_core.specs.Refusals.{pass_no, give_up_no}
+use Rattle.ring_core.specs.Refusals.{answer_after, away_no, paths_no, join_no}
+use Rattle.ring_core.specs.Legal.{IsFrom, IsNextNumber, IsFirst}
 use Rattle.ring_core.specs.Legal.{IsTimelyEntry, IsRingStep, IsRun}
 use Rattle.ring_core.proofs.Runs.{after_all-push}
 use Rattle.tied_lists.specs.Words.{CallId, FrameKind, Request, Reply, Frame, NetPlan, Heard, Acked}
 use Rattle.tied_lists.specs.Words.{Silent, Busy, LeaveCause, RingEntry, Post, Send, Take, Local}
-use Rattle.tied_lists.specs.Words.{GiveUp, Pass, Leave}
-use Rattle.tied_lists.specs.Own.{is_of, own}
-use Rattle.tied_lists.specs.Waits.{AwaitsThis, IsOnRing}
+use Rattle.tied_lists.specs.Words.{GiveUp, Pass, Leave, Join, Ended, Spent, Down}
+use Rattle.tied_lists.specs.Words.{NodeStatus, In, Away, Asking, Gone}
+use Rattle.tied_lists.specs.Own.{own}
+use Rattle.tied_lists.specs.Waits.{AwaitsThis, IsOnRing, IsPatient, ArePatient, status_at}
 use Rattle.tied_lists.proofs.Boxes.{each-push, each-drop, each-map, each-filter}
-use Rattle.tied_lists.proofs.Boxes.{HasCome, CameOn, come-apart, has_arrived}
+use Rattle.tied_lists.proofs.Boxes.{HasCome, CameOn, come-apart, has_arrived, IsSent, OutOn}
 use Rattle.tied_lists.proofs.Paths.{Follows, quiet-own, post-request, post-reply, take-request}
 use Rattle.tied_lists.proofs.Paths.{take-reply, give-up, fail-request, drop-first, come-request}
-use Rattle.tied_lists.proofs.Paths.{come-reply, pass-on, empty-box}
-
--- a frame of its node
-abbrev pub IsOwn : ℕ → Frame → Type 0
-IsOwn n f = IsFrom n f.kind f
-
--- who has something to send holds the token or has left
-abbrev pub IsBusy : ℕ → ℕ → Bool → List Frame → Type 0
-IsBusy n holder here out = (out ≡ []) ⊎ ((holder ≡ n) ⊎ (here ≡ false))
-
-pub record NodeFollows (n : ℕ) (b : List RingEntry) (holder : ℕ) (c : NodeIs) : Type 0 where
-  pub part : Follows n b c.paths c.outbox c.inbox c.tries
-  pub left : c.here ≡ false → c.inbox ≡ []
-  pub busy : IsBusy n holder c.here c.outbox
-
-pub record RingFollows (n : ℕ) (h : List RingEntry) (r : RingIs) : Type 0 where
-  pub size : length r.nodes ≡ addresses
-  pub node : NodeFollows n (own n h) r.holder (ring_node r n)
-  pub frames : (m : ℕ) → Each (IsOwn m) (ring_node r m).outbox
-
--- own lists
-pub own-mine : (n : ℕ) (h : List RingEntry) (e : RingEntry) → maker e ≡ n
-    → own n (h ++ e ∷ []) ≡ own n h ++ e ∷ []
-own-mine n h e is = filter-append (is_of n) h (e ∷ [])
-    ∙ ap (λ (b : Bool). own n h ++ cond b (e ∷ []) []) (eq-eqb (maker e) n is)
-
-pub own-other : (n : ℕ) (h : List RingEntry) (e : RingEntry) → maker e ≢ n
-    → own n (h ++ e ∷ []) ≡ own n h
-own-other n h e other = filter-append (is_of n) h (e ∷ [])
-    ∙ (ap (λ (b : Bool). own n h ++ cond b (e ∷ []) []) (ne_eqb (maker e) n
-    other) ∙ append-nil (own n h))
-
--- refusals
-first-none : (a b : Option RingNo) → or_no a b ≡ None → a ≡ None
-first-none None b e = refl
-first-none (Some x) b e = absurd (cc)
-
-second-none : (a b : Option RingNo) → or_no a b ≡ None → b ≡ None
-second-none None b e = e
-second-none (Some x) b e = absurd (cc)
-
-turned : (here holds : Bool) (why : RingNo)
-    → cond here (cond holds None (Some why)) (Some NotMember) ≡ None → holds ≡ true
-turned true true why e = refl
-turned true false why e = absurd (cc)
-turned false holds why e = absurd (cc)
-
-pub turn-holds : (r : RingIs) (m : ℕ) → turn_no r m ≡ None → r.holder ≡ m
-turn-holds r m e =
-    eqb-true r.holder m (turned (ring_node r m).here (r.holder == m) (NotHolder r.holder) e)
-
-freed : (here holds : Bool) (why : RingNo) → cond here (cond holds None (Some why)) None ≡ None
-    → (holds ≡ true) ⊎ (here ≡ false)
-freed true true why e = inl refl
-freed true false why e = absurd (cc)
-freed false holds why e = inr refl
-
-pub free-holds : (r : RingIs) (m : ℕ) → free_no r m ≡ None
-    → (r.holder ≡ m) ⊎ ((ring_node r m).here ≡ false)
-free-holds r m e = ⊎_elim (λ (x : (r.holder == m) ≡ true). inl (eqb-true r.holder m x))
-    (λ (x : (ring_node r m).here ≡ false). inr x)
-    (freed (ring_node r m).here (r.holder == m) (NotHolder r.holder) e)
-
-taken-none : (a : Await) → taken_no a ≡ None → a ≡ Nothing
-taken-none Nothing e = refl
-taken-none (Out seq to passes) e = absurd (cc)
-taken-none (Arrived seq) e = absurd (cc)
-taken-none (Failed seq word) e = absurd (cc)
-
-unsent-none : (box : List Frame) → unsent_no box ≡ None → box ≡ []
-unsent-none [] e = refl
-unsent-none (f ∷ fs) e = absurd (cc)
-
-untaken-none : (box : List Frame) → untaken_no box ≡ None → box ≡ []
-untaken-none [] e = refl
-untaken-none (f ∷ fs) e = absurd (cc)
-
-other-none : (out seq : ℕ) → other_no out seq ≡ None → out ≡ seq
-other-none out seq e = cond_both (out == seq) None (Some (NotAwaited out))
-    (λ x. x ≡ None → out ≡ seq) (λ y _. eqb-true out seq y) (λ _ x. absurd (cc)) e
-
-awaited-none : (a : Await) (seq : ℕ) → awaited_no a seq ≡ None → awaited_number a ≡ seq
-awaited-none Nothing seq e = absurd (cc)
-awaited-none (Out out to passes) seq e = other-none out seq e
-awaited-none (Arrived out) seq e = other-none out seq e
-awaited-none (Failed out word) seq e = other-none out seq e
-
--- the low addresses
-low : (net : NetPlan) (n : ℕ) → All (λ m. m < addresses) net.members → IsMember net n → n < addresses
-low net n all member = All-contains (λ m. m < addresses) net.members n all member
-
-pub at-same : (nodes : List NodeIs) (n : ℕ) (c : NodeIs) → length nodes ≡ addresses → n < addresses
-    → part_of (set nodes n c) n ≡ c
-at-same nodes n c size range =
-    get_or-set_same nodes n c (fresh false) (let s = size in let k = range in omega (arith, s, k))
-
-at-other : (nodes : List NodeIs) (m n : ℕ) (c : NodeIs) → (n ≡ m → ⊥)
-    → part_of (set nodes m c) n ≡ part_of nodes n
-at-other nodes m n c other = get_or-set_other nodes m n c (fresh false) other
-
--- every place after a write
-each-put : {X : Type 0} (P : ℕ → X → Type 0) (xs : List X) (d : X) (m : ℕ) (x : X)
-    → ((n : ℕ) → P n (get_or xs n d)) → P m x → (n
-    : ℕ) → P n (get_or (set xs m x) n d)
-each-put P [] d m x all it n = all n
-each-put P (y ∷ ys) d zero x all it zero = it
-each-put P (y ∷ ys) d zero x all it (suc n) = all (suc n)
-each-put P (y ∷ ys) d (suc m) x all it zero = all zero
-each-put P (y ∷ ys) d (suc m) x all it (suc n) =
-    each-put (λ k. P (suc k)) ys d m x (λ k. all (suc k)) it n
-
-abbrev OwnBox : ℕ → NodeIs → Type 0
-OwnBox m c = Each (IsOwn m) c.outbox
-
--- the node's own entry changes its part alone
-own-step : (n : ℕ) (h : List RingEntry) (r : RingIs) (e : RingEntry) (holder' : ℕ) (c : NodeIs)
-    → n < addresses → maker e ≡ n
-    → NodeFollows n (own n h ++ e ∷ []) holder' c → OwnBox n c → RingFollows n h r
-    → RingFollows n (h ++ e ∷ []) (record { holder = holder'; sent = r.sent; nodes = set r.nodes n c })
-own-step n h r e holder' c range mine node box i = record {
-  size = length-set _ _ _ ∙ i.size;
-  node = subst (λ (x : NodeIs). NodeFollows n (own n (h ++ e ∷ [])) holder' x)
-      (sym (at-same r.nodes n c i.size range))
-      (subst (λ (l : List RingEntry). NodeFollows n l holder' c) (sym (own-mine n h e mine)) node);
-  frames = each-put OwnBox r.nodes (fresh false) n c i.frames box;
-}
-
--- an entry of another that leaves the node's part
-other-step : (n : ℕ) (h : List RingEntry) (r s : RingIs) (e : RingEntry) → maker e ≢ n
-    → length s.nodes ≡ length r.nodes → ring_node s n ≡ ring_node r n
-    → IsBusy n s.holder (ring_node r n).here (ring_node r n).outbox
-    → ((m : ℕ) → OwnBox m (ring_node s m)) → RingFollows n h r → RingFollows n (h ++ e ∷ []) s
-other-step n h r s e other size same busy frames i = record {
-  size = size ∙ i.size;
-  node = subst (λ (x : NodeIs). NodeFollows n (own n (h ++ e ∷ [])) s.holder x) (sym same)
-      (subst (λ (l : List RingEntry). NodeFollows n l s.holder (ring_node r n))
-      (sym (own-other n h e other)) (record {
-        part =
-            i.node.part;
-        left = i.node.left;
-        busy = busy;
-      }));
-  frames = frames;
-}
-
--- another passes the token on: who is busy has left
-moved-busy : (n holder holder' : ℕ) (here : Bool) (out : List Frame) → holder ≢ n
-    → IsBusy n holder here out → IsBusy n holder' here out
-moved-busy n holder holder' here out not_mine b = ⊎_elim (λ (x : out ≡ []). inl x)
-    (λ (y : (holder ≡ n) ⊎ (here ≡ false)). ⊎_elim (λ (z : holder ≡ n). absurd (not_mine z))
-    (λ (z : here ≡ false). inr (inr z)) y) b
+use Rattle.tied_lists.proofs.Paths.{come-reply, pass-on, empty-box, follows-boxes, NotAsked}
+pub use Rattle.tied_lists.proofs.Nodes.{IsOwn, RingFollows, at-same, own-mine, own-other}
+use Rattle.tied_lists.proofs.Nodes.{AsksNothing, IsBusy, NodeFollows, first-none, second-none}
+use Rattle.tied_lists.proofs.Nodes.{turn-holds, free-holds, taken-none, unsent-none}
+use Rattle.tied_lists.proofs.Nodes.{untaken-none, awaited-none, low, at-other, each-put, OwnBox}
+use Rattle.tied_lists.proofs.Nodes.{own-step, other-step, handed-own, handed-other}
 
 -- Post
 post-paths : (net : NetPlan) (n : ℕ) (b : List RingEntry) (c : NodeIs) (f : Frame)
@@ -201,9 +56,9 @@ post-paths net n b c f Request is from next free i = post-request n b c.paths c.
 post-paths net n b c f Reply is from next free i = post-reply n b c.paths c.outbox c.inbox c.tries f is i
 
 post-step : (net : NetPlan) (h : List RingEntry) (n m : ℕ) (f : Frame) → n < addresses
-    → IsRingStep net h (Post m f) → (r : RingIs) → r ≡ ring_after net h → RingFollows n h r
+    → IsPatient (status_at net h n) n (Post m f) → IsRingStep net h (Post m f) → (r : RingIs) → r ≡ ring_after net h → RingFollows n h r
     → RingFollows n (h ++ Post m f ∷ []) (after net r (Post m f))
-post-step net h n m f range s r is i =
+post-step net h n m f range patient s r is i =
     let t : IsTimelyEntry net h r (Post m f) =
     subst (λ (x : RingIs). IsTimelyEntry net h x (Post m f)) (sym is) s.1 in
     ⊎_elim (λ (e : m ≡ n).
@@ -218,6 +73,7 @@ post-step net h n m f range s r is i =
       part = post-paths net n (own n h) c f f.kind refl from next (second-none _ _ no') i.node.part;
       left = i.node.left;
       busy = inr (free-holds r n (first-none _ _ no'));
+      asking = λ asks. absurd (patient e (sym (ap (λ (x : RingIs). (ring_node x n).status) is) ∙ asks));
     })
     (each-push (IsOwn n) c.outbox f (i.frames n) from) i))
     (λ (o : m ≡ n → ⊥). other-step n h r (after net r (Post m f)) (Post m f) o (length-set _ _ _)
@@ -277,6 +133,7 @@ take-step net h n m f range s r is i =
           (first-frame c.inbox f first) i.node.part;
       left = λ gone'. ap (drop 1) (i.node.left gone');
       busy = i.node.busy;
+      asking = i.node.asking;
     })
     (i.frames n) i))
     (λ (o : m ≡ n → ⊥). other-step n h r (after net r (Take m f)) (Take m f) o (length-set _ _ _)
@@ -299,8 +156,8 @@ answer-none answer (Out seq to passes) e = refl
 answer-none answer (Arrived seq) e = absurd (cc)
 answer-none answer (Failed seq word) e = refl
 
-give_up-come : (net : NetPlan) (n : ℕ) (c : NodeIs) (q : ℕ) (v : Path) (here : Bool) → c.here ≡ here
-    → (c.here ≡ false → c.inbox ≡ [])
+give_up-come : (net : NetPlan) (n : ℕ) (c : NodeIs) (q : ℕ) (v : Path) (here : Bool) → is_here c ≡ here
+    → (is_here c ≡ false → c.inbox ≡ [])
     → (cond here (answer_after net.answer (path_of c q).awaits) None) ≡ None
     → Each (HasCome n c.paths) c.inbox → Each (HasCome n (set c.paths q v)) c.inbox
 give_up-come net n c q v true is left due all =
@@ -325,8 +182,8 @@ give_up-step net h n id word range s r is i =
     let number : awaited_number (path_of c id.path).awaits ≡ id.seq =
     subst (λ (x : NodeIs). awaited_number (path_of x
     id.path).awaits ≡ id.seq) same (awaited-none _ id.seq (first-none _ _ rest)) in
-    let due : cond c.here (answer_after net.answer (path_of c id.path).awaits) None ≡ None =
-    subst (λ (x : NodeIs). cond x.here
+    let due : cond (is_here c) (answer_after net.answer (path_of c id.path).awaits) None ≡ None =
+    subst (λ (x : NodeIs). cond (is_here x)
     (answer_after net.answer (path_of x id.path).awaits) None ≡ None) same (second-none _ _ rest) in
     let free : free_no r n ≡ None = subst (λ (k : ℕ). free_no r k ≡ None) e (first-none _ _ no') in
     subst (λ (k : ℕ). RingFollows n (h ++ GiveUp id word ∷ []) (record {
@@ -339,10 +196,11 @@ give_up-step net h n id word range s r is i =
     (record {
       part = give-up n (own n h) c c.inbox id word e s.0.1 number
           (each-map (IsOwn n) _ c.outbox (λ f from. own-request n f f.kind from) (i.frames n))
-          (give_up-come net n c id.path _ c.here refl i.node.left due i.node.part.comes)
+          (give_up-come net n c id.path _ (is_here c) refl i.node.left due i.node.part.comes)
           i.node.part.once_in i.node.part;
       left = i.node.left;
       busy = inr (free-holds r n free);
+      asking = λ asks. each-filter NotAsked NotAsked _ c.outbox (λ f x k. k) (i.node.asking asks);
     })
     (subst (λ (k : ℕ). Each (IsOwn k) (gave_up (ring_node r k) id).outbox) e filtered) i))
     (λ (o : m ≡ n → ⊥). other-step n h r (after net r (GiveUp id word)) (GiveUp id word) o
@@ -365,6 +223,7 @@ local-step net h n e r w k i = record {
         part = quiet-own n (own n h) _ _ _ _ e w k i.node.part;
         left = i.node.left;
         busy = i.node.busy;
+        asking = i.node.asking;
       }))
       (λ (x : maker e ≡ n → ⊥). subst
       (λ (l : List RingEntry). NodeFollows n l r.holder (ring_node r n)) (sym (own-other n h e x))
@@ -391,7 +250,7 @@ pass-step net h n m done words range s r is i =
     let j : Follows n (own n h) c.paths [] [] c.tries =
     subst (λ (l : List Frame). Follows n (own n h) c.paths [] l c.tries) box
     (subst (λ (l : List Frame). Follows n (own n h) c.paths l c.inbox c.tries) out i.node.part) in
-    own-step n h r (Pass n done words) _ (after_pass c done) range refl
+    handed-own n h r (Pass n done words) (after_pass c done) range refl
     (record {
       part = subst (λ (l : List Frame). Follows n (own n h ++ Pass n done words ∷ [])
           (map aged c.paths) c.outbox l c.tries) (sym
@@ -399,17 +258,44 @@ pass-step net h n m done words range s r is i =
           (map aged c.paths) l [] c.tries) (sym
           out)
           (pass-on n (own n h) c.paths c.tries done words j));
-      left = i.node.left;
-      busy = inl out;
+      left = λ _. box;
+      busy = inl (subst AsksNothing (sym out) tt);
+      asking = λ _. subst AsksNothing (sym out) tt;
     })
     (i.frames n) i))
-    (λ (o : m ≡ n → ⊥). other-step n h r (after net r (Pass m done words)) (Pass m done words) o
-    (length-set _ _ _) (at-other r.nodes m n _ (λ x. o (sym x)))
-    (moved-busy n r.holder _ _ _ (λ x. o (sym holds ∙ x)) i.node.busy)
-    (each-put OwnBox r.nodes (fresh false) m _ i.frames (i.frames m)) i)
+    (λ (o : m ≡ n → ⊥). handed-other n h r (Pass m done words) m (after_pass (ring_node r m) done)
+    o refl holds (i.frames m) i)
     (cases_eq m n)
 
 -- Leave
+left-follows : (n : ℕ) (b : List RingEntry) (holder : ℕ) (c : NodeIs) (cause : LeaveCause)
+    → Follows n b c.paths c.outbox c.inbox c.tries
+    → NodeFollows n b holder (admitted (left_with cause c))
+left-follows n b holder c Ended i = record {
+  part = empty-box n b c.paths c.outbox c.inbox c.tries i;
+  left = λ _. refl;
+  busy = inr (inr refl);
+  asking = λ e. absurd (cc);
+}
+left-follows n b holder c Spent i = record {
+  part = empty-box n b c.paths c.outbox c.inbox c.tries i;
+  left = λ _. refl;
+  busy = inr (inr refl);
+  asking = λ e. absurd (cc);
+}
+left-follows n b holder c (Down number) i = record {
+  part = follows-boxes n b c.paths c.outbox [] c.inbox [] c.tries 0 tt (λ q. omega arith) tt
+      (λ q. omega arith) (omega arith) i;
+  left = λ _. refl;
+  busy = inl tt;
+  asking = λ _. tt;
+}
+
+left-own : (m : ℕ) (c : NodeIs) (cause : LeaveCause) → OwnBox m c → OwnBox m (left_with cause c)
+left-own m c Ended all = all
+left-own m c Spent all = all
+left-own m c (Down number) all = tt
+
 leave-step : (net : NetPlan) (h : List RingEntry) (n m : ℕ) (cause : LeaveCause) → n < addresses
     → IsRingStep net h (Leave m
     cause) → (r : RingIs) → r ≡ ring_after net h → RingFollows n h r
@@ -421,18 +307,107 @@ leave-step net h n m cause range s r is i =
     ⊎_elim (λ (e : m ≡ n).
     subst (λ (k : ℕ). RingFollows n (h ++ Leave k cause ∷ []) (after net r (Leave k cause))) (sym e)
     (let c = ring_node r n in
-    own-step n h r (Leave n cause) _ (gone c) range refl
-    (record {
-      part = empty-box n _ c.paths c.outbox c.inbox c.tries (quiet-own n (own n h) _ _ _ _
-          (Leave n cause) (λ p now. refl) (λ p now. refl) i.node.part);
-      left = λ _. refl;
-      busy = inr (inr refl);
-    })
-    (i.frames n) i))
-    (λ (o : m ≡ n → ⊥). other-step n h r (after net r (Leave m cause)) (Leave m cause) o
-    (length-set _ _ _) (at-other r.nodes m n _ (λ x. o (sym x)))
-    (moved-busy n r.holder _ _ _ (λ x. o (sym holds ∙ x)) i.node.busy)
-    (each-put OwnBox r.nodes (fresh false) m _ i.frames (i.frames m)) i)
+    handed-own n h r (Leave n cause) (left_with cause c) range refl
+    (left-follows n _ _ c cause (quiet-own n (own n h) _ _ _ _ (Leave n cause) (λ p now. refl)
+    (λ p now. refl) i.node.part)) (left-own n c cause (i.frames n)) i))
+    (λ (o : m ≡ n → ⊥). handed-other n h r (Leave m cause) m (left_with cause (ring_node r m)) o refl
+    holds (left-own m (ring_node r m) cause (i.frames m)) i)
+    (cases_eq m n)
+
+-- Join: no path waits, so no Request is in the outbox
+path-free : (c : NodeIs) → paths_no c ≡ None → (p : ℕ) → 1 ≤ p → p ≤ 4
+    → (path_of c p).awaits ≡ Nothing
+path-free c none p least most =
+    let two = second-none _ _ none in
+    let three = second-none _ _ two in
+    at p least most (taken-none _ (first-none _ _ none)) (taken-none _ (first-none _ _ two))
+    (taken-none _ (first-none _ _ three)) (taken-none _ (second-none _ _ three))
+  where
+    at : (p : ℕ) → 1 ≤ p → p ≤ 4 → (path_of c 1).awaits ≡ Nothing → (path_of c 2).awaits ≡ Nothing
+        → (path_of c 3).awaits ≡ Nothing → (path_of c 4).awaits ≡ Nothing
+        → (path_of c p).awaits ≡ Nothing
+    at zero l h a b d e = absurd (omega (arith, l))
+    at (suc zero) l h a b d e = a
+    at (suc (suc zero)) l h a b d e = b
+    at (suc (suc (suc zero))) l h a b d e = d
+    at (suc (suc (suc (suc zero)))) l h a b d e = e
+    at (suc (suc (suc (suc (suc p))))) l h a b d e = absurd (omega (arith, h))
+
+none-out-free : (n : ℕ) (c : NodeIs) → paths_no c ≡ None → (f : Frame) (kind : FrameKind)
+    → f.kind ≡ kind → IsFrom n kind f → OutOn c.paths kind f.id → NotAsked f
+none-out-free n c none f Reply is from out = ap asks is
+none-out-free n c none f Request is from out =
+    let free = path-free c none f.id.path from.2.0 from.2.1 in
+    let no' : waits_for Nothing f.id.seq ≡ true =
+    subst (λ (a : Await). waits_for a f.id.seq ≡ true) free out in
+    let no2 : false ≡ true = no' in absurd (cc)
+
+all-free : (n : ℕ) (c : NodeIs) → paths_no c ≡ None → (box : List Frame) → Each (IsOwn n) box
+    → Each (IsSent c.paths) box → AsksNothing box
+all-free n c none [] from out = tt
+all-free n c none (f ∷ fs) from out =
+    (none-out-free n c none f f.kind refl from.0 out.0, all-free n c none fs from.1 out.1)
+
+was-away : (s : NodeStatus) → away_no s ≡ None → is_in s ≡ false
+was-away In e = absurd (cc)
+was-away Away e = refl
+was-away Asking e = absurd (cc)
+was-away Gone e = absurd (cc)
+
+join-follows : (n : ℕ) (b : List RingEntry) (holder holder' : ℕ) (c : NodeIs) (s : NodeStatus)
+    → or_no (away_no c.status) (paths_no c) ≡ None → Each (IsOwn n) c.outbox → NodeFollows n b holder c
+    → NodeFollows n (b ++ Join n ∷ []) holder' (with_status c s)
+join-follows n b holder holder' c s none from i =
+    let free = all-free n c (second-none _ _ none) c.outbox from i.part.outs in
+    record {
+      part = quiet-own n b c.paths c.outbox c.inbox c.tries (Join n) (λ p now. refl)
+          (λ p now. refl) i.part;
+      left = λ _. i.left (was-away c.status (first-none _ _ none));
+      busy = inl free;
+      asking = λ _. free;
+    }
+
+join-other : (n : ℕ) (r : RingIs) (m : ℕ) → is_held r ≡ false
+    → IsBusy n r.holder (is_here (ring_node r n)) (ring_node r n).outbox
+    → IsBusy n m (is_here (ring_node r n)) (ring_node r n).outbox
+join-other n r m none busy = ⊎_elim (λ (x : AsksNothing (ring_node r n).outbox). inl x)
+    (λ (y : (r.holder ≡ n) ⊎ (is_here (ring_node r n) ≡ false)). ⊎_elim
+    (λ (z : r.holder ≡ n). inr (inr (ap (λ (k : ℕ). is_here (ring_node r k)) (sym z) ∙ none)))
+    (λ (z : is_here (ring_node r n) ≡ false). inr (inr z)) y) busy
+
+join-step : (net : NetPlan) (h : List RingEntry) (n m : ℕ) → n < addresses
+    → IsRingStep net h (Join m) → (r : RingIs) → r ≡ ring_after net h → RingFollows n h r
+    → RingFollows n (h ++ Join m ∷ []) (after net r (Join m))
+join-step net h n m range s r is i =
+    let t : join_no r m ≡ None = subst (λ (x : RingIs). join_no x m ≡ None) (sym is) s.1 in
+    ⊎_elim (λ (e : m ≡ n).
+    subst (λ (k : ℕ). RingFollows n (h ++ Join k ∷ []) (asked_in r k)) (sym e)
+    (let none : join_no r n ≡ None = subst (λ (k : ℕ). join_no r k ≡ None) e t in
+    let join : (holder : ℕ) (s : NodeStatus) → RingFollows n (h ++ Join n ∷ []) (record {
+      holder = holder;
+      sent = r.sent;
+      nodes = set r.nodes n (with_status (ring_node r n) s);
+    }) = λ holder s. own-step n h r (Join n) holder (with_status (ring_node r n) s) range refl
+    (join-follows n (own n h) r.holder holder (ring_node r n) s none (i.frames n) i.node)
+    (i.frames n) i in
+    cond_both (is_held r) _ _ (RingFollows n (h ++ Join n ∷ [])) (λ _. join r.holder Asking)
+    (λ _. join n In)))
+    (λ (o : m ≡ n → ⊥).
+    let other : (holder : ℕ) (s : NodeStatus)
+    → IsBusy n holder (is_here (ring_node r n)) (ring_node r n).outbox
+    → RingFollows n (h ++ Join m ∷ []) (record {
+      holder = holder;
+      sent = r.sent;
+      nodes = set r.nodes m (with_status (ring_node r m) s);
+    }) = λ holder s busy. other-step n h r (record {
+      holder = holder;
+      sent = r.sent;
+      nodes = set r.nodes m (with_status (ring_node r m) s);
+    }) (Join m) o (length-set _ _ _) (at-other r.nodes m n _ (λ x. o (sym x))) busy
+    (each-put OwnBox r.nodes (fresh false) m _ i.frames (i.frames m)) i in
+    cond_both (is_held r) _ _ (RingFollows n (h ++ Join m ∷ []))
+    (λ _. other r.holder Asking i.node.busy)
+    (λ (no' : is_held r ≡ false). other m In (join-other n r m no' i.node.busy)))
     (cases_eq m n)
 
 -- Send: the sender
@@ -492,12 +467,12 @@ heard-follows n b c f fs there heard is from i =
           tries_few = omega (arith, k);
         })
 
-pub heard-here : (c : NodeIs) (kind : FrameKind) (id : CallId) (there : Bool) (h : Heard)
-    → (heard_by c kind id there h).here ≡ c.here
-heard-here c kind id there Acked = refl
-heard-here c kind id there Busy = refl
-heard-here c kind id there Silent = cond_both (nat_le 2 c.tries) (sent_off c (failed c kind id
-    (silence_word there))) _ (λ (x : NodeIs). x.here ≡ c.here) (λ _. refl) (λ _. refl)
+pub heard-status : (c : NodeIs) (kind : FrameKind) (id : CallId) (there : Bool) (h : Heard)
+    → (heard_by c kind id there h).status ≡ c.status
+heard-status c kind id there Acked = refl
+heard-status c kind id there Busy = refl
+heard-status c kind id there Silent = cond_both (nat_le 2 c.tries) (sent_off c (failed c kind id
+    (silence_word there))) _ (λ (x : NodeIs). x.status ≡ c.status) (λ _. refl) (λ _. refl)
 
 pub heard-inbox : (c : NodeIs) (kind : FrameKind) (id : CallId) (there : Bool) (h : Heard)
     → (heard_by c kind id there h).inbox ≡ c.inbox
@@ -514,6 +489,14 @@ heard-own m c kind id there Silent all =
     cond_both (nat_le 2 c.tries) (sent_off c (failed c kind id (silence_word there))) _
     (OwnBox m) (λ _. each-drop (IsOwn m) c.outbox all) (λ _. all)
 
+heard-asks : (c : NodeIs) (kind : FrameKind) (id : CallId) (there : Bool) (h : Heard)
+    → AsksNothing c.outbox → AsksNothing (heard_by c kind id there h).outbox
+heard-asks c kind id there Acked all = each-drop NotAsked c.outbox all
+heard-asks c kind id there Busy all = each-drop NotAsked c.outbox all
+heard-asks c kind id there Silent all =
+    cond_both (nat_le 2 c.tries) (sent_off c (failed c kind id (silence_word there))) _
+    (λ (x : NodeIs). AsksNothing x.outbox) (λ _. each-drop NotAsked c.outbox all) (λ _. all)
+
 -- Send: the target
 pub to-other : (m : ℕ) (f : Frame) (kind : FrameKind) → IsFrom m kind f → f.to ≢ m
 to-other m f Request from = from.1
@@ -521,7 +504,7 @@ to-other m f Reply from = from.1
 
 fell-follows : (n m : ℕ) (b : List RingEntry) (c : NodeIs) (f : Frame) (kind : FrameKind)
     → f.kind ≡ kind → IsFrom m kind f → f.to
-    ≡ n → m ≢ n → c.outbox ≡ [] → NodeOf n b c → NodeOf n b (with_frame c (fell c kind f.id) f)
+    ≡ n → m ≢ n → AsksNothing c.outbox → NodeOf n b c → NodeOf n b (with_frame c (fell c kind f.id) f)
 fell-follows n m b c f Request is from to other out i =
     cond_both (is_repeat c f.id) _ _ (λ x. NodeOf n b (with_frame c x f)) (λ _. i)
     (λ _. cond_both (is_full c) _ _ (λ x. NodeOf n b (with_frame c x f)) (λ _. i)
@@ -529,13 +512,9 @@ fell-follows n m b c f Request is from to other out i =
 fell-follows n m b c f Reply is from to other out i =
     cond_both (waits_for (path_of c f.id.path).awaits f.id.seq) _ _ (λ x. NodeOf n b (with_frame c x f))
     (λ (w : waits_for (path_of c f.id.path).awaits f.id.seq ≡ true).
-    let j : Follows n b c.paths [] c.inbox c.tries =
-    subst (λ (l : List Frame). Follows n b c.paths l c.inbox c.tries) out i in
-    subst (λ (l : List Frame). Follows n b (awaiting c f.id.path (Arrived f.id.seq)) l
-    (c.inbox ++ f ∷ []) c.tries) (sym out)
-    (come-reply n b c c.inbox c.tries f is (sym from.0 ∙ to)
+    come-reply n b c c.outbox c.inbox c.tries f is (sym from.0 ∙ to)
     (path-low c.paths f.id.path _ i.size refl (λ e. not-nothing
-    (path_of c f.id.path).awaits f.id.seq w e)) w j))
+    (path_of c f.id.path).awaits f.id.seq w e)) w out i)
     (λ _. i)
   where
     not-nothing : (a : Await) (s : ℕ) → waits_for a s ≡ true → a ≡ Nothing → ⊥
@@ -551,20 +530,20 @@ fell-outbox c f Request =
 fell-outbox c f Reply = cond_both (waits_for (path_of c f.id.path).awaits f.id.seq) _ _
     (λ x. (with_frame c x f).outbox ≡ c.outbox) (λ _. refl) (λ _. refl)
 
-fell-here : (c : NodeIs) (f : Frame) (kind : FrameKind)
-    → (with_frame c (fell c kind f.id) f).here ≡ c.here
-fell-here c f Request =
-    cond_both (is_repeat c f.id) _ _ (λ x. (with_frame c x f).here ≡ c.here) (λ _. refl)
-    (λ _. cond_both (is_full c) _ _ (λ x. (with_frame c x f).here ≡ c.here) (λ _. refl) (λ _. refl))
-fell-here c f Reply = cond_both (waits_for (path_of c f.id.path).awaits f.id.seq) _ _
-    (λ x. (with_frame c x f).here ≡ c.here) (λ _. refl) (λ _. refl)
+fell-status : (c : NodeIs) (f : Frame) (kind : FrameKind)
+    → (with_frame c (fell c kind f.id) f).status ≡ c.status
+fell-status c f Request =
+    cond_both (is_repeat c f.id) _ _ (λ x. (with_frame c x f).status ≡ c.status) (λ _. refl)
+    (λ _. cond_both (is_full c) _ _ (λ x. (with_frame c x f).status ≡ c.status) (λ _. refl) (λ _. refl))
+fell-status c f Reply = cond_both (waits_for (path_of c f.id.path).awaits f.id.seq) _ _
+    (λ x. (with_frame c x f).status ≡ c.status) (λ _. refl) (λ _. refl)
 
 arrives-here : (here : Bool) (x : Bool) → cond here x false ≡ true → here ≡ true
 arrives-here true x e = refl
 arrives-here false x e = absurd (let no' : false ≡ true = e in cc)
 
 pub arrived-part : (nodes : List NodeIs) (f : Frame) (fate : Fate) (P : ℕ → NodeIs → Type 0)
-    → ((k : ℕ) → P k (part_of nodes k)) → ((part_of nodes f.to).here ≡ true
+    → ((k : ℕ) → P k (part_of nodes k)) → (is_here (part_of nodes f.to) ≡ true
     → P f.to (with_frame (part_of nodes f.to) (fell (part_of nodes f.to) f.kind f.id) f))
     → (k : ℕ) → P k (part_of (arrived nodes f (arrival nodes fate f)) k)
 arrived-part nodes f fate P all at =
@@ -584,25 +563,27 @@ length-arrived nodes fate f =
 abbrev If : ℕ → (NodeIs → Type 0) → ℕ → NodeIs → Type 0
 If n P k c = k ≡ n → P c
 
--- nothing in the outbox of a member that does not hold the token
-nothing-out : (n holder : ℕ) (here : Bool) (out : List Frame) → holder ≢ n → here ≡ true
-    → IsBusy n holder here out → out ≡ []
-nothing-out n holder here out not_mine is b = ⊎_elim (λ (x : out ≡ []). x)
+-- no Request in the outbox of a member that does not hold the token
+nothing-asked : (n holder : ℕ) (here : Bool) (out : List Frame) → holder ≢ n → here ≡ true
+    → IsBusy n holder here out → AsksNothing out
+nothing-asked n holder here out not_mine is b = ⊎_elim (λ (x : AsksNothing out). x)
     (λ (y : (holder ≡ n) ⊎ (here ≡ false)). ⊎_elim (λ (z : holder ≡ n). absurd (not_mine z))
     (λ (z : here ≡ false). absurd (cc)) y) b
 
 came-node : (n m : ℕ) (b : List RingEntry) (holder : ℕ) (c : NodeIs) (f : Frame) → IsOwn m f
-    → f.to ≡ n → m ≢ n → holder ≢ n → c.here ≡ true → NodeFollows n b holder c
+    → f.to ≡ n → m ≢ n → holder ≢ n → is_here c ≡ true → NodeFollows n b holder c
     → NodeFollows n b holder (with_frame c (fell c f.kind f.id) f)
 came-node n m b holder c f from to other not_mine here i =
     let d = with_frame c (fell c f.kind f.id) f in
+    let still = fell-status c f f.kind in
+    let out = fell-outbox c f f.kind in
     record {
       part = fell-follows n m b c f f.kind refl from to other
-          (nothing-out n holder c.here c.outbox not_mine here i.busy) i.part;
-      left = λ gone'. absurd (let x : d.here ≡ true = fell-here c f f.kind ∙ here in cc);
-      busy = subst (λ (o : List Frame). IsBusy n holder d.here o) (sym (fell-outbox c f f.kind))
-          (subst (λ (x : Bool). IsBusy n
-          holder x c.outbox) (sym (fell-here c f f.kind)) i.busy);
+          (nothing-asked n holder (is_here c) c.outbox not_mine here i.busy) i.part;
+      left = λ gone'. absurd (let x : is_here d ≡ true = ap is_in still ∙ here in cc);
+      busy = subst (λ (o : List Frame). IsBusy n holder (is_here d) o) (sym out)
+          (subst (λ (x : Bool). IsBusy n holder x c.outbox) (sym (ap is_in still)) i.busy);
+      asking = λ asks. subst AsksNothing (sym out) (i.asking (sym still ∙ asks));
     }
 
 sent-other : (net : NetPlan) (h : List RingEntry) (n m : ℕ) (heard : Heard) (f : Frame)
@@ -622,7 +603,7 @@ sent-other net h n m heard f fs other r holds box i =
     let frames : (k : ℕ) → OwnBox k (part_of nodes k) = arrived-part r.nodes f fate OwnBox i.frames
     (λ here. subst (Each
     (IsOwn f.to)) (sym (fell-outbox (part_of r.nodes f.to) f f.kind)) (i.frames f.to)) in
-    let c' = heard_by (part_of nodes m) f.kind f.id (ring_node r f.to).here
+    let c' = heard_by (part_of nodes m) f.kind f.id (is_here (ring_node r f.to))
     (heard_of fate (arrival r.nodes fate f)) in
     record {
       size = length-set _ _ _ ∙ (length-arrived r.nodes fate f ∙ i.size);
@@ -648,7 +629,7 @@ sent-own net h n heard f fs range r holds box i =
     let frames : (k : ℕ) → OwnBox k (part_of nodes k) = arrived-part r.nodes f fate OwnBox i.frames
     (λ here. subst (Each
     (IsOwn f.to)) (sym (fell-outbox (part_of r.nodes f.to) f f.kind)) (i.frames f.to)) in
-    let there = (ring_node r f.to).here in
+    let there = is_here (ring_node r f.to) in
     let told = heard_of fate (arrival r.nodes fate f) in
     let c = part_of nodes n in
     let c' = heard_by c f.kind f.id there told in
@@ -661,8 +642,10 @@ sent-own net h n heard f fs range r holds box i =
           (quiet-own n (own n h) c.paths
           c.outbox c.inbox c.tries (Send n heard) (λ p now'. refl) (λ p now'. refl) now.part);
       left = λ gone'. heard-inbox c f.kind f.id there told
-          ∙ now.left (sym (heard-here c f.kind f.id there told) ∙ gone');
+          ∙ now.left (ap is_in (sym (heard-status c f.kind f.id there told)) ∙ gone');
       busy = inr (inl holds);
+      asking = λ asks. heard-asks c f.kind f.id there told
+          (now.asking (sym (heard-status c f.kind f.id there told) ∙ asks));
     } in
     record {
       size = length-set _ _ _ ∙ size;
@@ -696,30 +679,36 @@ send-step net h n m heard range s r is i =
     subst (λ (x : RingIs). IsTimelyEntry net h x (Send m heard)) (sym is) s.1 in
     sent-step net h n m heard (ring_node r m).outbox range r (turn-holds r m (first-none _ _ t.0)) refl i
 
--- all seven, and lists of them
+-- all eight, and lists of them
 step-follows : (net : NetPlan) (h : List RingEntry) (n : ℕ) (e : RingEntry) → n < addresses
+    → IsPatient (status_at net h n) n e
     → IsRingStep net h e → (r : RingIs) → r ≡ ring_after net h → RingFollows n h r
     → RingFollows n (h ++ e ∷ []) (after net r e)
-step-follows net h n (Post m f) range s r is i = post-step net h n m f range s r is i
-step-follows net h n (Send m heard) range s r is i = send-step net h n m heard range s r is i
-step-follows net h n (Take m f) range s r is i = take-step net h n m f range s r is i
-step-follows net h n (Local m id op result) range s r is i =
+step-follows net h n (Post m f) range patient s r is i = post-step net h n m f range patient s r is i
+step-follows net h n (Send m heard) range patient s r is i = send-step net h n m heard range s r is i
+step-follows net h n (Take m f) range patient s r is i = take-step net h n m f range s r is i
+step-follows net h n (Local m id op result) range patient s r is i =
     local-step net h n (Local m id op result) r (λ p now. refl) (λ p now. refl) i
-step-follows net h n (GiveUp id word) range s r is i = give_up-step net h n id word range s r is i
-step-follows net h n (Pass m done words) range s r is i = pass-step net h n m done words range s r is i
-step-follows net h n (Leave m cause) range s r is i = leave-step net h n m cause range s r is i
+step-follows net h n (GiveUp id word) range patient s r is i =
+    give_up-step net h n id word range s r is i
+step-follows net h n (Pass m done words) range patient s r is i =
+    pass-step net h n m done words range s r is i
+step-follows net h n (Leave m cause) range patient s r is i =
+    leave-step net h n m cause range s r is i
+step-follows net h n (Join m) range patient s r is i = join-step net h n m range s r is i
 
 run-follows : (net : NetPlan) (n : ℕ) (h es : List RingEntry) → n < addresses → IsRun net h es
+    → ArePatient net n h es
     → RingFollows n h (ring_after net
     h) → RingFollows n (h ++ es) (ring_after net (h ++ es))
-run-follows net n h [] range run i =
+run-follows net n h [] range run patient i =
     subst (λ (l : List RingEntry). RingFollows n l (ring_after net l)) (sym (append-nil h)) i
-run-follows net n h (e ∷ es) range run i =
-    let one' = step-follows net h n e range run.0 (ring_after net h) refl i in
+run-follows net n h (e ∷ es) range run patient i =
+    let one' = step-follows net h n e range patient.0 run.0 (ring_after net h) refl i in
     let more = subst (λ (x : RingIs). RingFollows n (h ++ e ∷ []) x)
     (sym (after_all-push net (opening net) h e)) one' in
     subst (λ (l : List RingEntry). RingFollows n l (ring_after net l)) (append_assoc h (e ∷ []) es)
-    (run-follows net n (h ++ e ∷ []) es range run.1 more)
+    (run-follows net n (h ++ e ∷ []) es range run.1 patient.1 more)
 
 -- at first
 get_or-same : {X : Type 0} (k : ℕ) (x : X) (p : ℕ) → get_or (replicate k x) p x ≡ x
@@ -766,7 +755,8 @@ opening-follows net n =
       node = record {
         part = fresh-part c.paths c.outbox c.inbox c.tries is.0 is.1 is.2 is.3;
         left = λ _. is.2;
-        busy = inl is.1;
+        busy = inl (subst AsksNothing (sym is.1) tt);
+        asking = λ _. subst AsksNothing (sym is.1) tt;
       };
       frames = λ m. subst (Each (IsOwn m)) (sym (all m).1) tt;
     }
@@ -785,4 +775,5 @@ opening-follows net n =
 pub legal-follows : (net : NetPlan) (h : List RingEntry) (n : ℕ) → IsOnRing net h n
     → RingFollows n h (ring_after net h)
 legal-follows net h n on =
-    run-follows net n [] h (low net n on.members on.member) on.legal (opening-follows net n)
+    run-follows net n [] h (low net n on.members on.member) on.legal on.patient
+    (opening-follows net n)

@@ -1,5 +1,6 @@
 pub mod Boxes
 pub mod Paths
+pub mod Nodes
 pub mod Histories
 pub mod Steps
 pub mod Turns

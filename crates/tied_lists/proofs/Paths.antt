@@ -25,7 +25,7 @@ use Rattle.tied_lists.proofs.Boxes.{at-most-one, count-cons, count-push, count-d
 use Rattle.tied_lists.proofs.Boxes.{asks_on, replies_on, OutOn, CameOn, IsSent, HasCome, is_out}
 use Rattle.tied_lists.proofs.Boxes.{has_arrived, waits-out, out-not-arrived, arrived-not-out}
 use Rattle.tied_lists.proofs.Boxes.{sent-apart, come-apart, sent-rest, come-rest, none-out, none-in}
-use Rattle.tied_lists.proofs.Boxes.{out-apart}
+use Rattle.tied_lists.proofs.Boxes.{out-apart, each-map, count-each}
 
 -- one more own entry
 waits-push : (p : ℕ) (now : Option Frame) (b : List RingEntry) (e : RingEntry)
@@ -398,12 +398,21 @@ come-request n b ps out box tries f kind other i =
     in let o = none-if (replies_on k f) z in let l = i.once_in k in omega (arith, c, o, l))
     i.tries_few i
 
-pub come-reply : (n : ℕ) (b : List RingEntry) (c : NodeIs) (box : List Frame) (tries : ℕ)
+-- no Request
+abbrev pub NotAsked : Frame → Type 0
+NotAsked f = asks f.kind ≡ false
+
+none-asked : (q : ℕ) (out : List Frame) → Each NotAsked out → count_by (asks_on q) out ≡ 0
+none-asked q out none = count-each (asks_on q) out
+    (each-map NotAsked (λ f. asks_on q f ≡ false) out
+    (λ f (no' : asks f.kind ≡ false). ap (λ (b : Bool). b && f.id.path == q) no') none)
+
+pub come-reply : (n : ℕ) (b : List RingEntry) (c : NodeIs) (sent box : List Frame) (tries : ℕ)
     (f : Frame) → f.kind ≡ Reply → f.id.node
     ≡ n → f.id.path < path_places → waits_for (path_of c f.id.path).awaits f.id.seq ≡ true
-    → Follows n b c.paths [] box tries
-    → Follows n b (awaiting c f.id.path (Arrived f.id.seq)) [] (box ++ f ∷ []) tries
-come-reply n b c box tries f kind own low out i =
+    → Each NotAsked sent → Follows n b c.paths sent box tries
+    → Follows n b (awaiting c f.id.path (Arrived f.id.seq)) sent (box ++ f ∷ []) tries
+come-reply n b c sent box tries f kind own low out none i =
     let q = f.id.path in
     let ps = c.paths in
     let v : Path = record { awaits = Arrived f.id.seq; posted = (get_or ps q no_path).posted } in
@@ -412,10 +421,10 @@ come-reply n b c box tries f kind own low out i =
     out-not-arrived _ (waits-out _ f.id.seq out) in
     let now : (get_or (set ps q v) q no_path).awaits ≡ Arrived f.id.seq =
     ap (λ (x : Path). x.awaits) (get_or-set_same ps q v no_path range) in
-    follows-set n b b ps q v [] [] box (box ++ f ∷ []) tries tries low
+    follows-set n b b ps q v sent sent box (box ++ f ∷ []) tries tries low
     (arrived-awaits (get_or ps q no_path).awaits f.id.seq (waiting q b) out (i.paths q))
     (λ p o. refl) (λ g is. i.asks q g is) (i.numbers q low) (λ p o. refl)
-    tt i.once_out
+    (sent-rest ps q v sent (none-asked q sent none) i.outs) i.once_out
     (each-push _ box f (come-apart n ps q v box not_in i.comes)
     (subst (λ (k : FrameKind). CameOn n (set ps q v) k f.id) (sym kind) (now, own)))
     (λ k. let d = count-push (replies_on k) box f in ⊎_elim

@@ -9,7 +9,7 @@ pub use Rattle.mstr_block.specs.Call.{words_told}
 use Rattle.ring_core.specs.Words.{is_same_call}
 use Rattle.tied_lists.specs.Words.{CallId, MstrResult, Bad, FrameKind, Request, Reply, Frame}
 use Rattle.tied_lists.specs.Words.{LocalOp, RemoteGet, RemoteClear, RingEntry, Post, Take, Local}
-use Rattle.tied_lists.specs.Words.{GiveUp}
+use Rattle.tied_lists.specs.Words.{GiveUp, LeaveCause, Ended as AllDone, Spent, Down, Leave}
 use Rattle.ring_core.specs.Statistics.{get_statistics, clear_statistics, is_stats}
 use Rattle.reply_laws.specs.Result.{no_result, result_of}
 
@@ -29,11 +29,12 @@ pub record Called : Type 0 where
   pub id : CallId
   pub sort : CallSort
 
--- A request that was answered; no request where nobody can have asked for it.
+-- A request that was answered; no request where nobody can have asked for it, and no reply where
+-- it came without power.
 pub record Answered : Type 0 where
   pub id : CallId
   pub request : Option (List ℕ)
-  pub reply : List ℕ
+  pub reply : Option (List ℕ)
 
 -- The kind of a call that ended.
 pub data Kind : Type 0 where
@@ -57,11 +58,12 @@ pub data Station : Type 0 where
   AController : Station
   AHost : Station
 
--- What the laws read of a station's list.
+-- What the laws read of a station's list, with how often its power failed.
 pub record Items : Type 0 where
   pub calls : List Called
   pub answers : List Answered
   pub ends : List Ended
+  pub fails : ℕ
 
 -- The request of a call, if it asks another node.
 abbrev pub net_ask : Called → Option Asked
@@ -150,7 +152,7 @@ abbrev pub answered_for : ℕ → CallId → LocalOp → MstrResult → Option A
 answered_for n id op result = if id.node == n then None else Some (record {
   id = id;
   request = request_of op;
-  reply = reply_of result;
+  reply = Some (reply_of result);
 })
 
 abbrev pub answered_of : RingEntry → Option Answered
@@ -173,25 +175,32 @@ replied_of _ = None
 abbrev pub replied_by : List RingEntry → List Item
 replied_by b = filter_map replied_of b
 
-abbrev pub replies_in : List Answered → List (List ℕ)
+abbrev pub replies_in : List Answered → List (Option (List ℕ))
 replies_in answers = map (λ (a : Answered). a.reply) answers
 
-abbrev pub first_reply : List (List ℕ) → Option (List ℕ)
+abbrev pub first_reply : List (Option (List ℕ)) → Option (Option (List ℕ))
 first_reply [] = None
 first_reply (x ∷ xs) = Some x
 
-abbrev pub rest_of : List (List ℕ) → List (List ℕ)
+abbrev pub rest_of : List (Option (List ℕ)) → List (Option (List ℕ))
 rest_of [] = []
 rest_of (x ∷ xs) = xs
 
--- The Replies that are due, in the order of the Requests taken: to each the next answer of its
--- sort, or nothing where that is missing.
-abbrev pub due_replies : List Taken → List (List ℕ) → List (List ℕ) → List Item
+-- The Reply that is due for an answer: none where there was no power, and one that nobody can post
+-- where the answer is missing.
+abbrev pub due_reply : CallId → Option (Option (List ℕ)) → Option Item
+due_reply id None = Some (id, None)
+due_reply id (Some None) = None
+due_reply id (Some (Some reply)) = Some (id, Some reply)
+
+-- The Replies that are due, in the order of the Requests taken: to each what its answer makes due,
+-- which is the next answer of its sort.
+abbrev pub due_replies : List Taken → List (Option (List ℕ)) → List (Option (List ℕ)) → List Item
 due_replies [] peers locals = []
 due_replies (Plain id pdu ∷ ts) peers locals =
-    (id, first_reply peers) ∷ due_replies ts (rest_of peers) locals
+    cons_option (due_reply id (first_reply peers)) (due_replies ts (rest_of peers) locals)
 due_replies (ForStats id pdu ∷ ts) peers locals =
-    (id, first_reply locals) ∷ due_replies ts peers (rest_of locals)
+    cons_option (due_reply id (first_reply locals)) (due_replies ts peers (rest_of locals))
 
 -- The result of a Reply, where the Request of its name was posted.
 abbrev pub result_for : Option (List ℕ) → List ℕ → MstrResult
@@ -239,21 +248,44 @@ ended_by station asked (e ∷ es) =
     cons_option (ended_of station asked e)
     (ended_by station (asked ++ cons_option (asked_of e) []) es)
 
--- Items that go on by calls, an answer or an end.
+-- The number of a Down: how often power had failed when the node left by it.
+abbrev pub down_in : LeaveCause → Option ℕ
+down_in AllDone = None
+down_in Spent = None
+down_in (Down number) = Some number
+
+abbrev pub down_of : RingEntry → Option ℕ
+down_of (Leave n cause) = down_in cause
+down_of _ = None
+
+-- The numbers of the Downs, in order.
+abbrev pub downs_by : List RingEntry → List ℕ
+downs_by b = filter_map down_of b
+
+-- The number of the latest Down; this one where there is none.
+abbrev pub last_from : ℕ → List ℕ → ℕ
+last_from number [] = number
+last_from number (k ∷ ks) = last_from k ks
+
+-- The number of the latest Down; 0 for none.
+abbrev pub latest_down : List RingEntry → ℕ
+latest_down b = last_from 0 (downs_by b)
+
+-- Items that go on by calls, an answer, an end or a power failure.
 abbrev pub no_items : Items
-no_items = record { calls = []; answers = []; ends = [] }
+no_items = record { calls = []; answers = []; ends = []; fails = 0 }
 
 abbrev pub with_calls : Items → List Called → Items
-with_calls a calls =
-    record { calls = a.calls ++ calls; answers = a.answers; ends = a.ends }
+with_calls a calls = record a { calls = a.calls ++ calls }
 
 abbrev pub with_answer : Items → Answered → Items
-with_answer a answer =
-    record { calls = a.calls; answers = a.answers ++ answer ∷ []; ends = a.ends }
+with_answer a answer = record a { answers = a.answers ++ answer ∷ [] }
 
 abbrev pub with_end : Items → CallId → Outcome → Items
-with_end a id outcome = record {
-  calls = a.calls;
-  answers = a.answers;
+with_end a id outcome = record a {
   ends = a.ends ++ record { id = id; kind = kind_in a.calls id; outcome = outcome } ∷ [];
 }
+
+-- The same items, where power failed so often.
+abbrev pub with_fails : Items → ℕ → Items
+with_fails a fails = record a { fails = fails }

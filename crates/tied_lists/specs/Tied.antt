@@ -1,9 +1,10 @@
--- The four laws between a station's list and the list of its node on the ring. This project's own.
-use Rattle.std.specs.Prelude.{◌≡◌, List, [], ◌++◌, map, filter_map}
+-- The five laws between a station's list and the list of its node on the ring. This project's own.
+use Rattle.std.specs.Prelude.{◌≡◌, ℕ, ◌<◌, ◌≤◌, List, [], ◌∷◌, ◌++◌, map, filter_map}
+use Rattle.std.specs.List.{AllByRecursion}
 use Rattle.tied_lists.specs.Words.{RingEntry}
 use Rattle.tied_lists.specs.Items.{Station, Items, Called, net_ask, asked_by, item_of, plain_items}
 use Rattle.tied_lists.specs.Items.{stats_items, taken_by, port_answers, replied_by, due_replies}
-use Rattle.tied_lists.specs.Items.{replies_in, ended_by}
+use Rattle.tied_lists.specs.Items.{replies_in, ended_by, downs_by}
 
 -- The Requests posted are, in order, those of the station's network calls.
 abbrev pub AsksAreCalls : Items → List RingEntry → Type 0
@@ -28,7 +29,18 @@ RepliesAreDue a b =
 abbrev pub EndsAreMet : Station → Items → List RingEntry → Type 0
 EndsAreMet station a b = a.ends ≡ ended_by station [] b
 
--- The same, where these calls, the last ones made, were not posted yet.
+-- Numbers rise from above this one.
+abbrev pub RiseAbove : ℕ → List ℕ → Type 0
+RiseAbove number [] = Unit {0}
+RiseAbove number (k ∷ ks) = (number < k) × RiseAbove k ks
+
+-- The numbers of the node's Downs rise from 1 on, and none is above the number of its station's
+-- power failures. So a host, whose power never fails, has none.
+abbrev pub DownsAreFails : Items → List RingEntry → Type 0
+DownsAreFails a b =
+    RiseAbove 0 (downs_by b) × AllByRecursion (λ (k : ℕ). k ≤ a.fails) (downs_by b)
+
+-- The Requests posted are those of the calls, where these, the last ones made, were not posted yet.
 abbrev pub AsksAreCallsBut : List Called → Items → List RingEntry → Type 0
 AsksAreCallsBut rest a b = asked_by b ++ filter_map net_ask rest ≡ filter_map net_ask a.calls
 
@@ -39,6 +51,7 @@ pub record Tied (station : Station) (a : Items) (b : List RingEntry) : Type 0 wh
   pub port : PortIsTaken b
   pub replies : RepliesAreDue a b
   pub ends : EndsAreMet station a b
+  pub downs : DownsAreFails a b
 
 -- They keep all of them, but for calls that were not posted yet.
 pub record TiedBut (station : Station) (rest : List Called) (a : Items) (b : List RingEntry)
@@ -48,3 +61,4 @@ pub record TiedBut (station : Station) (rest : List Called) (a : Items) (b : Lis
   pub port : PortIsTaken b
   pub replies : RepliesAreDue a b
   pub ends : EndsAreMet station a b
+  pub downs : DownsAreFails a b

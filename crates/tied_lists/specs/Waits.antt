@@ -1,12 +1,12 @@
 -- What a node's own list says of its paths. This project's own.
-use Rattle.std.specs.Prelude.{◌≡◌, ◌≢◌, ◌⊎◌, ℕ, ◌<◌, ◌==◌, true, false, if◌then◌else◌, List, []}
-use Rattle.std.specs.Prelude.{◌∷◌, Option, Some, None, All}
+use Rattle.std.specs.Prelude.{◌≡◌, ◌≢◌, ◌⊎◌, ℕ, ◌<◌, ◌==◌, Bool, true, false, if◌then◌else◌, List}
+use Rattle.std.specs.Prelude.{[], ◌∷◌, ◌++◌, Option, Some, None, All}
 use Rattle.ring_core.specs.Machine.{addresses, ring_node, ring_after, is_here}
 use Rattle.ring_core.specs.Legal.{IsMember, IsPath, IsLegalRing}
 use Rattle.ring_core.specs.declared.path.Await.{Await}
 use Rattle.ring_core.specs.declared.path.Await.TheVariants.{Nothing, Out, Arrived, Failed}
 use Rattle.tied_lists.specs.Words.{FrameKind, Request, Reply, Frame, NetPlan, RingEntry}
-use Rattle.tied_lists.specs.Words.{Post, Take, GiveUp}
+use Rattle.tied_lists.specs.Words.{Post, Take, GiveUp, NodeStatus, In, Away, Asking, Gone}
 
 -- The Request that a path waits for: the one posted there last, until its Reply is taken or it is
 -- given up.
@@ -64,20 +64,43 @@ AwaitsThis (Arrived seq) (Some f) = seq ≡ f.id.seq
 AwaitsThis (Failed seq word) (Some f) = seq ≡ f.id.seq
 AwaitsThis _ _ = ⊥
 
--- A legal history of a net whose members' addresses are those of a ring, and one of its members.
+-- Where a node stands toward the ring.
+abbrev pub status_at : NetPlan → List RingEntry → ℕ → NodeStatus
+status_at net history n = (ring_node (ring_after net history) n).status
+
+-- A node posts nothing while it asks to come in.
+abbrev pub IsPatient : NodeStatus → ℕ → RingEntry → Type 0
+IsPatient status n (Post m f) = m ≡ n → status ≢ Asking
+IsPatient status n _ = Unit {0}
+
+-- Nor does it in a list, behind these entries.
+abbrev pub ArePatient : NetPlan → ℕ → List RingEntry → List RingEntry → Type 0
+ArePatient net n past [] = Unit {0}
+ArePatient net n past (e ∷ es) =
+    IsPatient (status_at net past n) n e × ArePatient net n (past ++ e ∷ []) es
+
+-- A legal history of a net whose members' addresses are those of a ring, and one of its members,
+-- which posts nothing while it asks to come in.
 pub record IsOnRing (net : NetPlan) (history : List RingEntry) (n : ℕ) : Type 0 where
   pub members : All (λ m. m < addresses) net.members
   pub legal : IsLegalRing net history
   pub member : IsMember net n
+  pub patient : ArePatient net n [] history
 
 -- A node holds the token.
 pub record Holds (net : NetPlan) (history : List RingEntry) (n : ℕ) : Type 0 where
   pub holder : (ring_after net history).holder ≡ n
   pub here : is_here (ring_node (ring_after net history) n) ≡ true
 
--- A node has left the ring.
+-- A node that has left the ring, and doesn't ask to come in again.
+abbrev pub has_left : NodeStatus → Bool
+has_left In = false
+has_left Away = true
+has_left Asking = false
+has_left Gone = true
+
 abbrev pub HasLeft : NetPlan → List RingEntry → ℕ → Type 0
-HasLeft net history n = is_here (ring_node (ring_after net history) n) ≡ false
+HasLeft net history n = has_left (status_at net history n) ≡ true
 
 -- Nobody else changes a node's boxes and paths.
 abbrev pub IsFree : NetPlan → List RingEntry → ℕ → Type 0

@@ -13,7 +13,9 @@ pub use Rattle.ring_core.specs.declared.entry.LocalOp.TheVariants.{RemoteClear}
 pub use Rattle.ring_core.specs.declared.entry.Heard.{Heard}
 pub use Rattle.ring_core.specs.declared.entry.Heard.TheVariants.{Acked, Silent, Busy}
 pub use Rattle.ring_core.specs.declared.entry.LeaveCause.{LeaveCause}
-pub use Rattle.ring_core.specs.declared.entry.LeaveCause.TheVariants.{Ended, Spent}
+pub use Rattle.ring_core.specs.declared.entry.LeaveCause.TheVariants.{Ended, Spent, Down}
 pub use Rattle.ring_core.specs.declared.entry.RingEntry.{RingEntry}
 pub use Rattle.ring_core.specs.declared.entry.RingEntry.TheVariants.{Post, Send, Take, Local}
-pub use Rattle.ring_core.specs.declared.entry.RingEntry.TheVariants.{GiveUp, Pass, Leave}
+pub use Rattle.ring_core.specs.declared.entry.RingEntry.TheVariants.{GiveUp, Pass, Leave, Join}
+pub use Rattle.ring_core.specs.declared.status.NodeStatus.{NodeStatus}
+pub use Rattle.ring_core.specs.declared.status.NodeStatus.TheVariants.{In, Away, Asking, Gone}

@@ -1,32 +1,34 @@
 //! What is counted of a station's list and of its node's entries on the ring.
 ghost use Rattle.std.specs.Prelude.{◌≡◌, ◌+◌, ◌↔◌, IsTrue, IfOk, OnOk};
-ghost use Rattle.std.specs.Prelude.{[], ◌∷◌, ◌++◌};
-ghost use Rattle.entry_causes.specs.Causes.{StationEntry, ByController, ByHost, PostsReply};
-ghost use Rattle.entry_causes.specs.Causes.{noted_next, asking, doings, deed};
-ghost use Rattle.entry_causes.specs.Causes.{posting, taking, working, AreCaused};
+ghost use Rattle.std.specs.Prelude.{[], ◌∷◌, List, Bool};
+ghost use Rattle.entry_causes.specs.Causes.{StationEntry, ByController, ByHost};
+ghost use Rattle.entry_causes.specs.Causes.{noted_next, asking, doings, leaving};
+ghost use Rattle.entry_causes.specs.Causes.{posting, taking, working};
 ghost use Rattle.entry_causes.specs.Causes.{no_notes, no_deeds};
-ghost use Rattle.time_judge.specs.Counts.{noted_is, done_is, longest_waiting, IsNotedAfter};
-ghost use Rattle.time_judge.specs.Counts.{AreCallsNoted, IsDoneAfterAny, IsDoneAfterFirst};
+ghost use Rattle.time_judge.specs.Counts.{noted_is, done_is, NotedAre, IsNotedAfter, AreCallsNoted};
+ghost use Rattle.time_judge.specs.Counts.{IsDoneAfter, AreCausedWith, answers_after};
+ghost use Rattle.time_judge.specs.Counts.{requests_after, IsAnswerOf};
 
 use controller_core::{Call, CallKind, Entry};
 use host_port::HostEntry;
-use ring_core::{FrameKind, RingEntry, is_stats};
+use ring_core::{FrameKind, LeaveCause, RingEntry, is_stats};
 use std::alloc::AllocError;
-use std::collections::VecDeque;
 
-/// Of a station's list: calls of other nodes, calls of the own port, requests answered and calls
-/// ended.
+/// Of a station's list: calls of other nodes, calls of the own port, requests answered, calls
+/// ended, power failures, and how many of them were over when it last had power.
 #[derive(Clone, Copy)]
 pub(crate) struct NotedCounts {
     pub asked: u64,
     pub asked_port: u64,
     pub served: u64,
     pub ended: u64,
+    pub failed: u64,
+    pub returned: u64,
 }
 
 /// Of what its node did: Requests posted, operations for its own station, Requests taken for the
-/// station and for the port, those that the port answered, Replies posted in all, those to Requests
-/// for the station and for the port, and calls over.
+/// station and for the port, those that the port answered, Replies posted, calls over, the number
+/// of the failure as which it left last, and that as which it had left when it last came back.
 #[derive(Clone, Copy)]
 pub(crate) struct DoneCounts {
     pub posted: u64,
@@ -35,20 +37,22 @@ pub(crate) struct DoneCounts {
     pub taken_port: u64,
     pub answered_port: u64,
     pub replies: u64,
-    pub replied: u64,
-    pub replied_port: u64,
     pub over: u64,
+    pub down: u32,
+    pub joined: u32,
 }
 
 impl NotedCounts {
     pub(crate) fn none() -> NotedCounts
-        ensures { noted_is result ≡ no_notes }
+        ensures { noted_is result [] ≡ no_notes }
     {
         NotedCounts {
             asked: 0,
             asked_port: 0,
             served: 0,
             ended: 0,
+            failed: 0,
+            returned: 0,
         }
     }
 }
@@ -64,9 +68,9 @@ impl DoneCounts {
             taken_port: 0,
             answered_port: 0,
             replies: 0,
-            replied: 0,
-            replied_port: 0,
             over: 0,
+            down: 0,
+            joined: 0,
         }
     }
 }
@@ -78,6 +82,10 @@ pub(crate) trait StationItem {
     /// The counts after it.
     fn counted(&self, counts: NotedCounts) -> Result<NotedCounts, AllocError>
         ensures { IfOk result (IsNotedAfter counts (entry self.now)) };
+
+    /// Whether it is an answer, and has a reply.
+    fn answer(&self) -> Option<bool>
+        ensures { IsAnswerOf (entry self.now) result };
 }
 
 // One more. A list that could not be counted would not have had the memory that it takes.
@@ -91,7 +99,8 @@ fn one_more(count: u64) -> Result<u64, AllocError>
 }
 
 fn call_counted(counts: NotedCounts, kind: &CallKind) -> Result<NotedCounts, AllocError>
-    ensures { IfOk result (λ next. noted_is next ≡ noted_next (noted_is counts) (asking kind.now)) }
+    ensures { IfOk result (λ next. (answers : List Bool)
+        → NotedAre (noted_next (noted_is counts answers) (asking kind.now)) next) }
 {
     match kind {
         CallKind::Net { .. } => Ok(NotedCounts {
@@ -121,17 +130,34 @@ impl StationItem for Entry {
     fn counted(&self, counts: NotedCounts) -> Result<NotedCounts, AllocError> {
         match self {
             Entry::Collect(calls) => calls_counted(counts, calls.as_slice()),
-            Entry::Peer { .. } => Ok(NotedCounts {
+            Entry::Peer { .. } | Entry::Off { .. } => Ok(NotedCounts {
                 served: one_more(counts.served)?,
+                ..counts
+            }),
+            Entry::Fail => Ok(NotedCounts {
+                failed: one_more(counts.failed)?,
+                ..counts
+            }),
+            Entry::Begin => Ok(NotedCounts {
+                returned: counts.returned.max(counts.failed),
                 ..counts
             }),
             Entry::Finish { .. } => Ok(NotedCounts {
                 ended: one_more(counts.ended)?,
                 ..counts
             }),
-            Entry::Begin | Entry::Input(_) | Entry::Solve(_) => Ok(counts),
-            Entry::Output { .. } | Entry::End | Entry::Fail | Entry::Dark => Ok(counts),
-            Entry::Off { .. } => Ok(counts),
+            Entry::Input(_) | Entry::Solve(_) | Entry::Output { .. } => Ok(counts),
+            Entry::End | Entry::Dark => Ok(counts),
+        }
+    }
+
+    fn answer(&self) -> Option<bool> {
+        match self {
+            Entry::Peer { .. } => Some(true),
+            Entry::Off { .. } => Some(false),
+            Entry::Begin | Entry::Input(_) | Entry::Solve(_) | Entry::Output { .. } => None,
+            Entry::End | Entry::Fail | Entry::Dark | Entry::Finish { .. } => None,
+            Entry::Collect(_) => None,
         }
     }
 }
@@ -155,59 +181,46 @@ impl StationItem for HostEntry {
             }),
         }
     }
+
+    fn answer(&self) -> Option<bool> {
+        match self {
+            HostEntry::Served { .. } => Some(true),
+            HostEntry::Ask { .. } | HostEntry::Answer { .. } => None,
+        }
+    }
 }
 
-/// Whether nothing that is counted came before its cause.
-pub(crate) fn are_caused(noted: NotedCounts, done: DoneCounts, waiting: &VecDeque<bool>) -> bool
-    ensures { IsTrue result ↔ AreCaused (noted_is noted) (done_is done waiting.now.items) }
+/// Whether nothing that is counted came before its cause, where so many Replies may be posted.
+pub(crate) fn are_caused(noted: NotedCounts, done: DoneCounts, may: usize) -> bool
+    ensures { IsTrue result ↔ AreCausedWith may noted done }
 {
     done.posted <= noted.asked
         && done.worked_port <= noted.asked_port
         && noted.served <= done.taken
         && done.answered_port <= done.taken_port
-        && done.replies.saturating_sub(done.taken) <= done.taken_port
-        && done.replied <= noted.served
-        && done.replied_port <= done.answered_port
+        && done.replies <= may as u64
         && noted.ended <= done.over
+        && u64::from(done.down) <= noted.failed
+        && u64::from(done.joined) <= noted.returned
 }
 
-fn reply_counted(done: DoneCounts, first: Option<bool>) -> Result<DoneCounts, AllocError>
-    ensures { IfOk result (IsDoneAfterFirst done first (PostsReply ∷ [])) }
-{
-    let replies = one_more(done.replies)?;
-    match first {
-        Some(true) => Ok(DoneCounts {
-            replies,
-            replied: one_more(done.replied)?,
-            ..done
-        }),
-        Some(false) => Ok(DoneCounts {
-            replies,
-            replied_port: one_more(done.replied_port)?,
-            ..done
-        }),
-        None => Ok(DoneCounts { replies, ..done }),
-    }
-}
-
-fn post_counted(
-    done: DoneCounts,
-    first: Option<bool>,
-    kind: FrameKind,
-) -> Result<DoneCounts, AllocError>
-    ensures { IfOk result (IsDoneAfterFirst done first (posting kind ∷ [])) }
+fn post_counted(done: DoneCounts, kind: FrameKind) -> Result<DoneCounts, AllocError>
+    ensures { IfOk result (IsDoneAfter done (posting kind ∷ [])) }
 {
     match kind {
         FrameKind::Request => Ok(DoneCounts {
             posted: one_more(done.posted)?,
             ..done
         }),
-        FrameKind::Reply => reply_counted(done, first),
+        FrameKind::Reply => Ok(DoneCounts {
+            replies: one_more(done.replies)?,
+            ..done
+        }),
     }
 }
 
 fn take_counted(done: DoneCounts, kind: FrameKind, stats: bool) -> Result<DoneCounts, AllocError>
-    ensures { IfOk result (IsDoneAfterAny done (taking kind stats ∷ [])) }
+    ensures { IfOk result (IsDoneAfter done (taking kind stats ∷ [])) }
 {
     match (kind, stats) {
         (FrameKind::Request, true) => Ok(DoneCounts {
@@ -226,7 +239,7 @@ fn take_counted(done: DoneCounts, kind: FrameKind, stats: bool) -> Result<DoneCo
 }
 
 fn work_counted(done: DoneCounts, own: bool) -> Result<DoneCounts, AllocError>
-    ensures { IfOk result (IsDoneAfterAny done (working own)) }
+    ensures { IfOk result (IsDoneAfter done (working own)) }
 {
     if own {
         Ok(DoneCounts {
@@ -242,61 +255,67 @@ fn work_counted(done: DoneCounts, own: bool) -> Result<DoneCounts, AllocError>
     }
 }
 
-/// The counts after an entry of the ring, where this Request waits first.
-pub(crate) fn deed_counted(
-    done: DoneCounts,
-    first: Option<bool>,
-    entry: &RingEntry,
-) -> Result<DoneCounts, AllocError>
-    ensures { IfOk result (IsDoneAfterFirst done first (doings entry.now)) }
+fn leave_counted(done: DoneCounts, cause: LeaveCause) -> DoneCounts
+    ensures { IsDoneAfter done (leaving cause) result }
+{
+    match cause {
+        LeaveCause::Down(number) => DoneCounts {
+            down: number,
+            ..done
+        },
+        LeaveCause::Ended | LeaveCause::Spent => done,
+    }
+}
+
+/// The counts after an entry of the ring.
+pub(crate) fn deed_counted(done: DoneCounts, entry: &RingEntry) -> Result<DoneCounts, AllocError>
+    ensures { IfOk result (IsDoneAfter done (doings entry.now)) }
 {
     match entry {
-        RingEntry::Post { frame, .. } => post_counted(done, first, frame.kind),
+        RingEntry::Post { frame, .. } => post_counted(done, frame.kind),
         RingEntry::Take { frame, .. } => take_counted(done, frame.kind, is_stats(&frame.pdu)),
         RingEntry::Local { node, id, .. } => work_counted(done, id.node == *node),
         RingEntry::GiveUp { .. } => Ok(DoneCounts {
             over: one_more(done.over)?,
             ..done
         }),
-        RingEntry::Send { .. } | RingEntry::Pass { .. } | RingEntry::Leave { .. } => Ok(done),
+        RingEntry::Leave { cause, .. } => Ok(leave_counted(done, *cause)),
+        RingEntry::Join { .. } => Ok(DoneCounts {
+            joined: done.down,
+            ..done
+        }),
+        RingEntry::Send { .. } | RingEntry::Pass { .. } => Ok(done),
     }
 }
 
-fn push(waiting: &mut VecDeque<bool>, for_station: bool) -> Result<(), AllocError>
-    ensures { OnOk result (waiting.new.items ≡ waiting.old.items ++ for_station ∷ []) }
+/// The answers after an entry of a station.
+pub(crate) fn answer_on<E: StationItem>(
+    answers: &mut Vec<bool>,
+    entry: &E,
+) -> Result<(), AllocError>
+    ensures { OnOk result (answers.new.items
+        ≡ answers_after answers.old.items (E.entry entry.now)) }
 {
-    match waiting.push_back(for_station) {
-        Ok(()) => Ok(()),
-        Err(_) => Err(AllocError),
+    if let Some(with_reply) = entry.answer() {
+        answers.push(with_reply)?;
     }
+    Ok(())
 }
 
-/// The Requests that wait after an entry of the ring.
-pub(crate) fn wait_on(waiting: &mut VecDeque<bool>, entry: &RingEntry) -> Result<(), AllocError>
-    ensures { OnOk result (waiting.new.items
-        ≡ (deed (record no_deeds { waiting = waiting.old.items }) entry.now).waiting) }
+/// The Requests that were taken after an entry of the ring.
+pub(crate) fn take_on(requests: &mut Vec<bool>, entry: &RingEntry) -> Result<(), AllocError>
+    ensures { OnOk result (requests.new.items ≡ requests_after requests.old.items (entry.now ∷ [])) }
 {
     match entry {
-        RingEntry::Post { frame, .. } => {
-            if let FrameKind::Reply = frame.kind {
-                let _ = waiting.pop_front();
-            }
-            Ok(())
-        }
         RingEntry::Take { frame, .. } => {
             if let FrameKind::Reply = frame.kind {
                 return Ok(());
             }
-            push(waiting, !is_stats(&frame.pdu))
+            requests.push(!is_stats(&frame.pdu))?;
+            Ok(())
         }
-        RingEntry::Local { .. } | RingEntry::GiveUp { .. } => Ok(()),
+        RingEntry::Post { .. } | RingEntry::Local { .. } | RingEntry::GiveUp { .. } => Ok(()),
         RingEntry::Send { .. } | RingEntry::Pass { .. } | RingEntry::Leave { .. } => Ok(()),
+        RingEntry::Join { .. } => Ok(()),
     }
-}
-
-/// Which Request waits first.
-pub(crate) fn first_waiting(waiting: &VecDeque<bool>) -> Option<bool>
-    ensures { result ≡ longest_waiting waiting.now.items }
-{
-    waiting.front().copied()
 }

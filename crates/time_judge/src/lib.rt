@@ -2,6 +2,7 @@
 //! where not.
 #![tactic(auto)]
 
+mod answering;
 mod counts;
 mod judging;
 mod laws;

@@ -1,16 +1,16 @@
--- What a worker adds at once is due wherever each Request that was taken has its Reply: for lists
--- of
+-- What a worker adds at once is due wherever each Request that was taken has its Reply: for lists of
 -- entries of any sort, by their rows of the table.
-use Rattle.std.proofs.Common.{◌≡◌, ℕ, ◌+◌, ◌≤◌, Bool, true, false, List, [], ◌∷◌, ◌++◌, refl}
-use Rattle.std.proofs.Common.{sym, ap, subst, arith}
+use Rattle.std.proofs.Common.{◌≡◌, ℕ, suc, ◌+◌, ◌≤◌, Bool, true, false, List, [], ◌∷◌, ◌++◌, refl}
+use Rattle.std.proofs.Common.{sym, ◌∙◌, subst, arith}
 use Rattle.ring_core.specs.declared.entry.RingEntry.{RingEntry}
 use Rattle.one_order.specs.Merges.{tally, InTimeFrom, IsDueWhere}
 use Rattle.one_order.proofs.Merges.{nothing-due, noted-first, done-first, due-join}
-use Rattle.entry_causes.specs.Causes.{Noting, Asks, Serves, Ends, Doing, PostsRequest, TakesRequest}
-use Rattle.entry_causes.specs.Causes.{TakesForPort, AnswersAtPort, PostsReply, IsOver}
+use Rattle.entry_causes.specs.Causes.{Noting, Asks, Serves, Declines, Ends, Doing, PostsRequest}
+use Rattle.entry_causes.specs.Causes.{TakesRequest, TakesForPort, AnswersAtPort, PostsReply, IsOver}
+use Rattle.entry_causes.specs.Causes.{GoesDown, ComesBack, AllAnswered, ready}
 use Rattle.entry_causes.specs.Causes.{Noted, Done, noted_next, done_next, doings, deed, AreCaused}
-use Rattle.entry_causes.specs.Causes.{replies_for_station, replies_for_port, behind_first}
-use Rattle.time_laws.specs.InTime.{NoneWaits}
+use Rattle.entry_causes.proofs.Ready.{ready-requests, station-ready, port-ready}
+use Rattle.time_laws.specs.InTime.{OwesNoReply}
 
 -- ---- counts
 -- with other counts of calls asked, of calls of the own port, and of calls ended
@@ -21,10 +21,10 @@ asks-caused s d asked posted f h = record {
   port_works = f.port_works;
   answers = f.answers;
   port_answers = f.port_answers;
-  requests = f.requests;
   replies = f.replies;
-  port_replies = f.port_replies;
   ends = f.ends;
+  downs = f.downs;
+  joins = f.joins;
 }
 
 pub works-caused : (s : Noted) (d : Done) (asked worked : ℕ) → AreCaused s d → worked ≤ asked
@@ -34,10 +34,10 @@ works-caused s d asked worked f h = record {
   port_works = h;
   answers = f.answers;
   port_answers = f.port_answers;
-  requests = f.requests;
   replies = f.replies;
-  port_replies = f.port_replies;
   ends = f.ends;
+  downs = f.downs;
+  joins = f.joins;
 }
 
 pub ends-caused : (s : Noted) (d : Done) (ended over : ℕ) → AreCaused s d → ended ≤ over
@@ -47,10 +47,10 @@ ends-caused s d ended over f h = record {
   port_works = f.port_works;
   answers = f.answers;
   port_answers = f.port_answers;
-  requests = f.requests;
   replies = f.replies;
-  port_replies = f.port_replies;
   ends = h;
+  downs = f.downs;
+  joins = f.joins;
 }
 
 pub over-caused : (s : Noted) (d : Done) → AreCaused s d → AreCaused s (done_next d IsOver)
@@ -70,51 +70,38 @@ posted-caused s d f =
     asks-caused s d (s.asked + 1) (d.posted + 1) f (let h = f.posts in omega (arith, h))
 
 -- with other counts of what came, and of answers and Replies to it
-record AreAnswered (served : ℕ) (d : Done) : Type 0 where
-  answers : served ≤ d.taken
-  port_answers : d.answered_port ≤ d.taken_port
-  requests : d.replies ≤ d.taken + d.taken_port
-  replies : d.replied ≤ served
-  port_replies : d.replied_port ≤ d.answered_port
+record AreAnswered (served : ℕ) (answers : List Bool) (d : Done) : Type 0 where
+  station : served ≤ d.taken
+  port : d.answered_port ≤ d.taken_port
+  replies : d.replies ≤ ready d.requests answers d.answered_port
 
-serves-caused : (s : Noted) (d q : Done) (served : ℕ) → AreCaused s d → q.posted ≡ d.posted
-    → q.worked_port ≡ d.worked_port → q.over ≡ d.over → AreAnswered served q
-    → AreCaused (record s { served = served }) q
-serves-caused s d q served f a b c g = record {
-  posts = let h = f.posts in omega (arith, h, a);
-  port_works = let h = f.port_works in omega (arith, h, b);
-  answers = g.answers;
-  port_answers = g.port_answers;
-  requests = g.requests;
+serves-caused : (s : Noted) (d q : Done) (served : ℕ) (answers : List Bool) → AreCaused s d
+    → q.posted ≡ d.posted → q.worked_port ≡ d.worked_port → q.over ≡ d.over → q.down ≡ d.down
+    → q.joined ≡ d.joined → AreAnswered served answers q
+    → AreCaused (record s { served = served; answers = answers }) q
+serves-caused s d q served answers f a b c e h g = record {
+  posts = let k = f.posts in omega (arith, k, a);
+  port_works = let k = f.port_works in omega (arith, k, b);
+  answers = g.station;
+  port_answers = g.port;
   replies = g.replies;
-  port_replies = g.port_replies;
-  ends = let h = f.ends in omega (arith, h, c);
+  ends = let k = f.ends in omega (arith, k, c);
+  downs = let k = f.downs in omega (arith, k, e);
+  joins = let k = f.joins in omega (arith, k, h);
 }
 
--- a Request that is taken where none waits is the one that waits longest
-alone-waits : (b : Bool) (waiting : List Bool) → waiting ≡ [] → waiting ++ b ∷ [] ≡ b ∷ []
-alone-waits b waiting g = ap (λ (x : List Bool). x ++ b ∷ []) g
+plus-one : (m : ℕ) → suc m ≡ m + 1
+plus-one m = omega arith
 
-reply-alone : (b : Bool) (waiting : List Bool) (m k s : ℕ) → waiting ≡ []
-    → replies_for_station (b ∷ []) ≤ k → m ≤ s
-    → m + replies_for_station (waiting ++ b ∷ []) ≤ s + k
-reply-alone b waiting m k s g f h =
-    subst (λ (x : List Bool). m + replies_for_station x ≤ s + k) (sym (alone-waits b waiting g))
-    (omega (arith, h, f))
-
--- and so of the port's
-port-reply-alone : (b : Bool) (waiting : List Bool) (m k s : ℕ) → waiting ≡ []
-    → replies_for_port (b ∷ []) ≤ k → m ≤ s
-    → m + replies_for_port (waiting ++ b ∷ []) ≤ s + k
-port-reply-alone b waiting m k s g f h =
-    subst (λ (x : List Bool). m + replies_for_port x ≤ s + k) (sym (alone-waits b waiting g))
-    (omega (arith, h, f))
-
-none-waits : (b : Bool) (waiting : List Bool) → waiting ≡ [] → behind_first (waiting ++ b ∷ []) ≡ []
-none-waits b waiting g = ap behind_first (alone-waits b waiting g)
-
-no-more : (m k s : ℕ) → m + k ≤ s + 0 → m + k ≤ s
-no-more m k s h = omega (arith, h)
+-- what was replied to still is, where neither Requests nor answers came
+pub replied-as : (s t : Noted) (d q : Done) → t.answers ≡ s.answers → q.requests ≡ d.requests
+    → q.answered_port ≡ d.answered_port → q.replies ≡ d.replies → OwesNoReply s d → OwesNoReply t q
+replied-as s t d q a b c e g = record {
+  answered = subst (λ (l : List Bool). AllAnswered q.requests l q.answered_port) (sym a)
+      (subst (λ (l : List Bool). AllAnswered l s.answers q.answered_port) (sym b)
+      (subst (λ (k : ℕ). AllAnswered d.requests s.answers k) (sym c) g.answered));
+  posted = e ∙ (g.posted ∙ (λ i. ready (sym b i) (sym a i) (sym c i)));
+}
 
 module _ {E : Type 0} (rows : E → List Noting) where
   abbrev pub noting : Noted → E → Noted
@@ -124,7 +111,12 @@ module _ {E : Type 0} (rows : E → List Noting) where
   Timely s d known own = InTimeFrom noting deed AreCaused s d known own
 
   abbrev pub IsDue : List E → List RingEntry → Type 0
-  IsDue noted done = IsDueWhere noting deed AreCaused NoneWaits noted done
+  IsDue noted done = IsDueWhere noting deed AreCaused OwesNoReply noted done
+
+  -- due after these counts
+  abbrev pub IsDueAt : Noted → Done → List E → List RingEntry → Type 0
+  IsDueAt s d noted done =
+      Timely s d noted done × OwesNoReply (tally noting s noted) (tally deed d done)
 
   pub none-due : IsDue [] []
   none-due s d f g = (nothing-due noting deed AreCaused s d, g)
@@ -138,7 +130,7 @@ module _ {E : Type 0} (rows : E → List Noting) where
   pub both-due : (noted more : List E) (done later : List RingEntry) → IsDue noted done
       → IsDue more later
       → IsDue (noted ++ more) (done ++ later)
-  both-due noted more done later x y = due-join noting deed AreCaused NoneWaits noted more
+  both-due noted more done later x y = due-join noting deed AreCaused OwesNoReply noted more
       done later x y
 
   -- an entry by its row
@@ -161,9 +153,15 @@ module _ {E : Type 0} (rows : E → List Noting) where
       (subst (λ (t : List Noting). Timely (tally noted_next s t) d known own) (sym is) x)
 
   -- a row's end
-  waits-as : (d : Done) (r : RingEntry) (row : List Doing) → doings r ≡ row
-      → (tally done_next d row).waiting ≡ [] → (deed d r).waiting ≡ []
-  waits-as d r row is g = subst (λ (t : List Doing). (tally done_next d t).waiting ≡ []) (sym is) g
+  row-replied : (s : Noted) (d : Done) (e : E) (row : List Noting) → rows e ≡ row
+      → OwesNoReply (tally noted_next s row) d → OwesNoReply (noting s e) d
+  row-replied s d e row is g =
+      subst (λ (t : List Noting). OwesNoReply (tally noted_next s t) d) (sym is) g
+
+  done-replied : (s : Noted) (d : Done) (r : RingEntry) (row : List Doing) → doings r ≡ row
+      → OwesNoReply s (tally done_next d row) → OwesNoReply s (deed d r)
+  done-replied s d r row is g =
+      subst (λ (t : List Doing). OwesNoReply s (tally done_next d t)) (sym is) g
 
   -- a call is over, and ends
   pub ends-due : (e : E) (r : RingEntry) → rows e ≡ Ends ∷ [] → doings r ≡ IsOver ∷ []
@@ -172,7 +170,8 @@ module _ {E : Type 0} (rows : E → List Noting) where
     done-as s d r (IsOver ∷ []) (e ∷ []) [] q (over-caused s d f)
         (noted-as s (done_next d IsOver) e (Ends ∷ []) [] [] p (ended-caused s d f)
         (nothing-due noting deed AreCaused _ _)),
-    waits-as d r (IsOver ∷ []) q g,
+    row-replied s (deed d r) e (Ends ∷ []) p (done-replied (noted_next s Ends) d r (IsOver ∷ []) q
+        (replied-as s (noted_next s Ends) d (done_next d IsOver) refl refl refl refl g)),
   )
 
   -- a Request is taken, and served by the station
@@ -181,35 +180,64 @@ module _ {E : Type 0} (rows : E → List Noting) where
       → IsDue (e ∷ []) (take ∷ post ∷ [])
   serves-due e take post p q r s d f g =
       let t : Done = done_next d TakesRequest in
-      let came = serves-caused s d t s.served f refl refl refl (record {
-        answers = let h = f.answers in omega (arith, h);
-        port_answers = f.port_answers;
-        requests = let h = f.requests in omega (arith, h);
-        replies = f.replies;
-        port_replies = f.port_replies;
+      let next = station-ready d.requests s.answers d.answered_port true g.answered in
+      let more = ready-requests d.requests (true ∷ []) s.answers d.answered_port in
+      let came = serves-caused s d t s.served s.answers f refl refl refl refl refl (record {
+        station = let h = f.answers in omega (arith, h);
+        port = f.port_answers;
+        replies = let h = f.replies in omega (arith, h, more);
       }) in
-      let served = serves-caused s d t (s.served + 1) f refl refl refl (record {
-        answers = let h = f.answers in omega (arith, h);
-        port_answers = f.port_answers;
-        requests = let h = f.requests in omega (arith, h);
-        replies = let h = f.replies in omega (arith, h);
-        port_replies = f.port_replies;
+      let served = serves-caused s d t (s.served + 1) (s.answers ++ true ∷ []) f refl refl refl refl
+      refl (record {
+        station = let h = f.answers in omega (arith, h);
+        port = f.port_answers;
+        replies = let h = f.replies in let k = next.0 in omega (arith, h, k);
       }) in
-      let replied = serves-caused s d (done_next t PostsReply)
-      (s.served + 1) f refl refl refl (record {
-        answers = let h = f.answers in omega (arith, h);
-        port_answers = f.port_answers;
-        requests = let h = f.requests in omega (arith, h);
-        replies = reply-alone true d.waiting d.replied 1 s.served g (omega arith) f.replies;
-        port_replies = no-more _ _ _ (port-reply-alone true d.waiting d.replied_port 0
-            d.answered_port g (omega arith) f.port_replies);
+      let replied = serves-caused s d (done_next t PostsReply) (s.served + 1)
+      (s.answers ++ true ∷ []) f refl refl refl refl refl (record {
+        station = let h = f.answers in omega (arith, h);
+        port = f.port_answers;
+        replies = let h = g.posted in let k = next.0 in omega (arith, h, k);
       }) in (
         done-as s d take (TakesRequest ∷ []) (e ∷ []) (post ∷ []) q came
             (noted-as s t e (Serves ∷ []) [] (post ∷ []) p served
             (done-as (noted_next s Serves) t post (PostsReply ∷ []) [] [] r replied
             (nothing-due noting deed AreCaused _ _))),
-        subst (λ (row : List Doing). (deed (tally done_next d row) post).waiting ≡ []) (sym q)
-            (waits-as t post (PostsReply ∷ []) r (none-waits true d.waiting g)),
+        row-replied s (deed (deed d take) post) e (Serves ∷ []) p
+            (subst (λ (row : List Doing).
+            OwesNoReply (noted_next s Serves) (deed (tally done_next d row) post)) (sym q)
+            (done-replied (noted_next s Serves) t post (PostsReply ∷ []) r (record {
+              answered = next.1;
+              posted = let h = g.posted in let k = next.0 in omega (arith, h, k);
+            }))),
+      )
+
+  -- or goes by without power
+  pub declines-due : (e : E) (take : RingEntry) → rows e ≡ Declines ∷ []
+      → doings take ≡ TakesRequest ∷ [] → IsDue (e ∷ []) (take ∷ [])
+  declines-due e take p q s d f g =
+      let t : Done = done_next d TakesRequest in
+      let next = station-ready d.requests s.answers d.answered_port false g.answered in
+      let more = ready-requests d.requests (true ∷ []) s.answers d.answered_port in
+      let came = serves-caused s d t s.served s.answers f refl refl refl refl refl (record {
+        station = let h = f.answers in omega (arith, h);
+        port = f.port_answers;
+        replies = let h = f.replies in omega (arith, h, more);
+      }) in
+      let declined = serves-caused s d t (s.served + 1) (s.answers ++ false ∷ []) f refl refl refl
+      refl refl (record {
+        station = let h = f.answers in omega (arith, h);
+        port = f.port_answers;
+        replies = let h = f.replies in let k = next.0 in omega (arith, h, k);
+      }) in (
+        done-as s d take (TakesRequest ∷ []) (e ∷ []) [] q came
+            (noted-as s t e (Declines ∷ []) [] [] p declined
+            (nothing-due noting deed AreCaused _ _)),
+        row-replied s (deed d take) e (Declines ∷ []) p
+            (done-replied (noted_next s Declines) d take (TakesRequest ∷ []) q (record {
+              answered = next.1;
+              posted = let h = g.posted in let k = next.0 in omega (arith, h, k);
+            })),
       )
 
   -- or answered by the port
@@ -219,37 +247,38 @@ module _ {E : Type 0} (rows : E → List Noting) where
   tells-due take here post p q r s d f g =
       let t : Done = done_next d TakesForPort in
       let o : Done = done_next t AnswersAtPort in
-      let came = serves-caused s d t s.served f refl refl refl (record {
-        answers = f.answers;
-        port_answers = let h = f.port_answers in omega (arith, h);
-        requests = let h = f.requests in omega (arith, h);
-        replies = f.replies;
-        port_replies = f.port_replies;
+      let requests = d.requests ++ false ∷ [] in
+      let next = subst (λ (k : ℕ). (ready requests s.answers k
+      ≡ ready d.requests s.answers d.answered_port + 1) × AllAnswered requests s.answers k)
+      (plus-one d.answered_port) (port-ready d.requests s.answers d.answered_port g.answered) in
+      let more = ready-requests d.requests (false ∷ []) s.answers d.answered_port in
+      let came = serves-caused s d t s.served s.answers f refl refl refl refl refl (record {
+        station = f.answers;
+        port = let h = f.port_answers in omega (arith, h);
+        replies = let h = f.replies in omega (arith, h, more);
       }) in
-      let told = serves-caused s d o s.served f refl refl refl (record {
-        answers = f.answers;
-        port_answers = let h = f.port_answers in omega (arith, h);
-        requests = let h = f.requests in omega (arith, h);
-        replies = f.replies;
-        port_replies = let h = f.port_replies in omega (arith, h);
+      let told = serves-caused s d o s.served s.answers f refl refl refl refl refl (record {
+        station = f.answers;
+        port = let h = f.port_answers in omega (arith, h);
+        replies = let h = f.replies in let k = next.0 in omega (arith, h, k);
       }) in
-      let replied = serves-caused s d (done_next o PostsReply) s.served f refl refl refl (record {
-        answers = f.answers;
-        port_answers = let h = f.port_answers in omega (arith, h);
-        requests = let h = f.requests in omega (arith, h);
-        replies = no-more _ _ _
-            (reply-alone false d.waiting d.replied 0 s.served g (omega arith) f.replies);
-        port_replies = port-reply-alone false d.waiting d.replied_port 1 d.answered_port g
-            (omega arith) f.port_replies;
+      let replied = serves-caused s d (done_next o PostsReply) s.served s.answers f refl refl refl
+      refl refl (record {
+        station = f.answers;
+        port = let h = f.port_answers in omega (arith, h);
+        replies = let h = g.posted in let k = next.0 in omega (arith, h, k);
       }) in (
         done-as s d take (TakesForPort ∷ []) [] (here ∷ post ∷ []) p came
             (done-as s t here (AnswersAtPort ∷ []) [] (post ∷ []) q told
             (done-as s o post (PostsReply ∷ []) [] [] r replied
             (nothing-due noting deed AreCaused _ _))),
-        subst (λ (row : List Doing). (deed (deed (tally done_next d row) here) post).waiting ≡ [])
+        subst (λ (row : List Doing). OwesNoReply s (deed (deed (tally done_next d row) here) post))
             (sym p)
-            (subst (λ (row : List Doing). (deed (tally done_next t row) post).waiting ≡ []) (sym q)
-            (waits-as o post (PostsReply ∷ []) r (none-waits false d.waiting g))),
+            (subst (λ (row : List Doing). OwesNoReply s (deed (tally done_next t row) post)) (sym q)
+            (done-replied s o post (PostsReply ∷ []) r (record {
+              answered = next.1;
+              posted = let h = g.posted in let k = next.0 in omega (arith, h, k);
+            }))),
       )
 
   -- a call is asked, and its Request posted
@@ -259,10 +288,48 @@ module _ {E : Type 0} (rows : E → List Noting) where
     noted-as s d e (Asks ∷ []) [] (post ∷ []) p (asked-caused s d f)
         (done-as (noted_next s Asks) d post (PostsRequest ∷ []) [] [] q (posted-caused s d f)
         (nothing-due noting deed AreCaused _ _)),
-    waits-as d post (PostsRequest ∷ []) q g,
+    row-replied s (deed d post) e (Asks ∷ []) p
+        (done-replied (noted_next s Asks) d post (PostsRequest ∷ []) q
+        (replied-as s (noted_next s Asks) d (done_next d PostsRequest) refl refl refl refl g)),
   )
 
   -- what is neither cause nor caused
   pub still-due : (r : RingEntry) → doings r ≡ [] → IsDue [] (r ∷ [])
   still-due r q s d f g =
-      (done-as s d r [] [] [] q f (nothing-due noting deed AreCaused s d), waits-as d r [] q g)
+      (done-as s d r [] [] [] q f (nothing-due noting deed AreCaused s d), done-replied s d r [] q g)
+
+  -- the node leaves as power failed so often
+  pub down-due : (s : Noted) (d : Done) (r : RingEntry) (k : ℕ) → doings r ≡ GoesDown k ∷ []
+      → k ≤ s.failed → AreCaused s d → OwesNoReply s d → IsDueAt s d [] (r ∷ [])
+  down-due s d r k q few f g = (
+    done-as s d r (GoesDown k ∷ []) [] [] q (record {
+      posts = f.posts;
+      port_works = f.port_works;
+      answers = f.answers;
+      port_answers = f.port_answers;
+      replies = f.replies;
+      ends = f.ends;
+      downs = few;
+      joins = f.joins;
+    }) (nothing-due noting deed AreCaused _ _),
+    done-replied s d r (GoesDown k ∷ []) q
+        (replied-as s s d (done_next d (GoesDown k)) refl refl refl refl g),
+  )
+
+  -- it comes back as there is power again
+  pub back-due : (s : Noted) (d : Done) (r : RingEntry) → doings r ≡ ComesBack ∷ []
+      → s.failed ≤ s.returned → AreCaused s d → OwesNoReply s d → IsDueAt s d [] (r ∷ [])
+  back-due s d r q power f g = (
+    done-as s d r (ComesBack ∷ []) [] [] q (record {
+      posts = f.posts;
+      port_works = f.port_works;
+      answers = f.answers;
+      port_answers = f.port_answers;
+      replies = f.replies;
+      ends = f.ends;
+      downs = f.downs;
+      joins = let h = f.downs in omega (arith, h, power);
+    }) (nothing-due noting deed AreCaused _ _),
+    done-replied s d r (ComesBack ∷ []) q
+        (replied-as s s d (done_next d ComesBack) refl refl refl refl g),
+  )

@@ -14,8 +14,9 @@ use Rattle.ring_core.specs.declared.frame.FrameKind.{FrameKind}
 use Rattle.ring_core.specs.declared.frame.FrameKind.TheVariants.{Request, Reply}
 use Rattle.ring_core.specs.declared.entry.RingEntry.{RingEntry}
 use Rattle.ring_core.specs.declared.entry.RingEntry.TheVariants.{Post, Send, Take, Local, GiveUp}
-use Rattle.ring_core.specs.declared.entry.RingEntry.TheVariants.{Pass, Leave}
-use Rattle.host_port.specs.Host.{request_for}
+use Rattle.ring_core.specs.declared.entry.RingEntry.TheVariants.{Pass, Leave, Join}
+use Rattle.ring_core.specs.Machine.{ring_after}
+use Rattle.host_port.specs.Host.{host_is_done, request_for}
 use Rattle.host_port.specs.declared.entry.HostEntry.{HostEntry}
 use Rattle.host_port.specs.declared.entry.HostEntry.TheVariants.{Answer, Served}
 use Rattle.host_port.specs.declared.entry.HostResult.TheVariants as results
@@ -26,7 +27,8 @@ use Rattle.comm_port.specs.HostTurns.{ServesFrame, ServesKind, ServesRequest, ho
 use Rattle.comm_port.specs.HostTurns.{host_notes_of_kind, host_notes_of_request, ask_entry_of}
 use Rattle.comm_port.specs.HostTurns.{GivenUp, give_up_of}
 use Rattle.comm_port.specs.HostTurns.{bad_answer_of, GivesUpDue, bad_answer_to, went_on}
-use Rattle.comm_port.specs.HostTurns.{EndsHostTurn, HoldsHostTurn}
+use Rattle.comm_port.specs.HostTurns.{EndsHostTurn, HoldsHostTurn, host_at}
+use Rattle.comm_port.proofs.Leaves.{quiet-due}
 use Rattle.comm_port.specs.SendsAll.{IsNextSending}
 use Rattle.comm_port.proofs.Parts.{each-added}
 use Rattle.comm_port.specs.Order.{IsSending}
@@ -36,7 +38,7 @@ use Rattle.entry_causes.specs.Causes.{Noted, Done, no_notes, no_deeds, host_noti
 use Rattle.entry_causes.specs.Causes.{deed, AreCaused, posting}
 use Rattle.entry_causes.specs.InTime.{HostInTime}
 use Rattle.entry_causes.proofs.Counts.{none-caused}
-use Rattle.time_laws.specs.InTime.{HostStaysInTime}
+use Rattle.time_laws.specs.InTime.{OwesNoReply, HostStaysInTime, done_by}
 use Rattle.time_laws.specs.Laws.{HostOthersStayInTime, HostStartsInTime}
 use Rattle.time_laws.proofs.Blocks as blocks
 use Rattle.time_laws.proofs.Turn.{IsForeign, take-is, local-is, last-still, next-sending}
@@ -63,9 +65,14 @@ by-grew n alone a b x y noted done g h is k =
       timely = subst (λ (l : List HostEntry). HostInTime l (own n y)) (sym g)
           (subst (λ (l : List RingEntry). HostInTime (a ++ noted) l) (sym own-is)
           (join note_host deed AreCaused no_notes no_deeds a noted (own n x) done k.timely due.0));
-      replied = subst (λ (l : List RingEntry). (tally deed no_deeds l).waiting ≡ []) (sym own-is)
-          (subst (λ (q : Done). q.waiting ≡ [])
-          (sym (tally-append deed no_deeds (own n x) done)) due.1);
+      replied = subst (λ (l : List HostEntry). OwesNoReply (tally note_host no_notes l) (done_by n y))
+          (sym g)
+          (subst (λ (t : Noted). OwesNoReply t (done_by n y))
+          (sym (tally-append note_host no_notes a noted))
+          (subst (λ (l : List RingEntry). OwesNoReply (tally note_host s noted)
+          (tally deed no_deeds l)) (sym own-is)
+          (subst (λ (q : Done). OwesNoReply (tally note_host s noted) q)
+          (sym (tally-append deed no_deeds (own n x) done)) due.1)));
     }
 
 -- ---- first: served
@@ -146,6 +153,7 @@ sent-due (Take m f ∷ done) is = absurd is.0
 sent-due (Local m id op result ∷ done) is = absurd is.0
 sent-due (Pass m words said ∷ done) is = absurd is.0
 sent-due (Leave m cause ∷ done) is = absurd is.0
+sent-due (Join m ∷ done) is = absurd is.0
 
 -- ---- given up
 gives-due : (ends : List GivenUp) → IsDue (map bad_answer_of ends) (map give_up_of ends)
@@ -172,7 +180,8 @@ by-end n alone net plan budget left a b x y e k = at left refl
     handed : HostStaysInTime n a e.handed_ring
     handed =
         by-grew n alone a a x e.handed_ring [] _ (sym (append-nil a)) e.handed.grew
-        (blocks.still-due host_notings _ (last-still n _ _ _)) k
+        (blocks.still-due host_notings _ (last-still n _ _ _ (quiet-due net (ring_after net x) n
+        (host_is_done (host_at plan a)) budget))) k
 
     at : (l : Bool) → left ≡ l → HostStaysInTime n b y
     at false is = let same = e.ends_there is in
@@ -218,5 +227,6 @@ pub host-starts-in-time : HostStartsInTime
 host-starts-in-time n ring none = record {
   timely = subst (λ (l : List RingEntry). HostInTime [] l) (sym none)
       (nothing-due note_host deed AreCaused no_notes no_deeds);
-  replied = subst (λ (l : List RingEntry). (tally deed no_deeds l).waiting ≡ []) (sym none) refl;
+  replied = subst (λ (l : List RingEntry). OwesNoReply no_notes (tally deed no_deeds l)) (sym none)
+      (record { answered = tt; posted = refl });
 }

@@ -84,9 +84,9 @@ all-named laws f h legal =
     (λ before after e is. named-at laws f before after e (subst (IsLegal f) is legal))
 
 pub legal-turn : CallLaws → TurnsStayInTime
-legal-turn laws alone_ram alone_ring fixed net n budget left known new_known ring new_ring node
+legal-turn laws alone_ram alone_ring fixed net n budget end known new_known ring new_ring node
     on legal t k =
-    turn-in-time alone_ram alone_ring fixed net n budget left known new_known ring new_ring t
+    turn-in-time alone_ram alone_ring fixed net n budget end known new_known ring new_ring t
     (inbox-foreign net n ring on)
     (subst (λ (m : ℕ). Each (NamesOwn m) new_known) node (all-named laws fixed new_known legal)) k
 

@@ -2,3 +2,4 @@ pub mod Blocks
 pub mod Turn
 pub mod HostTurn
 pub mod Legal
+pub mod Power

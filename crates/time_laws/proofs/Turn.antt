@@ -1,6 +1,6 @@
 -- A controller's turn keeps it in time with its node.
 use Rattle.std.proofs.Common.{◌≡◌, ◌≢◌, ℕ, ◌+◌, ◌==◌, Bool, true, false, cond, List, [], ◌∷◌, ◌++◌}
-use Rattle.std.proofs.Common.{map}
+use Rattle.std.proofs.Common.{map, not}
 use Rattle.std.proofs.Common.{filter, filter_map, Option, Some, None, refl, sym, ap, ◌∙◌, subst}
 use Rattle.std.proofs.Common.{arith, append-nil}
 use Rattle.std.specs.List.{AllByRecursion as Each}
@@ -17,7 +17,11 @@ use Rattle.ring_core.specs.declared.frame.FrameKind.{FrameKind}
 use Rattle.ring_core.specs.declared.frame.FrameKind.TheVariants.{Request, Reply}
 use Rattle.ring_core.specs.declared.entry.RingEntry.{RingEntry}
 use Rattle.ring_core.specs.declared.entry.RingEntry.TheVariants.{Post, Send, Take, Local, GiveUp}
-use Rattle.ring_core.specs.declared.entry.RingEntry.TheVariants.{Pass, Leave}
+use Rattle.ring_core.specs.declared.entry.RingEntry.TheVariants.{Pass, Leave, Join}
+use Rattle.ring_core.specs.declared.entry.LeaveCause.TheVariants.{Ended, Spent, Down}
+use Rattle.ring_core.specs.Machine.{ring_after}
+use Rattle.controller_core.specs.Event.{peer_entry}
+use Rattle.tied_lists.specs.Items.{down_in}
 use Rattle.controller_core.specs.declared.call.Call.{Call}
 use Rattle.controller_core.specs.declared.call.CallKind.{CallKind}
 use Rattle.controller_core.specs.declared.call.CallKind.TheVariants as call_kinds
@@ -29,16 +33,22 @@ use Rattle.tied_lists.proofs.Growth.{grew-ours, grew-one}
 use Rattle.comm_port.specs.Leaving.{last_entry}
 use Rattle.comm_port.specs.Order.{IsSending}
 use Rattle.comm_port.specs.Parts.{InOrder, PartOf}
-use Rattle.joint_history.specs.Reading.{is_ours, has_started_at}
-use Rattle.comm_port.specs.HoldTurn.{CollectsIf, Collects, HoldsTurn, VisitsEnd, IsGivenUp, IsMade}
+use Rattle.joint_history.specs.Reading.{failures_at, has_started_at, is_off_at, is_ours}
+use Rattle.comm_port.specs.declared.turn_end.TurnEnd.{TurnEnd}
+use Rattle.comm_port.specs.Failing.{ComesBack, GoesDown, join_entries}
+use Rattle.comm_port.specs.Replies.{reply_frame}
+use Rattle.comm_port.specs.WholeTurn.{HoldsTurn, TurnsBy, is_unnoticed}
+use Rattle.comm_port.proofs.Leaves.{IsQuietCause, quiet-due}
+use Rattle.comm_port.specs.HoldTurn.{CollectsIf, Collects, WorksTurn, VisitsEnd, IsGivenUp, IsMade}
 use Rattle.comm_port.specs.HoldTurn.{IsEnded, EndedAs, IsServed, MadeAs, SendsAll}
 use Rattle.comm_port.specs.Giving.{each_path}
 use Rattle.comm_port.specs.SendsAll.{IsNextSending}
 use Rattle.comm_port.proofs.Parts.{each-added}
-use Rattle.comm_port.specs.HoldTurn.{ServedAs, finish_of, inbox_of}
+use Rattle.comm_port.specs.HoldTurn.{ServedAs, finish_of, inbox_of, reply_entries}
 use Rattle.comm_port.proofs.Asked.{both-asked}
 use Rattle.one_order.specs.Merges.{tally}
-use Rattle.one_order.proofs.Merges.{nothing-due, noted-first, end-fits, goes-on, tally-append}
+use Rattle.one_order.proofs.Merges.{nothing-due, noted-first, end-fits, goes-on, more-at-end}
+use Rattle.one_order.proofs.Merges.{tally-append}
 use Rattle.entry_causes.specs.Causes.{Ends, Asks, AsksPort, WorksPort, IsOver, PostsRequest}
 use Rattle.entry_causes.specs.Causes.{Doing, taking, working, asking}
 use Rattle.entry_causes.specs.Causes.{asking_of}
@@ -46,11 +56,12 @@ use Rattle.entry_causes.specs.Causes.{Noted, Done, no_notes, no_deeds, notings, 
 use Rattle.entry_causes.specs.Causes.{done_next, note_entry, deed, AreCaused}
 use Rattle.entry_causes.specs.InTime.{InTime}
 use Rattle.entry_causes.proofs.Counts.{none-caused}
-use Rattle.time_laws.specs.InTime.{StaysInTime}
-use Rattle.time_laws.specs.Laws.{OthersStayInTime, StartsInTime}
+use Rattle.time_laws.specs.InTime.{OwesNoReply, StaysInTime, done_by}
+use Rattle.time_laws.specs.Laws.{AwayTurnsStayInTime, OthersStayInTime, StartsInTime}
 use Rattle.time_laws.proofs.Blocks as blocks
 use Rattle.time_laws.proofs.Blocks.{asked-caused, posted-caused, works-caused, over-caused}
-use Rattle.time_laws.proofs.Blocks.{ended-caused}
+use Rattle.time_laws.proofs.Blocks.{ended-caused, replied-as}
+use Rattle.time_laws.proofs.Power.{MoreNotes, more-same, scans-allow, fails-noted, power-noted}
 
 abbrev Timely : Noted → Done → List Entry → List RingEntry → Type 0
 Timely s d known own = blocks.Timely notings s d known own
@@ -62,40 +73,51 @@ due-as : (noted noted' : List Entry) (done done' : List RingEntry) → noted ≡
     → IsDue noted' done' → IsDue noted done
 due-as noted noted' done done' p q is = blocks.due-as notings noted noted' done done' p q is
 
-scan-quiet : (s : Noted) (e : Entry) → is_ours e ≡ false → note_entry s e ≡ s
-scan-quiet s entries.Begin q = refl
-scan-quiet s (entries.Input row) q = refl
-scan-quiet s (entries.Solve row) q = refl
-scan-quiet s (entries.Output row words) q = refl
-scan-quiet s entries.End q = refl
-scan-quiet s entries.Fail q = refl
-scan-quiet s entries.Dark q = refl
-scan-quiet s (entries.Collect calls) q = absurd (cc)
-scan-quiet s (entries.Peer id request reply) q = absurd (cc)
-scan-quiet s (entries.Off id request) q = absurd (cc)
-scan-quiet s (entries.Finish id result) q = absurd (cc)
+-- lists that went on by what is due after what they have
+by-grew-at : (n : ℕ) (alone alone' : Bool) (a b : List Entry) (x y : List RingEntry)
+    (noted : List Entry) (done : List RingEntry)
+    → Grew alone is_ours a noted b → Grew alone' (is_of n) x done y
+    → (AreCaused (tally note_entry no_notes a) (done_by n x)
+    → OwesNoReply (tally note_entry no_notes a) (done_by n x)
+    → blocks.IsDueAt notings (tally note_entry no_notes a) (done_by n x) noted done)
+    → StaysInTime n a x → StaysInTime n b y
+by-grew-at n alone alone' a b x y noted done g h is k =
+    let s : Noted = tally note_entry no_notes a in
+    let d : Done = done_by n x in
+    let due = is (end-fits note_entry deed AreCaused no_notes no_deeds a
+    (own n x) none-caused k.timely) k.replied in
+    let own-is : own n y ≡ own n x ++ done = grew-ours alone' (is_of n) x done y h in
+    let m = more-at-end note_entry deed AreCaused is_ours MoreNotes scans-allow s s g.more
+    (more-same s) in
+    let replied : OwesNoReply (tally note_entry s g.more) (tally deed d done) =
+    replied-as (tally note_entry s (filter is_ours g.more)) (tally note_entry s g.more)
+    (tally deed d done) (tally deed d done) m.answers refl refl refl
+    (subst (λ (l : List Entry). OwesNoReply (tally note_entry s l) (tally deed d done))
+    (sym g.ours_are) due.1) in
+    record {
+      timely = subst (λ (l : List Entry). InTime l (own n y)) (sym g.after_is)
+          (subst (λ (l : List RingEntry). InTime (a ++ g.more) l) (sym own-is)
+          (goes-on note_entry deed AreCaused is_ours MoreNotes scans-allow no_notes no_deeds a
+          g.more (own n x) done more-same none-caused k.timely
+          (subst (λ (l : List Entry). Timely s d l done) (sym g.ours_are) due.0)));
+      replied = subst (λ (l : List Entry). OwesNoReply (tally note_entry no_notes l) (done_by n y))
+          (sym g.after_is)
+          (subst (λ (t : Noted). OwesNoReply t (done_by n y))
+          (sym (tally-append note_entry no_notes a g.more))
+          (subst (λ (l : List RingEntry). OwesNoReply (tally note_entry s g.more)
+          (tally deed no_deeds l)) (sym own-is)
+          (subst (λ (q : Done). OwesNoReply (tally note_entry s g.more) q)
+          (sym (tally-append deed no_deeds (own n x) done)) replied)));
+    }
 
--- lists that went on by what is due
+-- or by what is due wherever each Request has its Reply
 by-grew : (n : ℕ) (alone alone' : Bool) (a b : List Entry) (x y : List RingEntry)
     (noted : List Entry) (done : List RingEntry)
     → Grew alone is_ours a noted b → Grew alone' (is_of n) x done y → IsDue noted done
     → StaysInTime n a x → StaysInTime n b y
 by-grew n alone alone' a b x y noted done g h is k =
-    let s : Noted = tally note_entry no_notes a in
-    let d : Done = tally deed no_deeds (own n x) in
-    let due = is s d (end-fits note_entry deed AreCaused no_notes no_deeds a
-    (own n x) none-caused k.timely) k.replied in
-    let own-is : own n y ≡ own n x ++ done = grew-ours alone' (is_of n) x done y h in
-    record {
-      timely = subst (λ (l : List Entry). InTime l (own n y)) (sym g.after_is)
-          (subst (λ (l : List RingEntry). InTime (a ++ g.more) l) (sym own-is)
-          (goes-on note_entry deed AreCaused is_ours scan-quiet no_notes no_deeds a g.more
-          (own n x) done none-caused k.timely
-          (subst (λ (l : List Entry). Timely s d l done) (sym g.ours_are) due.0)));
-      replied = subst (λ (l : List RingEntry). (tally deed no_deeds l).waiting ≡ []) (sym own-is)
-          (subst (λ (q : Done). q.waiting ≡ [])
-          (sym (tally-append deed no_deeds (own n x) done)) due.1);
-    }
+    by-grew-at n alone alone' a b x y noted done g h
+    (is (tally note_entry no_notes a) (done_by n x)) k
 
 same-ring : (n : ℕ) (x : List RingEntry) → Grew true (is_of n) x [] x
 same-ring n x =
@@ -147,6 +169,14 @@ NamesOwn n (entries.Collect calls) = Each (λ (call : Call). call.id.node ≡ n)
 NamesOwn n _ = Unit {0}
 
 -- ---- first: served
+plain-due : (n : ℕ) (f : Frame) (reply : Option (List ℕ)) → f.kind ≡ Request
+    → is_stats f.pdu ≡ false
+    → IsDue (peer_entry f.id f.pdu reply ∷ []) (Take n f ∷ reply_entries n f.id reply)
+plain-due n f (Some reply) p q = blocks.serves-due notings (entries.Peer f.id f.pdu reply)
+    (Take n f) (Post n (reply_frame f.id reply)) refl (take-is n f Request false p q) refl
+plain-due n f None p q = blocks.declines-due notings (entries.Off f.id f.pdu) (Take n f) refl
+    (take-is n f Request false p q)
+
 served-due : (n : ℕ) (f : Frame) (kind : FrameKind) (stats : Bool) → f.kind ≡ kind
     → is_stats f.pdu ≡ stats
     → (noted : List Entry) (done : List RingEntry)
@@ -159,8 +189,7 @@ served-due n f Request true p q noted done other is =
     (blocks.tells-due notings (Take n f) (Local n f.id is.0 is.1) _ (take-is n f Request true p q)
     (local-is n f.id is.0 is.1 false (ne_eqb f.id.node n (other p))) refl)
 served-due n f Request false p q noted done other is =
-    due-as noted _ done _ is.1 is.2 (blocks.serves-due notings (entries.Peer f.id f.pdu is.0)
-    (Take n f) _ refl (take-is n f Request false p q) refl)
+    due-as noted _ done _ is.1 is.2 (plain-due n f is.0 p q)
 
 by-serves : (n : ℕ) (alone alone' : Bool) (fs : List Frame) (a b : List Entry)
     (x y : List RingEntry)
@@ -187,10 +216,15 @@ by-gives n alone alone' ids a b x y p k =
     (finish id (Bad is.0)) (GiveUp id is.0) refl refl)) ids p.noted p.done (all-good ids) p.due) k
 
 -- ---- the token goes on
+quiet-still : (n : ℕ) (cause : LeaveCause) → down_in cause ≡ None → doings (Leave n cause) ≡ []
+quiet-still n Ended q = refl
+quiet-still n Spent q = refl
+quiet-still n (Down number) q = absurd (let bad : Some number ≡ None = q in cc)
+
 pub last-still : (n : ℕ) (done : Bool) (words : List ℕ) (cause : Option LeaveCause)
-    → doings (last_entry n done words cause) ≡ []
-last-still n done words None = refl
-last-still n done words (Some cause) = refl
+    → IsQuietCause cause → doings (last_entry n done words cause) ≡ []
+last-still n done words None quiet = refl
+last-still n done words (Some cause) quiet = quiet-still n cause (quiet cause refl)
 
 -- ---- third: sent
 sent-due : (done : List RingEntry) → Each IsSending done → IsDue (filter_map finish_of done) done
@@ -207,6 +241,7 @@ sent-due (Take m f ∷ done) is = absurd is.0
 sent-due (Local m id op result ∷ done) is = absurd is.0
 sent-due (Pass m words said ∷ done) is = absurd is.0
 sent-due (Leave m cause ∷ done) is = absurd is.0
+sent-due (Join m ∷ done) is = absurd is.0
 
 pub next-sending : (net : NetPlan) (n : ℕ) (on : ℕ → Bool) (past : List RingEntry) (e : RingEntry)
     → IsNextSending net n on past e → IsSending e
@@ -217,6 +252,7 @@ next-sending net n on past (Take m f) is = absurd is
 next-sending net n on past (Local m id op result) is = absurd is
 next-sending net n on past (Pass m done words) is = absurd is
 next-sending net n on past (Leave m cause) is = absurd is
+next-sending net n on past (Join m) is = absurd is
 
 by-sends : (n : ℕ) (alone alone' : Bool) (net : NetPlan) (a b : List Entry) (x y : List RingEntry)
     → SendsAll alone alone' net n a b x y
@@ -261,7 +297,8 @@ ended-calls s (call ∷ calls) = ap (λ (t : Noted). note_calls t calls) (ended-
     ∙ ended-calls (note_call s call.kind) calls
 
 abbrev Goes : Noted → Done → List Entry → List RingEntry → Type 0
-Goes s d noted done = Timely s d noted done × ((tally deed d done).waiting ≡ [])
+Goes s d noted done =
+    Timely s d noted done × OwesNoReply (tally note_entry s noted) (tally deed d done)
 
 goes-as : (s : Noted) (d : Done) (noted noted' : List Entry) (done done' : List RingEntry)
     → noted ≡ noted' → done ≡ done'
@@ -273,9 +310,9 @@ goes-as s d noted noted' done done' p q is =
 -- what is due to one of the calls collected, before what is due to those behind it
 abbrev CallDue : CallKind → List Entry → List RingEntry → Type 0
 CallDue kind noted done =
-    (s : Noted) (d : Done) → AreCaused s d → d.waiting ≡ []
+    (s : Noted) (d : Done) → AreCaused s d → OwesNoReply s d
     → (calls : List Call) (rest : List Entry) (later : List RingEntry)
-    → ((t : Noted) (q : Done) → AreCaused t q → q.waiting ≡ []
+    → ((t : Noted) (q : Done) → AreCaused t q → OwesNoReply t q
     → Goes (note_calls t calls) q rest later)
     → Goes (note_calls (note_call s kind) calls) d (noted ++ rest) (done ++ later)
 
@@ -312,7 +349,8 @@ made-due : (n : ℕ) (kind : CallKind) (id : CallId) (noted : List Entry) (done 
 made-due n (call_kinds.Net to pdu) id noted done mine is s d f g calls rest later go =
     let q : Done = done_next d PostsRequest in
     let k = posted-caused s d f in
-    let x = go (noted_next s Asks) q k g in
+    let x = go (noted_next s Asks) q k
+    (replied-as s (noted_next s Asks) d q refl refl refl refl g) in
     goes-as (note_calls (noted_next s Asks) calls) d (noted ++ rest) rest (done ++ later) _
     (ap (λ (l : List Entry). l ++ rest) is.0) (ap (λ (l : List RingEntry). l ++ later) is.1) (
       blocks.done-as notings (note_calls (noted_next s Asks) calls) d _
@@ -323,7 +361,7 @@ made-due n (call_kinds.Local op) id noted done mine is s d f g calls rest later 
     let q : Done = worked d in
     let s' : Noted = noted_next s AsksPort in
     let k = worked-ended s d f in
-    let x = go (ended s') q k g in
+    let x = go (ended s') q k (replied-as s (ended s') d q refl refl refl refl g) in
     let at : doings (Local n id op is.0) ≡ working true =
     local-is n id op is.0 true (eq-eqb id.node n mine) in
     goes-as (note_calls s' calls) d (noted ++ rest) (finish id is.0 ∷ rest) (done ++ later) _
@@ -331,8 +369,11 @@ made-due n (call_kinds.Local op) id noted done mine is s d f g calls rest later 
       blocks.done-as notings (note_calls s' calls) d (Local n id op is.0) (working true)
           (finish id is.0 ∷ rest) later at (calls-caused s' q calls (worked-caused s d f))
           (finish-goes s' q calls id is.0 rest later k x.0),
-      subst (λ (row : List Doing). (tally deed (tally done_next d row) later).waiting ≡ [])
-          (sym at) x.1,
+      subst (λ (row : List Doing). OwesNoReply (tally note_entry (note_calls s' calls)
+          (finish id is.0 ∷ rest)) (tally deed (tally done_next d row) later))
+          (sym at)
+          (subst (λ (t : Noted). OwesNoReply (tally note_entry t rest) (tally deed q later))
+          (ended-calls s' calls) x.1),
     )
 
 ended-due : (n : ℕ) (kind : CallKind) (id : CallId) (noted : List Entry) (done : List RingEntry)
@@ -344,7 +385,7 @@ ended-due n (call_kinds.Net to pdu) id noted done mine is s d f g calls rest lat
     let s' : Noted = noted_next s Asks in
     let k = posted-caused s d f in
     let m = ended-caused s' q k in
-    let x = go (ended s') o m g in
+    let x = go (ended s') o m (replied-as s (ended s') d o refl refl refl refl g) in
     goes-as (note_calls s' calls) d (noted ++ rest) (finish id (Bad is.0) ∷ rest) (done ++ later) _
     (ap (λ (l : List Entry). l ++ rest) is.1) (ap (λ (l : List RingEntry). l ++ later) is.2) (
       blocks.done-as notings (note_calls s' calls) d _ (PostsRequest ∷ [])
@@ -352,7 +393,8 @@ ended-due n (call_kinds.Net to pdu) id noted done mine is s d f g calls rest lat
           (blocks.done-as notings (note_calls s' calls) q (GiveUp id is.0) (IsOver ∷ [])
           (finish id (Bad is.0) ∷ rest) later refl (calls-caused s' o calls (over-caused s' q k))
           (finish-goes s' o calls id (Bad is.0) rest later m x.0)),
-      x.1,
+      subst (λ (t : Noted). OwesNoReply (tally note_entry t rest) (tally deed o later))
+          (ended-calls s' calls) x.1,
     )
 ended-due n (call_kinds.Local op) id noted done mine is s d f g calls rest later go =
     made-due n (call_kinds.Local op) id noted done mine is s d f g calls rest later go
@@ -363,7 +405,7 @@ module _ (n : ℕ) (Due : Call → List Entry → List RingEntry → Type 0)
   calls-due : (calls : List Call) (noted : List Entry) (done : List RingEntry)
       → Each (λ (call : Call). call.id.node ≡ n) calls
       → InOrder Due calls noted done
-      → (s : Noted) (d : Done) → AreCaused s d → d.waiting ≡ []
+      → (s : Noted) (d : Done) → AreCaused s d → OwesNoReply s d
       → Goes (note_calls s calls) d noted done
   calls-due [] noted done mine is s d f g = goes-as s d noted [] done [] is.0 is.1
       (nothing-due note_entry deed AreCaused s d, g)
@@ -430,12 +472,12 @@ same-list : (a : List Entry) → Grew true is_ours a [] a
 same-list a =
     record { more = []; after_is = sym (append-nil a); ours_are = refl; all_alone = λ is. refl }
 
-pub turn-in-time : (alone_ram alone_ring : Bool) (fixed : Fixed) (net : NetPlan) (n : ℕ)
+pub work-in-time : (alone_ram alone_ring : Bool) (fixed : Fixed) (net : NetPlan) (n : ℕ)
     (budget left : Bool) (known new_known : List Entry) (ring new_ring : List RingEntry)
-    → HoldsTurn alone_ram alone_ring fixed net n budget known new_known ring new_ring left
+    → WorksTurn alone_ram alone_ring fixed net n budget known new_known ring new_ring left
     → Each (IsForeign n) (inbox_of net n ring) → Each (NamesOwn n) new_known
     → StaysInTime n known ring → StaysInTime n new_known new_ring
-turn-in-time alone_ram alone_ring fixed net n budget left known new_known ring new_ring t
+work-in-time alone_ram alone_ring fixed net n budget left known new_known ring new_ring t
     foreign named k =
     let both = both-asked t.ends.asked in
     let named-asked : Each (NamesOwn n) t.ends.asked_known =
@@ -459,9 +501,73 @@ turn-in-time alone_ram alone_ring fixed net n budget left known new_known ring n
     (by-ask n alone_ram t.given_known both.at_end t.given_ring both.first given) in
     let handed = by-grew n true alone_ring t.ends.asked_known t.ends.asked_known t.given_ring
     t.ends.handed_ring [] _ (same-list t.ends.asked_known) t.ends.handed.grew
-    (blocks.still-due notings _ (last-still n t.ends.done _ _)) asked in
+    (blocks.still-due notings _ (last-still n t.ends.done _ _ (quiet-due net
+    (ring_after net t.given_ring) n t.ends.done budget))) asked in
     by-gives n alone_ram alone_ring _ t.ends.asked_known new_known t.ends.handed_ring new_ring
     t.ends.gives_up handed
+
+-- ---- the node leaves as power failed, and comes back
+by-back : (n : ℕ) (alone alone' : Bool) (fixed : Fixed) (joined : Bool) (a b : List Entry)
+    (x y : List RingEntry) → ComesBack alone alone' fixed n a b x y joined → StaysInTime n a x
+    → StaysInTime n b y
+by-back n alone alone' fixed joined a b x y c k = at joined refl
+  where
+    asked : StaysInTime n b x
+    asked = by-ask n alone a b x c.asks k
+
+    not-true : (o : Bool) → not o ≡ true → o ≡ false
+    not-true true e = absurd (let bad : false ≡ true = e in cc)
+    not-true false e = refl
+
+    at : (j : Bool) → joined ≡ j → StaysInTime n b y
+    at true is =
+        let power : is_off_at fixed b ≡ false = not-true (is_off_at fixed b)
+        (sym c.joined_is ∙ is) in
+        let grew : Grew alone' (is_of n) x (Join n ∷ []) y =
+        subst (λ (j : Bool). Grew alone' (is_of n) x (join_entries n j) y) is c.grew in
+        by-grew-at n true alone' b b x y [] (Join n ∷ []) (same-list b) grew
+        (λ f g. blocks.back-due notings (tally note_entry no_notes b) (done_by n x) (Join n) refl
+        (power-noted fixed b power) f g) asked
+    at false is = subst (λ (l : List RingEntry). StaysInTime n b l) (sym (c.stays is)) asked
+
+by-down : (n : ℕ) (alone alone' : Bool) (fixed : Fixed) (net : NetPlan) (joined : Bool)
+    (a b : List Entry) (x y : List RingEntry)
+    → GoesDown alone alone' fixed net n (failures_at fixed a) a b x y joined → StaysInTime n a x
+    → StaysInTime n b y
+by-down n alone alone' fixed net joined a b x y t k =
+    let number = failures_at fixed a in
+    let left = by-grew-at n true alone' a a x t.left_ring [] (Leave n (Down number) ∷ [])
+    (same-list a) t.leaves.grew
+    (λ f g. blocks.down-due notings (tally note_entry no_notes a) (done_by n x)
+    (Leave n (Down number)) number refl (let same = fails-noted fixed a in omega (arith, same)) f g)
+    k in
+    let given = by-gives n alone alone' _ a t.given_known t.left_ring t.given_ring t.gives_up left
+    in
+    by-back n alone alone' fixed joined t.given_known b t.given_ring y t.comes given
+
+pub turn-in-time : (alone_ram alone_ring : Bool) (fixed : Fixed) (net : NetPlan) (n : ℕ)
+    (budget : Bool) (end : TurnEnd) (known new_known : List Entry) (ring new_ring : List RingEntry)
+    → HoldsTurn alone_ram alone_ring fixed net n budget known new_known ring new_ring end
+    → Each (IsForeign n) (inbox_of net n ring) → Each (NamesOwn n) new_known
+    → StaysInTime n known ring → StaysInTime n new_known new_ring
+turn-in-time alone_ram alone_ring fixed net n budget end known new_known ring new_ring t
+    foreign named k = by (is_unnoticed fixed n t.asked ring) t.goes
+  where
+    asked : StaysInTime n t.asked ring
+    asked = by-ask n alone_ram known t.asked ring t.asks k
+
+    by : (b : Bool)
+        → TurnsBy b alone_ram alone_ring fixed net n budget t.asked new_known ring new_ring end
+        → StaysInTime n new_known new_ring
+    by true goes =
+        by-down n alone_ram alone_ring fixed net goes.0 t.asked new_known ring new_ring goes.2 asked
+    by false goes =
+        work-in-time alone_ram alone_ring fixed net n budget goes.0 t.asked new_known ring new_ring
+        goes.2 foreign named asked
+
+pub back-in-time : AwayTurnsStayInTime
+back-in-time alone_ram alone_ring fixed n joined known new_known ring new_ring c k =
+    by-back n alone_ram alone_ring fixed joined known new_known ring new_ring c k
 
 pub visit-in-time : (alone_ram alone_ring : Bool) (fixed : Fixed) (net : NetPlan) (n : ℕ)
     (known new_known : List Entry) (ring new_ring : List RingEntry)
@@ -492,5 +598,6 @@ pub starts-in-time : StartsInTime
 starts-in-time n ring none = record {
   timely = subst (λ (l : List RingEntry). InTime [] l) (sym none)
       (nothing-due note_entry deed AreCaused no_notes no_deeds);
-  replied = subst (λ (l : List RingEntry). (tally deed no_deeds l).waiting ≡ []) (sym none) refl;
+  replied = subst (λ (l : List RingEntry). OwesNoReply no_notes (tally deed no_deeds l)) (sym none)
+      (record { answered = tt; posted = refl });
 }

@@ -9,7 +9,10 @@ use Rattle.host_port.specs.declared.entry.HostEntry.{HostEntry}
 use Rattle.ring_core.specs.declared.entry.RingEntry.{RingEntry}
 use Rattle.tied_lists.specs.Own.{own}
 use Rattle.tied_lists.specs.Waits.{IsOnRing}
-use Rattle.comm_port.specs.HoldTurn.{HoldsTurn, VisitsEnd}
+use Rattle.comm_port.specs.declared.turn_end.TurnEnd.{TurnEnd}
+use Rattle.comm_port.specs.Failing.{ComesBack}
+use Rattle.comm_port.specs.HoldTurn.{VisitsEnd}
+use Rattle.comm_port.specs.WholeTurn.{HoldsTurn}
 use Rattle.comm_port.specs.HostTurns.{HoldsHostTurn}
 use Rattle.joint_history.specs.Reading.{is_ours}
 use Rattle.time_laws.specs.InTime.{StaysInTime, HostStaysInTime}
@@ -17,10 +20,18 @@ use Rattle.time_laws.specs.InTime.{StaysInTime, HostStaysInTime}
 -- A hold of the token keeps a controller's list in time with its node.
 abbrev pub TurnsStayInTime : Type 0
 TurnsStayInTime =
-    (alone_ram alone_ring : Bool) (fixed : Fixed) (net : NetPlan) (n : ℕ) (budget left : Bool)
-    (known new_known : List Entry) (ring new_ring : List RingEntry)
+    (alone_ram alone_ring : Bool) (fixed : Fixed) (net : NetPlan) (n : ℕ) (budget : Bool)
+    (end : TurnEnd) (known new_known : List Entry) (ring new_ring : List RingEntry)
     → fixed.plan.node ≡ n → IsOnRing net ring n → IsLegal fixed new_known
-    → HoldsTurn alone_ram alone_ring fixed net n budget known new_known ring new_ring left
+    → HoldsTurn alone_ram alone_ring fixed net n budget known new_known ring new_ring end
+    → StaysInTime n known ring → StaysInTime n new_known new_ring
+
+-- So does the turn of a node that is away.
+abbrev pub AwayTurnsStayInTime : Type 0
+AwayTurnsStayInTime =
+    (alone_ram alone_ring : Bool) (fixed : Fixed) (n : ℕ) (joined : Bool)
+    (known new_known : List Entry) (ring new_ring : List RingEntry)
+    → ComesBack alone_ram alone_ring fixed n known new_known ring new_ring joined
     → StaysInTime n known ring → StaysInTime n new_known new_ring
 
 -- So does a visit of a controller whose node has left.

@@ -1,15 +1,17 @@
 //! Laws of lists in time, whoever else writes between their entries. This project's own.
 ghost use Rattle.time_laws.specs.Laws.{TurnsStayInTime, VisitsStayInTime, HostTurnsStayInTime};
-ghost use Rattle.time_laws.specs.Laws.{OthersStayInTime, HostOthersStayInTime};
+ghost use Rattle.time_laws.specs.Laws.{AwayTurnsStayInTime, OthersStayInTime};
+ghost use Rattle.time_laws.specs.Laws.{HostOthersStayInTime};
 ghost use Rattle.time_laws.specs.Laws.{StartsInTime, HostStartsInTime};
 
 use ladder_solver::segments_keep_calls;
 use mstr_block::{calls_are_taken_in_order, finishes_end_one_call, stays_table};
 
-/// A hold of the token, and a visit of a controller whose node has left, keep a station in time
-/// with its node.
+/// A hold of the token, the turn of a node that is away, and a visit of a controller whose node has
+/// left, keep a station in time with its node.
 pub fn turns_stay_in_time()
     ensures turns { TurnsStayInTime }
+    ensures away { AwayTurnsStayInTime }
     ensures visits { VisitsStayInTime }
     ensures hosts { HostTurnsStayInTime }
 {

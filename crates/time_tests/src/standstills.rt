@@ -4,7 +4,7 @@ use host_port::{HostEntry, HostResult};
 use joint_history::{ControllerLog, HostLog, Joint};
 use mstr_block::{CallId, MstrResult};
 use plant_types::{List, Pdu};
-use ring_core::{Frame, FrameKind, GET_STATISTICS, LocalOp, RingEntry};
+use ring_core::{Frame, FrameKind, GET_STATISTICS, LeaveCause, LocalOp, RingEntry};
 use std::alloc::{AllocError, Global};
 use std::test::Fail;
 use time_judge::{Standstill, first_standstill};
@@ -28,12 +28,16 @@ fn call_of(node: u8) -> CallId {
     }
 }
 
-/// What a controller noted of calls that are named by who asked.
+/// What a controller noted of its power, and of calls that are named by who asked.
 #[derive(Clone, Copy)]
 enum Noted {
     Collects(u8),
     Answers(u8),
+    LetsGoBy(u8),
     Finishes(u8),
+    Begins,
+    Fails,
+    StaysDark,
 }
 
 fn collect(alloc: Global, node: u8) -> Result<Entry, AllocError> {
@@ -56,10 +60,17 @@ fn entry_of(alloc: Global, noted: Noted) -> Result<Entry, AllocError> {
             request: pdu_of(alloc, &READ)?,
             reply: pdu_of(alloc, &READ)?,
         }),
+        Noted::LetsGoBy(node) => Ok(Entry::Off {
+            id: call_of(node),
+            request: pdu_of(alloc, &READ)?,
+        }),
         Noted::Finishes(node) => Ok(Entry::Finish {
             id: call_of(node),
             result: MstrResult::Bad(0x6101),
         }),
+        Noted::Begins => Ok(Entry::Begin),
+        Noted::Fails => Ok(Entry::Fail),
+        Noted::StaysDark => Ok(Entry::Dark),
     }
 }
 
@@ -80,6 +91,8 @@ enum Did {
     AnswersAtPort(u8, u8),
     Replies(u8, u8),
     TakesReply(u8),
+    GoesDown(u8, u32),
+    ComesBack(u8),
 }
 
 fn frame_of(alloc: Global, kind: FrameKind, from: u8, bytes: &[u8]) -> Result<Frame, AllocError> {
@@ -119,6 +132,11 @@ fn deed_of(alloc: Global, did: Did) -> Result<RingEntry, AllocError> {
             node,
             frame: frame_of(alloc, FrameKind::Reply, node, &READ)?,
         }),
+        Did::GoesDown(node, number) => Ok(RingEntry::Leave {
+            node,
+            cause: LeaveCause::Down(number),
+        }),
+        Did::ComesBack(node) => Ok(RingEntry::Join { node }),
     }
 }
 
@@ -231,7 +249,7 @@ fn statistics_lend_nothing(rt: HostRuntime) -> Result<(), Fail> {
 
 /// Where controller 2, which answers one request, and the ring stand still.
 fn answers_once(alloc: Global, list: &[Did]) -> Result<Option<Standstill>, AllocError> {
-    two_stand_still(alloc, &[], &[Noted::Answers(1)], list)
+    one_stands_still(alloc, &[Noted::Answers(1)], list)
 }
 
 // A reply waits for the Take of a request, whatever was answered.
@@ -275,6 +293,130 @@ fn ports_answer_what_they_took(rt: HostRuntime) -> Result<(), Fail> {
         place: 1,
     };
     assert!(rt; two_stand_still(rt.alloc(), &[], &[], &unanswered)? == Some(late));
+    Ok(())
+}
+
+/// Where controller 2, alone with the ring, stands still.
+fn one_stands_still(
+    alloc: Global,
+    two: &[Noted],
+    list: &[Did],
+) -> Result<Option<Standstill>, AllocError> {
+    two_stand_still(alloc, &[], two, list)
+}
+
+/// So many entries of controller 2, and those before this place of the ring.
+fn at_two(entries: usize, place: usize) -> Standstill {
+    Standstill {
+        node: 2,
+        entries,
+        place,
+    }
+}
+
+// Power fails in the first scan of node 2 and in the fourth, and is back after a dark one each
+// time; between, a request goes by, and another is answered.
+#[test]
+fn a_node_comes_back_twice(rt: HostRuntime) -> Result<(), Fail> {
+    let two = [
+        Noted::Begins,
+        Noted::Fails,
+        Noted::LetsGoBy(1),
+        Noted::StaysDark,
+        Noted::Begins,
+        Noted::Answers(3),
+        Noted::Fails,
+        Noted::StaysDark,
+        Noted::Begins,
+    ];
+    let list = [
+        Did::Takes(2, 1),
+        Did::GoesDown(2, 1),
+        Did::ComesBack(2),
+        Did::Takes(2, 3),
+        Did::Replies(2, 3),
+        Did::GoesDown(2, 2),
+        Did::ComesBack(2),
+    ];
+    assert!(rt; one_stands_still(rt.alloc(), &two, &list)?.is_none());
+    Ok(())
+}
+
+// What goes by without power waits for its Take, as an answer does.
+#[test]
+fn nothing_goes_by_before_it_comes(rt: HostRuntime) -> Result<(), Fail> {
+    let alloc = rt.alloc();
+    let two = [Noted::Begins, Noted::Fails, Noted::LetsGoBy(1)];
+    let list = [Did::GoesDown(2, 1), Did::Takes(2, 1)];
+    assert!(rt; one_stands_still(alloc, &two, &list)?.is_none());
+    assert!(rt; one_stands_still(alloc, &two, &list[..1])? == Some(at_two(2, 1)));
+    let early = [Noted::LetsGoBy(1), Noted::Begins, Noted::Fails];
+    assert!(rt; one_stands_still(alloc, &early, &list)? == Some(at_two(0, 0)));
+    Ok(())
+}
+
+// No reply belongs to what went by; the reply behind it belongs to the next request.
+#[test]
+fn what_goes_by_has_no_reply(rt: HostRuntime) -> Result<(), Fail> {
+    let alloc = rt.alloc();
+    let list = [Did::Takes(2, 1), Did::Takes(2, 3), Did::Replies(2, 3)];
+    let two = [
+        Noted::Fails,
+        Noted::LetsGoBy(1),
+        Noted::Begins,
+        Noted::Answers(3),
+    ];
+    assert!(rt; one_stands_still(alloc, &two, &list)?.is_none());
+    let both = [Noted::Fails, Noted::LetsGoBy(1), Noted::LetsGoBy(3)];
+    assert!(rt; one_stands_still(alloc, &both, &list)? == Some(at_two(3, 2)));
+    Ok(())
+}
+
+#[test]
+fn a_node_leaves_before_power_fails(rt: HostRuntime) -> Result<(), Fail> {
+    let alloc = rt.alloc();
+    let once = [Noted::Begins, Noted::Fails];
+    assert!(rt; one_stands_still(alloc, &once, &[Did::GoesDown(2, 1)])?.is_none());
+    assert!(rt; one_stands_still(alloc, &once, &[Did::GoesDown(2, 2)])? == Some(at_two(2, 0)));
+    // It answers, and only then fails; on the ring it left before it took what it answers.
+    let late = [Noted::Begins, Noted::Answers(1), Noted::Fails];
+    let list = [Did::GoesDown(2, 1), Did::Takes(2, 1)];
+    assert!(rt; one_stands_still(alloc, &late, &list)? == Some(at_two(1, 0)));
+    Ok(())
+}
+
+#[test]
+fn a_node_comes_back_before_power(rt: HostRuntime) -> Result<(), Fail> {
+    let alloc = rt.alloc();
+    let list = [Did::GoesDown(2, 1), Did::ComesBack(2), Did::Takes(2, 1)];
+    let back = [
+        Noted::Begins,
+        Noted::Fails,
+        Noted::Begins,
+        Noted::Answers(1),
+    ];
+    assert!(rt; one_stands_still(alloc, &back, &list)?.is_none());
+    let dark = [Noted::Begins, Noted::Fails, Noted::StaysDark];
+    assert!(rt; one_stands_still(alloc, &dark, &list)? == Some(at_two(3, 1)));
+    let by = [
+        Noted::Begins,
+        Noted::Fails,
+        Noted::LetsGoBy(1),
+        Noted::Begins,
+    ];
+    assert!(rt; one_stands_still(alloc, &by, &list)? == Some(at_two(2, 1)));
+    Ok(())
+}
+
+// The power that it had before it failed a second time is not that for which it waits.
+#[test]
+fn power_of_an_earlier_time_counts_once(rt: HostRuntime) -> Result<(), Fail> {
+    let alloc = rt.alloc();
+    let two = [Noted::Begins, Noted::Fails, Noted::Begins, Noted::Fails];
+    let list = [Did::GoesDown(2, 2), Did::ComesBack(2)];
+    assert!(rt; one_stands_still(alloc, &two, &list)? == Some(at_two(4, 1)));
+    let first = [Did::GoesDown(2, 1), Did::ComesBack(2), Did::GoesDown(2, 2)];
+    assert!(rt; one_stands_still(alloc, &two, &first)?.is_none());
     Ok(())
 }
 

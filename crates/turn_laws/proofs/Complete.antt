@@ -1,9 +1,9 @@
--- A controller whose node is gone is complete.
+-- A controller whose node is gone, or away without power, is complete.
 use Rattle.std.proofs.Common.{◌≡◌, ◌≢◌, ◌⊎◌, ℕ, suc, ◌+◌, ◌==◌, Bool, true, false, cond, List}
 use Rattle.std.proofs.Common.{[]}
 use Rattle.std.proofs.Common.{◌∷◌, ◌++◌, length, drop, None, inl, inr, refl}
 use Rattle.std.proofs.Common.{sym, ap, ◌∙◌, arith, append-nil}
-use Rattle.std.specs.Prelude.{if◌then◌else◌}
+use Rattle.std.specs.Prelude.{if◌then◌else◌, not}
 use Rattle.std.specs.List.{count_by, flat_map, range_with_len}
 use Rattle.std.proofs.Math.Seq.{drop-append_seam}
 use Rattle.std.proofs.lemmas.List.Sums.{sum_by-append}
@@ -19,14 +19,19 @@ use Rattle.controller_core.specs.Controller.{IsLegal, first_step, is_none, left_
 use Rattle.controller_core.specs.Event.{scan_steps}
 use Rattle.controller_core.specs.Replay.{replay}
 use Rattle.controller_core.specs.Scans.{all_due}
+use Rattle.ring_core.specs.declared.status.NodeStatus.{NodeStatus}
+use Rattle.ring_core.specs.declared.status.NodeStatus.TheVariants.{In, Away, Asking, Gone}
+use Rattle.tied_lists.specs.Waits.{status_at}
 use Rattle.tied_lists.proofs.Boxes.{count-cons}
-use Rattle.joint_history.specs.Complete.{is_scan_end}
-use Rattle.joint_history.specs.Reading.{has_ended_at}
+use Rattle.joint_history.specs.Complete.{StaysOff, is_scan_end}
+use Rattle.joint_history.specs.Reading.{has_ended_at, is_off_at}
 use Rattle.joint_history.proofs.Collected.{CallLaws}
+use Rattle.turn_laws.specs.KeepsOn.{is_out_of_ring}
 use Rattle.turn_laws.specs.Laws.{ControllersComplete}
+use Rattle.turn_laws.proofs.Off.{off-stop}
+use Rattle.turn_laws.proofs.OpenCalls.{none-open}
 use Rattle.turn_laws.proofs.Rests.{each-ended}
 use Rattle.turn_laws.proofs.ScanEnds.{NoEnds, due-once}
-use Rattle.turn_laws.proofs.Turns.{none-open}
 
 -- ---- the last steps of all scans
 
@@ -127,14 +132,39 @@ scans-ended fixed h legal ended = at ((replay fixed h).stop == 0) refl ended
         sym (ap (λ l. scan_steps h ++ l) none ∙ append-nil (scan_steps h)) ∙ legal.due.1 in
         inl (ends-steps h ∙ ap (count_by ends_scan) all ∙ all-ends fixed)
 
+-- where there is no power they have, as nothing stops a controller then
+scans-off : (fixed : Fixed) (h : List Entry) → IsLegal fixed h → has_ended_at fixed h ≡ true
+    → is_off_at fixed h ≡ true → StaysOff fixed h
+scans-off fixed h legal ended off =
+    let dark : (replay fixed h).powered ≡ false = not-on (replay fixed h).powered off in
+    record {
+      scans = elim (scans-ended fixed h legal ended) [
+        | inl scans ↦ scans
+        | inr stop ↦ absurd (stop (off-stop fixed h legal dark))
+      ];
+      off = dark;
+    }
+  where
+    not-on : (b : Bool) → not b ≡ true → b ≡ false
+    not-on true is = absurd (let no' : false ≡ true = is in cc)
+    not-on false is = refl
+
+is-out : (fixed : Fixed) (h : List Entry) (status : NodeStatus) → IsLegal fixed h
+    → has_ended_at fixed h ≡ true → is_out_of_ring (is_off_at fixed h) status ≡ true
+    → (status ≡ Gone) ⊎ ((status ≡ Away) × StaysOff fixed h)
+is-out fixed h In legal ended out = absurd (let no' : false ≡ true = out in cc)
+is-out fixed h Away legal ended out = inr (refl, scans-off fixed h legal ended out)
+is-out fixed h Asking legal ended out = absurd (let no' : false ≡ true = out in cc)
+is-out fixed h Gone legal ended out = inl refl
+
 pub complete : CallLaws → ControllersComplete
-complete laws fixed net n entries ring st k ended collected =
-    let gone = k.gone refl in (
-      record {
-        scans = scans-ended fixed entries st.legal ended;
-        collected = collected;
-        finished = each-ended laws fixed entries st.legal
-            (none-open fixed net n entries ring st k.at_home gone.idle);
-      },
-      record { left = gone.left; replied = k.replied; done = k.stays },
-    )
+complete laws fixed net n entries ring st k ended collected out = (
+  record {
+    scans = scans-ended fixed entries st.legal ended;
+    collected = collected;
+    finished = each-ended laws fixed entries st.legal
+        (none-open fixed net n entries ring st k.at_home (k.gone refl).idle);
+  },
+  is-out fixed entries (status_at net ring n) st.legal ended out,
+  record { replied = k.replied; done = k.stays; noticed = λ m c. (k.noticed m c).noticed },
+)

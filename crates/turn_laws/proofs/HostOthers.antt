@@ -1,8 +1,19 @@
 -- What comes between turns keeps what a host's lists keep, and what a host comes to.
-use Rattle.std.proofs.Common.{◌≡◌, true, false, List, [], ◌∷◌, refl, sym, subst, ◌∙◌}
+use Rattle.std.proofs.Common.{◌≡◌, ◌≤◌, ℕ, true, false, List, [], ◌∷◌, refl, sym, ap, subst, ◌∙◌}
+use Rattle.std.proofs.Common.{arith}
 use Rattle.std.specs.List.{AllZip}
 use Rattle.plant_types.specs.declared.net.HostPlan.{HostPlan}
+use Rattle.ring_core.specs.declared.entry.RingEntry.{RingEntry}
+use Rattle.ring_core.specs.declared.status.NodeStatus.TheVariants.{Asking, Gone}
+use Rattle.host_port.specs.declared.entry.HostEntry.{HostEntry}
+use Rattle.host_port.specs.declared.entry.HostEntry.TheVariants.{Ask, Answer, Served}
+use Rattle.std.specs.List.{AllByRecursion}
+use Rattle.tied_lists.specs.Items.{AHost, Items, downs_by, last_from, no_items}
 use Rattle.tied_lists.specs.Own.{own}
+use Rattle.tied_lists.specs.Tied.{RiseAbove, Tied}
+use Rattle.tied_lists.specs.Waits.{status_at}
+use Rattle.joint_history.specs.Complete.{NoticesFailures}
+use Rattle.joint_history.specs.Reading.{host_item_next, host_items_after}
 use Rattle.tied_lists.proofs.Turns.{membership-kept, own-found}
 use Rattle.joint_history.specs.Complete.{AsksAllBeforeDone, AsksInItsHolds, HostIsComplete}
 use Rattle.joint_history.specs.Complete.{IsCompleteHostLog, IsCompleteLog, NodeIsComplete}
@@ -27,7 +38,7 @@ no-asked plan (x ∷ before) after n words is = nil-cons is
 
 pub host-starts : HostStartsKeep
 host-starts plan net ring none = record {
-  replied = subst RepliesBeforePasses (sym none) no-replies;
+  replied = subst (RepliesBeforePasses no_items) (sym none) (no-replies no_items);
   stays = subst StaysDone (sym none) no-stays;
   said = λ s. absurd (none-said (subst SaidDone none s));
   holds = subst (AsksInItsHolds plan) (sym none) (no-holds plan);
@@ -41,7 +52,7 @@ host-others plan net list ring more left none k =
     let n = plan.node in
     let same = own-found n ring more none in
     record {
-      replied = subst RepliesBeforePasses (sym same) k.replied;
+      replied = subst (RepliesBeforePasses (host_items_of list)) (sym same) k.replied;
       stays = subst StaysDone (sym same) k.stays;
       said = λ s. k.said (subst SaidDone same s);
       holds = subst (AsksInItsHolds plan) (sym same) k.holds;
@@ -49,11 +60,35 @@ host-others plan net list ring more left none k =
       gone = λ is_so.
           let g = k.gone is_so in
           record {
-            left = membership-kept net n ring more none ∙ g.left;
+            gone = membership-kept net n ring more none
+                (λ e. let no' : Gone ≡ Asking = sym g.gone ∙ e in absurd (cc)) ∙ g.gone;
             answered = g.answered;
           };
       timely = host-others-in-time n list ring more none k.timely;
     }
+
+-- a host's power never fails
+fails-after : (list : List HostEntry) (a : Items) → (host_items_after a list).fails ≡ a.fails
+fails-after [] a = refl
+fails-after (Ask id to pdu ∷ list) a = fails-after list (host_item_next a (Ask id to pdu))
+fails-after (Answer id result ∷ list) a = fails-after list (host_item_next a (Answer id result))
+fails-after (Served id request reply ∷ list) a =
+    fails-after list (host_item_next a (Served id request reply))
+
+host-fails : (list : List HostEntry) → (host_items_of list).fails ≡ 0
+host-fails list = fails-after list no_items
+
+none-below : (number : ℕ) (ks : List ℕ) → RiseAbove number ks → AllByRecursion (λ k. k ≤ 0) ks
+    → ks ≡ []
+none-below number [] rise low = refl
+none-below number (k ∷ ks) rise low = absurd (let a = rise.0 in let b = low.0 in
+    omega (arith, a, b))
+
+host-noticed : {items : Items} {ring : List RingEntry} → items.fails ≡ 0 → Tied AHost items ring
+    → NoticesFailures items ring
+host-noticed {items} {ring} none tied m c =
+    none ∙ sym (ap (last_from 0) (none-below 0 (downs_by ring) tied.downs.0
+    (subst (λ (most : ℕ). AllByRecursion (λ k. k ≤ most) (downs_by ring)) none tied.downs.1)))
 
 pub host-complete : HostsComplete
 host-complete plan net list ring st k =
@@ -63,7 +98,12 @@ host-complete plan net list ring st k =
         holds = k.holds;
         asked = k.asked;
       },
-      record { left = g.left; replied = k.replied; done = k.stays },
+      g.gone,
+      record {
+        replied = k.replied;
+        done = k.stays;
+        noticed = λ m c. host-noticed (host-fails list) st.tied m c;
+      },
     )
 
 -- ---- all stations
@@ -79,11 +119,12 @@ pub run-complete : ControllersComplete → HostsComplete → RunsComplete
 run-complete controllers hosts plant scans joint one two = record {
   controllers = zip-each (HasFinished plant scans joint.ring) (IsCompleteLog plant scans joint.ring)
       (λ plan log f. controllers (fixed_of plant scans plan) plant.net log.node log.entries
-      joint.ring f.stands f.keeps f.ended f.collected)
+      joint.ring f.stands f.keeps f.ended f.collected f.out)
       plant.controllers joint.controllers one;
   hosts = zip-each (HostHasFinished plant joint.ring) (IsCompleteHostLog plant joint.ring)
       (λ plan log f. subst (λ n. HostIsComplete plan (host_items_of log.entries) (own n joint.ring)
-      × NodeIsComplete plant.net joint.ring n)
+      × (status_at plant.net joint.ring n ≡ Gone)
+      × NodeIsComplete (host_items_of log.entries) (own n joint.ring))
       (sym f.node) (hosts plan plant.net log.entries joint.ring f.stands f.keeps))
       plant.hosts joint.hosts two;
 }

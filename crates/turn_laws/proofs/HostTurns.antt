@@ -10,27 +10,33 @@ use Rattle.plant_types.specs.declared.net.NetPlan.{NetPlan}
 use Rattle.ring_core.specs.declared.entry.LeaveCause.{LeaveCause}
 use Rattle.ring_core.specs.declared.entry.RingEntry.{RingEntry}
 use Rattle.ring_core.specs.declared.entry.RingEntry.TheVariants.{Pass}
+use Rattle.ring_core.specs.declared.status.NodeStatus.TheVariants as statuses
+use Rattle.ring_core.specs.Machine.{ring_after}
 use Rattle.ring_core.specs.Scratch.{words_put}
 use Rattle.host_port.specs.declared.entry.HostEntry.{HostEntry}
+use Rattle.host_port.specs.declared.entry.HostEntry.TheVariants.{Ask, Answer, Served}
 use Rattle.host_port.specs.Calls.{requests_in}
 use Rattle.host_port.specs.Host.{host_is_done}
 use Rattle.host_port.specs.Legal.{IsHostHistory}
-use Rattle.tied_lists.specs.Items.{AHost, asked_by, ended_by, net_ask, taken_by}
+use Rattle.tied_lists.specs.Items.{AHost, Answered, Items, asked_by, ended_by, net_ask, no_items}
 use Rattle.tied_lists.specs.Own.{own}
 use Rattle.tied_lists.specs.Tied.{Tied}
+use Rattle.tied_lists.specs.Waits.{status_at}
 use Rattle.joint_history.specs.Complete.{AsksAllBeforeDone, AsksInItsHolds, IsOfDone, is_pass}
 use Rattle.joint_history.specs.Complete.{RepliesBeforePasses, StaysDone}
 use Rattle.comm_port.specs.Leaving.{last_entry}
-use Rattle.joint_history.specs.Reading.{host_items_of}
+use Rattle.joint_history.specs.Reading.{host_item_next, host_items_after, host_items_of}
 use Rattle.comm_port.specs.HostTurns.{HoldsHostTurn, hold_of, host_at, host_cause}
+use Rattle.comm_port.proofs.Leaves.{quiet-due}
 use Rattle.time_laws.specs.InTime.{HostStaysInTime}
 use Rattle.time_laws.proofs.Legal.{legal-host}
 use Rattle.turn_laws.specs.KeepsOn.{HostKeepsOn, HostStandsTied, SaidDone}
 use Rattle.turn_laws.specs.Laws.{HostTurnsKeepOn}
-use Rattle.turn_laws.proofs.Passes.{IsNoPass, asked-join, cancel-none, due-length, each-join}
-use Rattle.turn_laws.proofs.Passes.{each-of-done, ended-join, replies-more, replies-push, said-more}
-use Rattle.turn_laws.proofs.Passes.{no-pass, said-push, same-count, stays-more, stays-push}
+use Rattle.turn_laws.proofs.Passes.{AnswersMore, IsNoPass, asked-join, cancel-none, each-join}
+use Rattle.turn_laws.proofs.Passes.{each-of-done, ended-join, replies-pass, replies-quiet}
+use Rattle.turn_laws.proofs.Passes.{no-pass, said-more, said-push, stays-more, stays-push}
 use Rattle.turn_laws.proofs.Gone.{inner-keeps}
+use Rattle.turn_laws.proofs.Parted.{gone-for-good}
 use Rattle.turn_laws.proofs.HostDone.{DidAll, GoesDone, all-done, asks-many, did-all, done-more}
 use Rattle.turn_laws.proofs.HostWent.{Asking, HostWent, IsNoAsk, asked-more, asked-push, holds-more}
 use Rattle.turn_laws.proofs.HostWent.{gave-holds, host-gives, host-handed, host-went}
@@ -42,6 +48,32 @@ clash is no' = let e : true ≡ false = sym is ∙ no' in absurd cc
 posted-many : (h : List HostEntry) (b : List RingEntry) → Tied AHost (host_items_of h) b
     → length (asked_by b) ≡ length (requests_in h)
 posted-many h b t = ap length t.asks ∙ asks-many h
+
+-- a list that goes on answers more
+host-answers : (a : Items) (more : List HostEntry) → AnswersMore a (host_items_after a more)
+host-answers a [] = record { more = []; is = sym (append-nil a.answers) }
+host-answers a (Ask id to pdu ∷ more) =
+    let rest = host-answers (host_item_next a (Ask id to pdu)) more in
+    record { more = rest.more; is = rest.is }
+host-answers a (Answer id result ∷ more) =
+    let rest = host-answers (host_item_next a (Answer id result)) more in
+    record { more = rest.more; is = rest.is }
+host-answers a (Served id request reply ∷ more) =
+    let rest = host-answers (host_item_next a (Served id request reply)) more in
+    let answer : Answered = record { id = id; request = Some request; reply = Some reply } in
+    record {
+      more = answer ∷ rest.more;
+      is = rest.is ∙ append_assoc a.answers (answer ∷ []) rest.more;
+    }
+
+host-joined : (a : Items) (h more : List HostEntry)
+    → host_items_after a (h ++ more) ≡ host_items_after (host_items_after a h) more
+host-joined a [] more = refl
+host-joined a (e ∷ h) more = host-joined (host_item_next a e) h more
+
+answers-more : (h more : List HostEntry) → AnswersMore (host_items_of h) (host_items_of (h ++ more))
+answers-more h more = subst (AnswersMore (host_items_of h)) (sym (host-joined no_items h more))
+    (host-answers (host_items_of h) more)
 
 -- entries behind a Pass that said done ask nothing and end nothing
 record Rested (b c : List RingEntry) : Type 0 where
@@ -65,7 +97,7 @@ no-left (x ∷ xs) ys is = absurd cc
 module _ (plan : HostPlan) where
   -- what keeps of the two lists
   record Kept (h : List HostEntry) (b : List RingEntry) : Type 0 where
-    replied : RepliesBeforePasses b
+    replied : RepliesBeforePasses (host_items_of h) b
     stays : StaysDone b
     said : SaidDone b → DidAll plan h
     asked : AsksAllBeforeDone plan b
@@ -75,7 +107,8 @@ module _ (plan : HostPlan) where
       → Tied AHost (host_items_of (h ++ more)) (b ++ c) → Each IsNoPass c → Kept h b
       → Kept (h ++ more) (b ++ c)
   keeps-quiet h more b c legal old new quiet k = record {
-    replied = replies-more b c quiet k.replied;
+    replied = replies-quiet AHost (host_items_of h) (host_items_of (h ++ more)) b c old
+        (answers-more h more) quiet k.replied;
     stays = stays-more b c quiet
         (λ s. let r = rested plan h more b c (done-more plan h more legal (k.said s)) old new in
         each-of-done AHost ([] ++ asked_by b) c quiet r.asks r.ends) k.stays;
@@ -91,9 +124,9 @@ module _ (plan : HostPlan) where
       → Kept (h ++ more) (b ++ (c ++ Pass n done words ∷ []))
   keeps-pass h more b c n done words legal old new quiet says k =
       subst (Kept (h ++ more)) joins (record {
-        replied = replies-push (b ++ c) e (replies-more b c quiet k.replied)
-            (λ pass. same-count (b ++ c) (e ∷ []) refl refl
-            (ap length whole.replies ∙ due-length (taken_by ((b ++ c) ++ e ∷ [])) _ _));
+        replied = replies-pass AHost (host_items_of (h ++ more)) (b ++ c) n done words whole
+            (replies-quiet AHost (host_items_of h) (host_items_of (h ++ more)) b c old
+            (answers-more h more) quiet k.replied);
         stays = stays-push (b ++ c) e (stays-more b c quiet of-c k.stays)
             (λ s. says ∙ all-done plan (h ++ more)
             (done-more plan h more legal (k.said (said-more b c quiet s))).done);
@@ -223,6 +256,12 @@ module _ (plan : HostPlan) where
             (subst (Tied AHost (host_items_of new_list)) own-new new.tied))
             quiet (kept-of net list ring false k)))
 
+        parted : status_at net t.ends.handed_ring n ≡ statuses.Gone
+        parted = ap (λ l. status_at net l n) t.ends.handed.grew.after_is
+            ∙ gone-for-good net n why t.given_ring t.ends.handed.grew.more
+            (quiet-due net (ring_after net t.given_ring) n done budget why is)
+            (t.ends.handed.grew.ours_are ∙ ap (λ o. last_entry n done words o ∷ []) is)
+
         result : HostKeepsOn plan net new_list new_ring left
         result = record {
           replied = kept.replied;
@@ -232,9 +271,10 @@ module _ (plan : HostPlan) where
               new_ring (t.ends.gives_up is_so) handed-holds;
           asked = kept.asked;
           gone = λ is'. record {
-            left = inner-keeps net n t.ends.handed_ring (t.ends.gives_up is_so).grew.more new_ring
+            gone = inner-keeps net n t.ends.handed_ring (t.ends.gives_up is_so).grew.more new_ring
                 gives.done (t.ends.gives_up is_so).grew.after_is gives.own_is gives.quiet
-                ∙ t.ends.handed.gone why is;
+                (λ asks. let no' : statuses.Gone ≡ statuses.Asking = sym parted ∙ asks in absurd cc)
+                ∙ parted;
             answered = t.ends.answered is';
           };
           timely = timely;

@@ -15,7 +15,7 @@ use Rattle.plant_types.specs.declared.net.HostPlan.{HostPlan}
 use Rattle.plant_types.specs.declared.net.NetPlan.{NetPlan}
 use Rattle.ring_core.specs.declared.entry.RingEntry.{RingEntry}
 use Rattle.ring_core.specs.declared.entry.RingEntry.TheVariants.{Post, Send, Take, Local, GiveUp}
-use Rattle.ring_core.specs.declared.entry.RingEntry.TheVariants.{Pass, Leave}
+use Rattle.ring_core.specs.declared.entry.RingEntry.TheVariants.{Pass, Leave, Join}
 use Rattle.ring_core.specs.declared.frame.FrameKind.{FrameKind}
 use Rattle.ring_core.specs.declared.frame.FrameKind.TheVariants.{Request, Reply}
 use Rattle.ring_core.specs.declared.frame.Frame.{Frame}
@@ -285,6 +285,7 @@ step-quiet net n on past (Local m id op result) is = absurd is
 step-quiet net n on past (GiveUp id word) is = (refl, refl)
 step-quiet net n on past (Pass m done words) is = absurd is
 step-quiet net n on past (Leave m cause) is = absurd is
+step-quiet net n on past (Join m) is = absurd is
 
 answer-notes : (entries : List RingEntry) → Each IsNoRequest (filter_map bad_answer_to entries)
 answer-notes [] = tt
@@ -295,6 +296,7 @@ answer-notes (Local m id op result ∷ es) = answer-notes es
 answer-notes (GiveUp id word ∷ es) = (refl, answer-notes es)
 answer-notes (Pass m done words ∷ es) = answer-notes es
 answer-notes (Leave m cause ∷ es) = answer-notes es
+answer-notes (Join m ∷ es) = answer-notes es
 
 pub host-sends : (plan : HostPlan) (hold : ℕ) (alone : Bool) (net : NetPlan) (n : ℕ) (on : ℕ → Bool)
     (a b : List HostEntry) (x y : List RingEntry)

@@ -1,9 +1,13 @@
 pub mod Passes
 pub mod Rests
+pub mod Off
 pub mod Posted
 pub mod Gone
+pub mod Parted
 pub mod Went
 pub mod TurnParts
+pub mod OpenCalls
+pub mod Noticed
 pub mod Turns
 pub mod Others
 pub mod ScanEnds
@@ -16,3 +20,5 @@ pub mod Stands
 pub mod Holders
 mod Read2
 pub mod Spent
+pub mod EndsWhere
+pub mod Uncollected

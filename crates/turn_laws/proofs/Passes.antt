@@ -1,9 +1,10 @@
 -- A node's own list that goes on.
 use Rattle.std.proofs.Common.{Bool, ◌≡◌, ◌≢◌, ◌⊎◌, ℕ, zero, suc, true, false, cond}
-use Rattle.std.proofs.Common.{List, [], ◌∷◌, ◌++◌, length, Option, Some, None, inl, inr}
+use Rattle.std.proofs.Common.{List, [], ◌∷◌, ◌++◌, length, map, ◌≤◌, Option, Some, None, inl, inr}
 use Rattle.std.proofs.Common.{refl, sym, ap, subst, ◌∙◌, arith, append_assoc, append-nil}
 use Rattle.std.specs.List.{All, cons_option, AllByRecursion as Each}
 use Rattle.std.proofs.lemmas.Bool.{eq-eqb}
+use Rattle.std.proofs.lemmas.List.{length-map, map-append}
 use Rattle.std.proofs.lemmas.List.Elements.{filter_map-append}
 use Rattle.mstr_block.specs.declared.call.CallId.{CallId}
 use Rattle.mstr_block.specs.declared.call.MstrResult.{MstrResult}
@@ -13,12 +14,14 @@ use Rattle.ring_core.specs.declared.frame.Frame.{Frame}
 use Rattle.ring_core.specs.declared.entry.LocalOp.{LocalOp}
 use Rattle.ring_core.specs.declared.entry.RingEntry.{RingEntry}
 use Rattle.ring_core.specs.declared.entry.RingEntry.TheVariants.{Post, Send, Take, Local, GiveUp}
-use Rattle.ring_core.specs.declared.entry.RingEntry.TheVariants.{Pass, Leave}
+use Rattle.ring_core.specs.declared.entry.RingEntry.TheVariants.{Pass, Leave, Join}
 use Rattle.tied_lists.specs.Items.{Asked, Station, Taken, asked_of, asked_in, asked_by}
 use Rattle.tied_lists.specs.Items.{ended_of, ended_by, ended_at_home, replied_by, replied_of}
-use Rattle.tied_lists.specs.Items.{taken_by, taken_of, due_replies, Plain}
-use Rattle.tied_lists.specs.Items.{ForStats, rest_of, LocalCall, Came}
-use Rattle.joint_history.specs.Complete.{RepliesBeforePasses, StaysDone, IsOfDone, is_pass}
+use Rattle.tied_lists.specs.Items.{taken_by, taken_of, due_replies, due_reply, Plain, ForStats}
+use Rattle.tied_lists.specs.Items.{LocalCall, Came, Answered, Items, answered_of, item_of}
+use Rattle.tied_lists.specs.Items.{plain_items, stats_items, port_answers, replies_in}
+use Rattle.tied_lists.specs.Tied.{Tied}
+use Rattle.joint_history.specs.Complete.{RepliesBeforePasses, StandsIn, StaysDone, IsOfDone, is_pass}
 use Rattle.turn_laws.specs.KeepsOn.{SaidDone}
 
 -- ---- lists
@@ -83,10 +86,11 @@ all-push P (y ∷ xs) x all p (suc k) d within =
 abbrev pub IsNoPass : RingEntry → Type 0
 IsNoPass e = is_pass e ≡ false
 
--- an entry inside a turn: neither a Pass nor a Leave
+-- an entry inside a turn: neither a Pass nor a Leave nor a Join
 abbrev pub is_last : RingEntry → Bool
 is_last (Pass n done words) = true
 is_last (Leave n cause) = true
+is_last (Join n) = true
 is_last _ = false
 
 abbrev pub IsInner : RingEntry → Type 0
@@ -100,20 +104,30 @@ inner-one (Local n id op result) inner = refl
 inner-one (GiveUp id word) inner = refl
 inner-one (Pass n done words) inner = inner
 inner-one (Leave n cause) inner = refl
+inner-one (Join n) inner = refl
 
 pub no-pass : (c : List RingEntry) → Each IsInner c → Each IsNoPass c
 no-pass c inner = each-map IsInner IsNoPass c inner-one inner
 
-pub replies-push : (b : List RingEntry) (e : RingEntry) → RepliesBeforePasses b
-    → (is_pass e ≡ true → length (replied_by b) ≡ length (taken_by b))
-    → RepliesBeforePasses (b ++ e ∷ [])
-replies-push b e old new before after n done words is =
+-- what is posted before each Pass, by these replies of the station and of the port
+abbrev pub RepliesIn : List (Option (List ℕ)) → List (Option (List ℕ)) → List RingEntry → Type 0
+RepliesIn peers locals b = (before after : List RingEntry) (n : ℕ) (done : Bool) (words : List ℕ)
+    → StandsIn b before (Pass n done words) after
+    → length (replied_by before) ≡ length (due_replies (taken_by before) peers locals)
+
+pub replies-push : (peers locals : List (Option (List ℕ))) (b : List RingEntry) (e : RingEntry)
+    → RepliesIn peers locals b
+    → (is_pass e ≡ true
+    → length (replied_by b) ≡ length (due_replies (taken_by b) peers locals))
+    → RepliesIn peers locals (b ++ e ∷ [])
+replies-push peers locals b e old new before after n done words is =
     at (stands-in b e before (Pass n done words) after is)
   where
     at : Stands b e before (Pass n done words) after
-        → length (replied_by before) ≡ length (taken_by before)
+        → length (replied_by before) ≡ length (due_replies (taken_by before) peers locals)
     at (last p q r) =
-        subst (λ (l : List RingEntry). length (replied_by l) ≡ length (taken_by l)) (sym p)
+        subst (λ (l : List RingEntry).
+        length (replied_by l) ≡ length (due_replies (taken_by l) peers locals)) (sym p)
         (new (ap is_pass (sym q)))
     at (earlier rest p q) = old before rest n done words p
 
@@ -167,12 +181,14 @@ said-more b [] quiet_e s = subst SaidDone (append-nil b) s
 said-more b (e ∷ c) quiet_e s =
     said-quiet b e quiet_e.0 (said-more (b ++ e ∷ []) c quiet_e.1 (back SaidDone b e c s))
 
-pub replies-more : (b c : List RingEntry) → Each IsNoPass c → RepliesBeforePasses b
-    → RepliesBeforePasses (b ++ c)
-replies-more b [] quiet_e old = subst RepliesBeforePasses (sym (append-nil b)) old
-replies-more b (e ∷ c) quiet_e old =
-    shift RepliesBeforePasses b e c (replies-more (b ++ e ∷ []) c quiet_e.1
-    (replies-push b e old (λ is. absurd (let both : true ≡ false = sym is ∙ quiet_e.0 in cc))))
+pub replies-more : (peers locals : List (Option (List ℕ))) (b c : List RingEntry)
+    → Each IsNoPass c → RepliesIn peers locals b → RepliesIn peers locals (b ++ c)
+replies-more peers locals b [] quiet_e old =
+    subst (RepliesIn peers locals) (sym (append-nil b)) old
+replies-more peers locals b (e ∷ c) quiet_e old =
+    shift (RepliesIn peers locals) b e c (replies-more peers locals (b ++ e ∷ []) c quiet_e.1
+    (replies-push peers locals b e old
+    (λ is. absurd (let both : true ≡ false = sym is ∙ quiet_e.0 in cc))))
 
 pub stays-more : (b c : List RingEntry) → Each IsNoPass c → (SaidDone b → Each IsOfDone c)
     → StaysDone b → StaysDone (b ++ c)
@@ -208,6 +224,7 @@ of-done station asked (GiveUp id word) quiet_e asks ends = no-some ends
 of-done station asked (Pass n done words) quiet_e asks ends =
     absurd (let both : true ≡ false = quiet_e in cc)
 of-done station asked (Leave n cause) quiet_e asks ends = tt
+of-done station asked (Join n) quiet_e asks ends = tt
 
 no-option : {X : Type 0} (o : Option X) (xs : List X) → cons_option o xs ≡ []
     → (o ≡ None) × (xs ≡ [])
@@ -256,18 +273,109 @@ ended-join station asked (x ∷ b) c =
 
 -- ---- Replies that are due
 
-pub due-length : (ts : List Taken) (peers locals : List (List ℕ))
-    → length (due_replies ts peers locals) ≡ length ts
-due-length [] peers locals = refl
-due-length (Plain id pdu ∷ ts) peers locals = ap suc (due-length ts (rest_of peers) locals)
-due-length (ForStats id pdu ∷ ts) peers locals = ap suc (due-length ts peers (rest_of locals))
+-- answers that come later make nothing else due for what was taken before
+due-later : (ts : List Taken) (peers more locals later : List (Option (List ℕ)))
+    → length (plain_items ts) ≤ length peers → length (stats_items ts) ≤ length locals
+    → due_replies ts (peers ++ more) (locals ++ later) ≡ due_replies ts peers locals
+due-later [] peers more locals later few small = refl
+due-later (Plain id pdu ∷ ts) [] more locals later few small = absurd (omega (arith, few))
+due-later (Plain id pdu ∷ ts) (p ∷ peers) more locals later few small =
+    ap (cons_option (due_reply id (Some p)))
+    (due-later ts peers more locals later (omega (arith, few)) small)
+due-later (ForStats id pdu ∷ ts) peers more [] later few small = absurd (omega (arith, small))
+due-later (ForStats id pdu ∷ ts) peers more (p ∷ locals) later few small =
+    ap (cons_option (due_reply id (Some p)))
+    (due-later ts peers more locals later few (omega (arith, small)))
 
--- entries that take nothing and reply nothing
-pub same-count : (b c : List RingEntry) → replied_by c ≡ [] → taken_by c ≡ []
-    → length (replied_by (b ++ c)) ≡ length (taken_by (b ++ c))
-    → length (replied_by b) ≡ length (taken_by b)
-same-count b c replies takes all =
-    sym (ap length (filter_map-append replied_of b c ∙ ap (λ l. replied_by b ++ l) replies
-    ∙ append-nil (replied_by b)))
-    ∙ all ∙ ap length
-    (filter_map-append taken_of b c ∙ ap (λ l. taken_by b ++ l) takes ∙ append-nil (taken_by b))
+plain-front : (ts us : List Taken)
+    → length (plain_items ts) ≤ length (plain_items (ts ++ us))
+plain-front [] us = omega arith
+plain-front (Plain id pdu ∷ ts) us = let rest = plain-front ts us in omega (arith, rest)
+plain-front (ForStats id pdu ∷ ts) us = plain-front ts us
+
+stats-front : (ts us : List Taken)
+    → length (stats_items ts) ≤ length (stats_items (ts ++ us))
+stats-front [] us = omega arith
+stats-front (Plain id pdu ∷ ts) us = stats-front ts us
+stats-front (ForStats id pdu ∷ ts) us = let rest = stats-front ts us in omega (arith, rest)
+
+replies-later : (peers more locals later : List (Option (List ℕ))) (b : List RingEntry)
+    → length (plain_items (taken_by b)) ≤ length peers
+    → length (stats_items (taken_by b)) ≤ length locals
+    → RepliesIn peers locals b → RepliesIn (peers ++ more) (locals ++ later) b
+replies-later peers more locals later b few small old before after n done words is =
+    let e = Pass n done words in
+    let joined : taken_by b ≡ taken_by before ++ taken_by (e ∷ after) =
+    ap taken_by is ∙ filter_map-append taken_of before (e ∷ after) in
+    let plain : length (plain_items (taken_by before)) ≤ length (plain_items (taken_by b)) =
+    subst (λ (l : List Taken). length (plain_items (taken_by before)) ≤ length (plain_items l))
+    (sym joined) (plain-front (taken_by before) (taken_by (e ∷ after))) in
+    let stats : length (stats_items (taken_by before)) ≤ length (stats_items (taken_by b)) =
+    subst (λ (l : List Taken). length (stats_items (taken_by before)) ≤ length (stats_items l))
+    (sym joined) (stats-front (taken_by before) (taken_by (e ∷ after))) in
+    old before after n done words is
+    ∙ ap length (sym (due-later (taken_by before) peers more locals later
+    (omega (arith, few, plain)) (omega (arith, small, stats))))
+
+-- in tied lists each Request that was taken has its answer
+plain-few : (station : Station) (a : Items) (b : List RingEntry) → Tied station a b
+    → length (plain_items (taken_by b)) ≤ length (replies_in a.answers)
+plain-few station a b t =
+    let one = ap length t.peers in
+    let two : length (map item_of a.answers) ≡ length a.answers = length-map a.answers item_of in
+    let three : length (replies_in a.answers) ≡ length a.answers =
+    length-map a.answers (λ (x : Answered). x.reply) in
+    omega (arith, one, two, three)
+
+stats-few : (station : Station) (a : Items) (b : List RingEntry) → Tied station a b
+    → length (stats_items (taken_by b)) ≤ length (replies_in (port_answers b))
+stats-few station a b t =
+    let one = ap length t.port in
+    let two : length (map item_of (port_answers b)) ≡ length (port_answers b) =
+    length-map (port_answers b) item_of in
+    let three : length (replies_in (port_answers b)) ≡ length (port_answers b) =
+    length-map (port_answers b) (λ (x : Answered). x.reply) in
+    omega (arith, one, two, three)
+
+-- the answers of a list that went on
+pub record AnswersMore (a a' : Items) : Type 0 where
+  pub more : List Answered
+  pub is : a'.answers ≡ a.answers ++ more
+
+-- so the Replies before each Pass are still those that are due
+pub replies-quiet : (station : Station) (a a' : Items) (b c : List RingEntry) → Tied station a b
+    → AnswersMore a a' → Each IsNoPass c → RepliesBeforePasses a b
+    → RepliesBeforePasses a' (b ++ c)
+replies-quiet station a a' b c t m quiet old =
+    let peers : replies_in a.answers ++ replies_in m.more ≡ replies_in a'.answers =
+    sym (ap replies_in m.is ∙ map-append (λ (x : Answered). x.reply) a.answers m.more) in
+    let locals : replies_in (port_answers b) ++ replies_in (port_answers c)
+    ≡ replies_in (port_answers (b ++ c)) =
+    sym (ap replies_in (filter_map-append answered_of b c)
+    ∙ map-append (λ (x : Answered). x.reply) (port_answers b) (port_answers c)) in
+    subst (λ (l : List (Option (List ℕ))). RepliesIn l (replies_in (port_answers (b ++ c))) (b ++ c))
+    peers
+    (subst (λ (l : List (Option (List ℕ))).
+    RepliesIn (replies_in a.answers ++ replies_in m.more) l (b ++ c)) locals
+    (replies-more _ _ b c quiet
+    (replies-later (replies_in a.answers) (replies_in m.more) (replies_in (port_answers b))
+    (replies_in (port_answers c)) b (plain-few station a b t) (stats-few station a b t) old)))
+
+-- and so they are before one more Pass
+pub replies-pass : (station : Station) (a : Items) (b : List RingEntry) (n : ℕ) (done : Bool)
+    (words : List ℕ) → Tied station a (b ++ Pass n done words ∷ []) → RepliesBeforePasses a b
+    → RepliesBeforePasses a (b ++ Pass n done words ∷ [])
+replies-pass station a b n done words t old =
+    let e = Pass n done words in
+    let peers = replies_in a.answers in
+    let locals = replies_in (port_answers (b ++ e ∷ [])) in
+    let same : port_answers (b ++ e ∷ []) ≡ port_answers b =
+    filter_map-append answered_of b (e ∷ []) ∙ append-nil (port_answers b) in
+    let replied : replied_by (b ++ e ∷ []) ≡ replied_by b =
+    filter_map-append replied_of b (e ∷ []) ∙ append-nil (replied_by b) in
+    let taken : taken_by (b ++ e ∷ []) ≡ taken_by b =
+    filter_map-append taken_of b (e ∷ []) ∙ append-nil (taken_by b) in
+    replies-push peers locals b e
+    (subst (λ (l : List Answered). RepliesIn peers (replies_in l) b) (sym same) old)
+    (λ is. ap length (sym replied ∙ t.replies)
+    ∙ ap (λ (l : List Taken). length (due_replies l peers locals)) taken)

@@ -19,7 +19,7 @@ use Rattle.ring_core.specs.declared.frame.FrameKind.TheVariants.{Request, Reply}
 use Rattle.ring_core.specs.declared.frame.Frame.{Frame}
 use Rattle.ring_core.specs.declared.entry.RingEntry.{RingEntry}
 use Rattle.ring_core.specs.declared.entry.RingEntry.TheVariants.{Post, Send, Take, Local, GiveUp}
-use Rattle.ring_core.specs.declared.entry.RingEntry.TheVariants.{Pass, Leave}
+use Rattle.ring_core.specs.declared.entry.RingEntry.TheVariants.{Pass, Leave, Join}
 use Rattle.ring_core.specs.Words.{maker}
 use Rattle.ring_core.specs.Machine.{path_of, ring_after, ring_node}
 use Rattle.ring_core.specs.Legal.{IsFirst, IsRingStep}
@@ -33,6 +33,7 @@ use Rattle.tied_lists.proofs.Boxes.{CameOn, HasCome}
 use Rattle.tied_lists.proofs.Paths.{waiting-push}
 use Rattle.tied_lists.proofs.Histories.{legal-follows, own-mine, own-other}
 use Rattle.tied_lists.proofs.Turns.{legal-parts}
+use Rattle.comm_port.proofs.HostRuns.{on-front}
 use Rattle.turn_laws.proofs.Passes.{asked-join, ended-join}
 use Rattle.turn_laws.proofs.Rests.{over, same-equal, same-refl}
 
@@ -350,6 +351,7 @@ module _ (station : Station) (net : NetPlan) (n : ℕ) where
   own-step h (Pass m done words) on is step old = quiet-step h (Pass m done words) refl
       (λ p now. refl) old
   own-step h (Leave m cause) on is step old = quiet-step h (Leave m cause) refl (λ p now. refl) old
+  own-step h (Join m) on is step old = quiet-step h (Join m) refl (λ p now. refl) old
 
   wait-more : (h more : List RingEntry) → IsOnRing net (h ++ more) n
       → AllWaitOrOver station (own n h) → AllWaitOrOver station (own n (h ++ more))
@@ -361,8 +363,7 @@ module _ (station : Station) (net : NetPlan) (n : ℕ) where
       (subst (λ l. IsOnRing net l n) (sym (append_assoc h (e ∷ []) more)) on)
       (elim (cases_eq (maker e) n) [
         | inl is ↦ subst (AllWaitOrOver station) (sym (own-mine n h e is))
-            (own-step h e (record { members = on.members; legal = parts.0; member = on.member }) is
-            parts.1.0 old)
+            (own-step h e (on-front net n h (e ∷ more) on) is parts.1.0 old)
         | inr other ↦ subst (AllWaitOrOver station) (sym (own-other n h e other)) old
       ]))
 

@@ -16,17 +16,17 @@ use Rattle.controller_core.specs.declared.fixed.Fixed.{Fixed}
 use Rattle.controller_core.specs.Controller.{IsLegal, due_step, entry_for}
 use Rattle.controller_core.specs.Controller.{is_none}
 use Rattle.controller_core.specs.Event.{maker_of}
-use Rattle.controller_core.specs.Replay.{apply, replay, start, table_of}
+use Rattle.controller_core.specs.Replay.{ControllerState, apply, replay, start, table_of}
 use Rattle.controller_core.proofs.Keeping.{replay_more}
 use Rattle.controller_core.proofs.NextEntry.{due_of, ended_stays, fits_last, front_legal, scan_step}
 use Rattle.tied_lists.specs.Calls.{IsOut, NoEnd}
 use Rattle.tied_lists.specs.Items.{Called, Came, Ended, Items, Kind, kind_in, kind_of_sort}
+use Rattle.tied_lists.specs.Items.{no_items}
 use Rattle.tied_lists.proofs.Boxes.{count-cons, count-push}
 use Rattle.joint_history.specs.Complete.{EndsEachCall}
-use Rattle.joint_history.specs.Reading.{controller_at, has_ended_at, is_ours, item_next}
-use Rattle.joint_history.specs.Reading.{items_of}
+use Rattle.joint_history.specs.Reading.{controller_at, has_ended_at, is_off_at, is_ours, item_next}
+use Rattle.joint_history.specs.Reading.{items_after, items_of}
 use Rattle.joint_history.proofs.Collected.{CallLaws, history-follows}
-use Rattle.joint_history.proofs.Items.{items-one}
 use Rattle.turn_laws.specs.KeepsOn.{IsDone}
 
 clash : {C : Type 0} {b : Bool} → b ≡ true → b ≡ false → C
@@ -170,13 +170,13 @@ open-not false over' f = refl
 
 -- ---- one more entry
 
+pub items-join : (a : Items) (xs ys : List Entry)
+    → items_after a (xs ++ ys) ≡ items_after (items_after a xs) ys
+items-join a [] ys = refl
+items-join a (x ∷ xs) ys = items-join (item_next a x) xs ys
+
 pub items-push : (h : List Entry) (e : Entry) → items_of (h ++ e ∷ []) ≡ item_next (items_of h) e
-items-push h e = items-one true h e (h ++ e ∷ []) (record {
-  between = [];
-  others = refl;
-  none_alone = λ is. refl;
-  after_is = ap (λ l. l ++ e ∷ []) (sym (append-nil h));
-})
+items-push h e = items-join no_items h (e ∷ [])
 
 module _ (f : Fixed) where
   no-step : (h : List Entry) (e : Entry) → has_ended_at f h ≡ true → maker_of e ≡ makers.Scan
@@ -216,6 +216,73 @@ module _ (f : Fixed) where
       let k = kept-out (is_ours e) e (filter is_ours more) none in
       let joined = subst (IsLegal f) (sym (append_assoc h (e ∷ []) more)) legal in
       absurd (no-step h e ended (not-ours e k.0) (front_legal f (h ++ e ∷ []) more joined))
+
+  -- what is said then of scans, power and failures stays
+  pub record EndedGoes (h new : List Entry) : Type 0 where
+    pub ended : has_ended_at f new ≡ true
+    pub off : is_off_at f new ≡ is_off_at f h
+    pub fails : (items_of new).fails ≡ (items_of h).fails
+
+  goes-by : (h : List Entry) (e : Entry) → maker_of e ≡ makers.Communication
+      → (apply f (replay f h) e).powered ≡ (replay f h).powered
+      → (item_next (items_of h) e).fails ≡ (items_of h).fails
+      → has_ended_at f h ≡ true → EndedGoes h (h ++ e ∷ [])
+  goes-by h e of powered fails ended = record {
+    ended = ended_stays (controller_at f h) (e ∷ []) (of, tt) ∙ ended;
+    off = ap (λ (s : ControllerState). not s.powered) (replay_more f (start f.plan) h e)
+        ∙ ap not powered;
+    fails = ap (λ (a : Items). a.fails) (items-push h e) ∙ fails;
+  }
+
+  goes-push : (h : List Entry) (e : Entry) → IsLegal f (h ++ e ∷ []) → has_ended_at f h ≡ true
+      → EndedGoes h (h ++ e ∷ [])
+  goes-push h entries.Begin legal ended = absurd (no-step h entries.Begin ended refl legal)
+  goes-push h (entries.Input row) legal ended =
+      absurd (no-step h (entries.Input row) ended refl legal)
+  goes-push h (entries.Solve row) legal ended =
+      absurd (no-step h (entries.Solve row) ended refl legal)
+  goes-push h (entries.Output row words) legal ended =
+      absurd (no-step h (entries.Output row words) ended refl legal)
+  goes-push h entries.End legal ended = absurd (no-step h entries.End ended refl legal)
+  goes-push h entries.Fail legal ended = absurd (no-step h entries.Fail ended refl legal)
+  goes-push h entries.Dark legal ended = absurd (no-step h entries.Dark ended refl legal)
+  goes-push h (entries.Collect calls) legal ended =
+      goes-by h (entries.Collect calls) refl refl refl ended
+  goes-push h (entries.Peer id request reply) legal ended =
+      goes-by h (entries.Peer id request reply) refl refl refl ended
+  goes-push h (entries.Off id request) legal ended =
+      goes-by h (entries.Off id request) refl refl refl ended
+  goes-push h (entries.Finish id result) legal ended =
+      goes-by h (entries.Finish id result) refl refl refl ended
+
+  pub ended-goes : (h more : List Entry) → IsLegal f (h ++ more) → has_ended_at f h ≡ true
+      → EndedGoes h (h ++ more)
+  ended-goes h [] legal ended = subst (EndedGoes h) (sym (append-nil h))
+      (record { ended = ended; off = refl; fails = refl })
+  ended-goes h (e ∷ more) legal ended =
+      let joined = subst (IsLegal f) (sym (append_assoc h (e ∷ []) more)) legal in
+      let one = goes-push h e (front_legal f (h ++ e ∷ []) more joined) ended in
+      let all = ended-goes (h ++ e ∷ []) more joined one.ended in
+      subst (EndedGoes h) (append_assoc h (e ∷ []) more) (record {
+        ended = all.ended;
+        off = all.off ∙ one.off;
+        fails = all.fails ∙ one.fails;
+      })
+
+  -- and only events of the communication come
+  pub ended-ours : (h more : List Entry) → IsLegal f (h ++ more) → has_ended_at f h ≡ true
+      → filter is_ours more ≡ more
+  ended-ours h [] legal ended = refl
+  ended-ours h (e ∷ more) legal ended =
+      let joined = subst (IsLegal f) (sym (append_assoc h (e ∷ []) more)) legal in
+      let front = front_legal f (h ++ e ∷ []) more joined in
+      at (is_ours e) refl front
+      (ended-ours (h ++ e ∷ []) more joined (ended-goes h (e ∷ []) front ended).ended)
+    where
+      at : (b : Bool) → is_ours e ≡ b → IsLegal f (h ++ e ∷ []) → filter is_ours more ≡ more
+          → cond b (e ∷ filter is_ours more) (filter is_ours more) ≡ e ∷ more
+      at true mine front rest = ap (λ l. e ∷ l) rest
+      at false other front rest = absurd (no-step h e ended (not-ours e other) front)
 
 module _ (laws : CallLaws) (f : Fixed) where
   out-is : (h : List Entry) → IsLegal f h → (id : CallId)

@@ -1,5 +1,5 @@
 -- The steps that are due in a scan: one of them is its last, and that one comes last.
-use Rattle.std.proofs.Common.{◌≡◌, ℕ, suc, ◌-◌, ◌==◌, Bool, true, false, List, [], ◌∷◌, ◌++◌, length}
+use Rattle.std.proofs.Common.{◌≡◌, ℕ, suc, ◌-◌, Bool, true, false, List, [], ◌∷◌, ◌++◌, length}
 use Rattle.std.proofs.Common.{Option, Some, None, refl, ap}
 use Rattle.std.specs.Prelude.{if◌then◌else◌}
 use Rattle.std.specs.List.{flat_map, range_with_len}
@@ -47,11 +47,11 @@ no-ends-rows plan (row ∷ rows) = no-ends-both (row_steps plan row) (flat_map (
     (no-ends-row plan row) (no-ends-rows plan rows)
 
 -- the steps of a scan with power, but its End
-abbrev before-end : ControllerPlan → List ScanStep
+abbrev pub before-end : ControllerPlan → List ScanStep
 before-end plan =
     steps.Begin ∷ flat_map (row_steps plan) (range_with_len 1 (suc (length plan.orders) - 1))
 
-no-ends-before : (plan : ControllerPlan) → NoEnds (before-end plan)
+pub no-ends-before : (plan : ControllerPlan) → NoEnds (before-end plan)
 no-ends-before plan =
     (refl, no-ends-rows plan (range_with_len 1 (suc (length plan.orders) - 1)))
 

@@ -16,7 +16,7 @@ use Rattle.tied_lists.specs.Items.{AController, AHost, NetCall, no_items}
 use Rattle.tied_lists.specs.Own.{own}
 use Rattle.tied_lists.specs.Tied.{Tied}
 use Rattle.tied_lists.specs.Waits.{IsOnRing, waiting}
-use Rattle.tied_lists.proofs.Turns.{own-found}
+use Rattle.tied_lists.proofs.Turns.{on-others, own-found}
 use Rattle.comm_port.specs.Sides.{RamSideIs, RingSideIs}
 use Rattle.joint_history.specs.Reading.{host_items_of, items_of}
 use Rattle.comm_port.specs.Worker.{IsMemberWorker, Standing, WorkerIs}
@@ -30,7 +30,12 @@ pub stands-of : {P Q : Type 0} (w : WorkerIs) (ram : RamSideIs P) (known : List 
 stands-of w ram known side ring member legal s = record {
   node = s.node;
   legal = legal;
-  on = record { members = member.members; legal = s.legal; member = member.member };
+  on = record {
+    members = member.members;
+    legal = s.legal;
+    member = member.member;
+    patient = s.patient;
+  };
   tied = s.tied;
   waits = λ path f is. (NetCall, s.waits.outs path f (s.waits.waits path ∙ is));
 }
@@ -57,7 +62,14 @@ stands-start fixed net n ring node on none = record {
   legal = record { each = first-fits fixed; due = (all_due fixed, refl) };
   on = on;
   tied = subst (Tied AController no_items) (sym none)
-      (record { asks = refl; peers = refl; port = refl; replies = refl; ends = refl });
+      (record {
+        asks = refl;
+        peers = refl;
+        port = refl;
+        replies = refl;
+        ends = refl;
+        downs = (tt, tt);
+      });
   waits = λ path f is. absurd (let no' : None ≡ Some f = sym (ap (waiting path) none) ∙ is in cc);
 }
 
@@ -70,7 +82,7 @@ stands-others fixed net n entries ring more legal none s =
     record {
       node = s.node;
       legal = s.legal;
-      on = record { members = s.on.members; legal = legal; member = s.on.member };
+      on = on-others net n ring more s.on legal none;
       tied = subst (Tied AController (items_of entries)) (sym same) s.tied;
       waits = λ path f is. s.waits path f (sym (ap (waiting path) same) ∙ is);
     }
@@ -81,6 +93,6 @@ pub host-stands-others : (plan : HostPlan) (net : NetPlan) (list : List HostEntr
     → HostStandsTied plan net list (ring ++ more)
 host-stands-others plan net list ring more legal none s = record {
   legal = s.legal;
-  on = record { members = s.on.members; legal = legal; member = s.on.member };
+  on = on-others net plan.node ring more s.on legal none;
   tied = subst (Tied AHost (host_items_of list)) (sym (own-found plan.node ring more none)) s.tied;
 }

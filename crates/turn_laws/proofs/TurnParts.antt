@@ -1,6 +1,6 @@
 -- What a turn adds to a controller's lists, part by part.
 use Rattle.std.proofs.Common.{◌≡◌, ℕ, Bool, true, List, [], ◌∷◌, ◌++◌, Option, ap, subst, ◌∙◌}
-use Rattle.std.proofs.Common.{append_assoc, append-nil}
+use Rattle.std.proofs.Common.{append_assoc, append-nil, sym}
 use Rattle.plant_types.specs.declared.net.NetPlan.{NetPlan}
 use Rattle.ring_core.specs.declared.entry.LeaveCause.{LeaveCause}
 use Rattle.ring_core.specs.declared.entry.RingEntry.{RingEntry}
@@ -10,11 +10,12 @@ use Rattle.controller_core.specs.declared.entry.Entry.{Entry}
 use Rattle.controller_core.specs.declared.fixed.Fixed.{Fixed}
 use Rattle.controller_core.specs.Controller.{IsLegal}
 use Rattle.controller_core.proofs.NextEntry.{front_legal}
+use Rattle.tied_lists.specs.Items.{latest_down}
 use Rattle.tied_lists.specs.Own.{is_of, own}
 use Rattle.tied_lists.proofs.Growth.{grew-ours}
 use Rattle.comm_port.specs.Leaving.{cause_due, last_entry}
 use Rattle.joint_history.specs.Reading.{has_ended_at}
-use Rattle.comm_port.specs.HoldTurn.{HoldsTurn}
+use Rattle.comm_port.specs.HoldTurn.{WorksTurn}
 use Rattle.comm_port.specs.Parts.{calls_waiting}
 use Rattle.comm_port.proofs.Asked.{BothAsked, both-asked}
 use Rattle.turn_laws.proofs.Rests.{ended-alone}
@@ -24,7 +25,7 @@ use Rattle.turn_laws.proofs.Went.{went-serves, went-then}
 module _ (fixed : Fixed) (alone_ram alone_ring : Bool) (net : NetPlan) (n : ℕ) (budget left : Bool)
     (known new_known : List Entry)
     (ring new_ring : List RingEntry)
-    (t : HoldsTurn alone_ram alone_ring fixed net n budget known new_known ring new_ring left) where
+    (t : WorksTurn alone_ram alone_ring fixed net n budget known new_known ring new_ring left) where
   -- up to the end
   pub went : Went n known t.given_known ring t.given_ring
   went =
@@ -40,8 +41,8 @@ module _ (fixed : Fixed) (alone_ram alone_ring : Bool) (net : NetPlan) (n : ℕ)
       t.given_ring t.gives_up)
 
   -- and with the questions
-  abbrev pub both : BothAsked alone_ram fixed (calls_waiting n t.given_ring ≡ []) t.given_known
-      t.ends.asked_known t.ends.done
+  abbrev pub both : BothAsked alone_ram fixed (latest_down (own n t.given_ring))
+      (calls_waiting n t.given_ring ≡ []) t.given_known t.ends.asked_known t.ends.done
   both = both-asked t.ends.asked
 
   pub asks-first : Went n known both.at_end ring t.given_ring
@@ -74,19 +75,35 @@ module _ (fixed : Fixed) (alone_ram alone_ring : Bool) (net : NetPlan) (n : ℕ)
       ∙ append_assoc (own n ring) went.done (e ∷ gives.done)
 
   -- nothing is noted behind the questions of a controller whose scans have ended
+  pub record Stood : Type 0 where
+    pub asked : new_known ≡ t.ends.asked_known
+    pub fails : new_known ≡ both.at_fails
+    pub first : new_known ≡ both.at_end
+
   pub still : has_ended_at fixed both.at_end ≡ true → t.ends.gives_up.noted ≡ []
-      → IsLegal fixed new_known
-      → (new_known ≡ t.ends.asked_known) × (new_known ≡ both.at_end)
+      → IsLegal fixed new_known → Stood
   still ended none legal =
       let asked-is : t.ends.asked_known ≡ both.at_end ++ both.then_on.between =
       both.then_on.after_is ∙ append-nil (both.at_end ++ both.then_on.between) in
+      let third-is : t.ends.asked_known ≡ both.at_fails ++ both.third.between =
+      both.third.after_is ∙ append-nil (both.at_fails ++ both.third.between) in
+      let second-is : both.at_fails ≡ both.at_end ++ both.second.between =
+      both.second.after_is ∙ append-nil (both.at_end ++ both.second.between) in
       let legal-asked : IsLegal fixed t.ends.asked_known =
       front_legal fixed t.ends.asked_known t.ends.gives_up.station.more
       (subst (IsLegal fixed) t.ends.gives_up.station.after_is legal) in
+      let legal-fails : IsLegal fixed both.at_fails =
+      front_legal fixed both.at_fails both.third.between
+      (subst (IsLegal fixed) third-is legal-asked) in
       let same-asked : t.ends.asked_known ≡ both.at_end =
       asked-is ∙ ap (λ l. both.at_end ++ l)
       (ended-alone fixed both.at_end both.then_on.between ended
       (subst (IsLegal fixed) asked-is legal-asked) both.then_on.others)
+      ∙ append-nil both.at_end in
+      let same-fails : both.at_fails ≡ both.at_end =
+      second-is ∙ ap (λ l. both.at_end ++ l)
+      (ended-alone fixed both.at_end both.second.between ended
+      (subst (IsLegal fixed) second-is legal-fails) both.second.others)
       ∙ append-nil both.at_end in
       let same-new : new_known ≡ t.ends.asked_known =
       t.ends.gives_up.station.after_is ∙ ap (λ l. t.ends.asked_known ++ l)
@@ -95,4 +112,8 @@ module _ (fixed : Fixed) (alone_ram alone_ring : Bool) (net : NetPlan) (n : ℕ)
       (subst (IsLegal fixed) t.ends.gives_up.station.after_is legal)
       (t.ends.gives_up.station.ours_are ∙ none))
       ∙ append-nil t.ends.asked_known in
-      (same-new, same-new ∙ same-asked)
+      record {
+        asked = same-new;
+        fails = same-new ∙ same-asked ∙ sym same-fails;
+        first = same-new ∙ same-asked;
+      }

@@ -1,5 +1,5 @@
 -- What the parts of a controller's turn add to its lists.
-use Rattle.std.proofs.Common.{◌≡◌, ℕ, Bool, true, false, List, [], ◌∷◌, ◌++◌, map}
+use Rattle.std.proofs.Common.{◌≡◌, ℕ, ◌+◌, Bool, true, false, List, [], ◌∷◌, ◌++◌, map}
 use Rattle.std.proofs.Common.{filter, filter_map, Option, Some, None, refl, sym, ap, subst, ◌∙◌}
 use Rattle.std.proofs.Common.{append_assoc, append-nil}
 use Rattle.std.specs.Prelude.{◌||◌, if◌then◌else◌}
@@ -13,7 +13,7 @@ use Rattle.plant_types.specs.declared.net.NetPlan.{NetPlan}
 use Rattle.ring_core.specs.declared.entry.LocalOp.{LocalOp}
 use Rattle.ring_core.specs.declared.entry.RingEntry.{RingEntry}
 use Rattle.ring_core.specs.declared.entry.RingEntry.TheVariants.{Post, Send, Take, Local, GiveUp}
-use Rattle.ring_core.specs.declared.entry.RingEntry.TheVariants.{Pass, Leave}
+use Rattle.ring_core.specs.declared.entry.RingEntry.TheVariants.{Pass, Leave, Join}
 use Rattle.ring_core.specs.declared.frame.FrameKind.{FrameKind}
 use Rattle.ring_core.specs.declared.frame.FrameKind.TheVariants.{Request, Reply}
 use Rattle.ring_core.specs.declared.frame.Frame.{Frame}
@@ -24,9 +24,10 @@ use Rattle.controller_core.specs.declared.call.CallKind.TheVariants as kinds
 use Rattle.controller_core.specs.declared.entry.Entry.{Entry}
 use Rattle.controller_core.specs.declared.entry.Entry.TheVariants as entries
 use Rattle.controller_core.specs.declared.fixed.Fixed.{Fixed}
+use Rattle.controller_core.specs.Event.{peer_entry}
 use Rattle.tied_lists.specs.Calls.{NoEnd}
 use Rattle.tied_lists.specs.Items.{Called, Ended, Items, Kind, LocalCall, NetCall, kind_in}
-use Rattle.tied_lists.specs.Items.{kind_of_sort, no_items, with_calls}
+use Rattle.tied_lists.specs.Items.{kind_of_sort, no_items, with_calls, with_fails}
 use Rattle.tied_lists.specs.Own.{is_of, own, Grew, WentOn}
 use Rattle.tied_lists.proofs.Asked.{kind-more}
 use Rattle.tied_lists.proofs.Growth.{grew-ours}
@@ -38,9 +39,10 @@ use Rattle.comm_port.specs.Giving.{each_path}
 use Rattle.comm_port.specs.SendsAll.{IsNextSending}
 use Rattle.comm_port.proofs.Parts.{each-added}
 use Rattle.comm_port.specs.HoldTurn.{IsServed, MadeAs, EndedAs, SendsAll, ServedAs, finish_of}
+use Rattle.comm_port.specs.HoldTurn.{reply_entries}
 use Rattle.turn_laws.specs.KeepsOn.{DidAtHome}
 use Rattle.turn_laws.proofs.Passes.{IsInner, each-join}
-use Rattle.turn_laws.proofs.Rests.{end-none, over}
+use Rattle.turn_laws.proofs.Rests.{end-none, items-join, over}
 
 -- ---- items of what a controller notes
 
@@ -51,20 +53,39 @@ is_collect _ = false
 abbrev pub IsNoCollect : Entry → Type 0
 IsNoCollect e = is_collect e ≡ false
 
-items-join : (a : Items) (xs ys : List Entry)
-    → items_after a (xs ++ ys) ≡ items_after (items_after a xs) ys
-items-join a [] ys = refl
-items-join a (x ∷ xs) ys = items-join (item_next a x) xs ys
+-- what comes behind them leaves how often power failed
+fails-apart : (a : Items) (k fails : ℕ) (xs : List Entry)
+    → with_fails (items_after (with_fails a k) xs) fails ≡ with_fails (items_after a xs) fails
+fails-apart a k fails [] = refl
+fails-apart a k fails (entries.Begin ∷ xs) = fails-apart a k fails xs
+fails-apart a k fails (entries.Input row ∷ xs) = fails-apart a k fails xs
+fails-apart a k fails (entries.Solve row ∷ xs) = fails-apart a k fails xs
+fails-apart a k fails (entries.Output row words ∷ xs) = fails-apart a k fails xs
+fails-apart a k fails (entries.End ∷ xs) = fails-apart a k fails xs
+fails-apart a k fails (entries.Fail ∷ xs) =
+    fails-apart a (k + 1) fails xs ∙ sym (fails-apart a (a.fails + 1) fails xs)
+fails-apart a k fails (entries.Dark ∷ xs) = fails-apart a k fails xs
+fails-apart a k fails (entries.Collect calls ∷ xs) =
+    fails-apart (item_next a (entries.Collect calls)) k fails xs
+fails-apart a k fails (entries.Peer id request reply ∷ xs) =
+    fails-apart (item_next a (entries.Peer id request reply)) k fails xs
+fails-apart a k fails (entries.Off id request ∷ xs) =
+    fails-apart (item_next a (entries.Off id request)) k fails xs
+fails-apart a k fails (entries.Finish id result ∷ xs) =
+    fails-apart (item_next a (entries.Finish id result)) k fails xs
 
--- events of the scan are none
-items-ours : (a : Items) (xs : List Entry) → items_after a xs ≡ items_after a (filter is_ours xs)
-items-ours a [] = refl
+-- events of the scan are none but power failures
+items-ours : (a : Items) (xs : List Entry) → (fails : ℕ)
+    × (items_after a xs ≡ with_fails (items_after a (filter is_ours xs)) fails)
+items-ours a [] = (a.fails, refl)
 items-ours a (entries.Begin ∷ xs) = items-ours a xs
 items-ours a (entries.Input row ∷ xs) = items-ours a xs
 items-ours a (entries.Solve row ∷ xs) = items-ours a xs
 items-ours a (entries.Output row words ∷ xs) = items-ours a xs
 items-ours a (entries.End ∷ xs) = items-ours a xs
-items-ours a (entries.Fail ∷ xs) = items-ours a xs
+items-ours a (entries.Fail ∷ xs) =
+    let more = items-ours (with_fails a (a.fails + 1)) xs in
+    (more.0, more.1 ∙ fails-apart a (a.fails + 1) more.0 (filter is_ours xs))
 items-ours a (entries.Dark ∷ xs) = items-ours a xs
 items-ours a (entries.Collect calls ∷ xs) = items-ours (item_next a (entries.Collect calls)) xs
 items-ours a (entries.Peer id request reply ∷ xs) =
@@ -74,10 +95,25 @@ items-ours a (entries.Off id request ∷ xs) =
 items-ours a (entries.Finish id result ∷ xs) =
     items-ours (item_next a (entries.Finish id result)) xs
 
-pub items-grew : (h more noted : List Entry) → filter is_ours more ≡ noted
-    → items_of (h ++ more) ≡ items_after (items_of h) noted
-items-grew h more noted are = items-join no_items h more ∙ items-ours (items_of h) more
-    ∙ ap (items_after (items_of h)) are
+pub items-grew : (h more noted : List Entry) → filter is_ours more ≡ noted → (fails : ℕ)
+    × (items_of (h ++ more) ≡ with_fails (items_after (items_of h) noted) fails)
+items-grew h more noted are =
+    let own = items-ours (items_of h) more in (
+      own.0,
+      items-join no_items h more ∙ own.1
+          ∙ ap (λ (l : List Entry). with_fails (items_after (items_of h) l) own.0) are,
+    )
+
+-- how often power failed has no part in it
+home-fails : (a : Items) (fails : ℕ) → DidAtHome a → DidAtHome (with_fails a fails)
+home-fails a fails did id op out =
+    did id op (record { made = out.made; unended = out.unended })
+
+home-grew : (h more noted : List Entry) → filter is_ours more ≡ noted
+    → DidAtHome (items_after (items_of h) noted) → DidAtHome (items_of (h ++ more))
+home-grew h more noted are did =
+    let grew = items-grew h more noted are in
+    subst DidAtHome (sym grew.1) (home-fails (items_after (items_of h) noted) grew.0 did)
 
 -- ---- operations at home that are done
 
@@ -203,8 +239,12 @@ served-quiet n f Reply stats noted done is =
     quiet-as noted _ done _ is.1 is.2 (record { notes = (refl, tt); does = (refl, tt) })
 served-quiet n f Request true noted done is =
     quiet-as noted _ done _ is.3 is.4 (record { notes = tt; does = (refl, (refl, (refl, tt))) })
-served-quiet n f Request false noted done is =
-    quiet-as noted _ done _ is.1 is.2 (record { notes = (refl, tt); does = (refl, (refl, tt)) })
+served-quiet n f Request false noted done is = quiet-as noted _ done _ is.1 is.2 (by-reply is.0)
+  where
+    by-reply : (reply : Option (List ℕ))
+        → IsQuiet (peer_entry f.id f.pdu reply ∷ []) (Take n f ∷ reply_entries n f.id reply)
+    by-reply None = record { notes = (refl, tt); does = (refl, tt) }
+    by-reply (Some reply) = record { notes = (refl, tt); does = (refl, (refl, tt)) }
 
 is_served-quiet : (n : ℕ) (f : Frame) (noted : List Entry) (done : List RingEntry)
     → IsServed n f noted done → IsQuiet noted done
@@ -391,8 +431,8 @@ went-ask n alone a b x w = record {
   done = [];
   own_is = sym (append-nil (own n x));
   quiet = tt;
-  home = λ did. subst DidAtHome (sym (ap items_of (w.after_is ∙ append-nil (a ++ w.between))
-      ∙ items-grew a w.between [] w.others)) did;
+  home = λ did. subst (λ (l : List Entry). DidAtHome (items_of l))
+      (sym (w.after_is ∙ append-nil (a ++ w.between))) (home-grew a w.between [] w.others did);
 }
 
 -- by what is due
@@ -406,8 +446,8 @@ went-due n alone alone' noted done a b x y g h quiet home = record {
   done = done;
   own_is = grew-ours alone' (is_of n) x done y h;
   quiet = quiet;
-  home = λ did. subst DidAtHome
-      (sym (ap items_of g.after_is ∙ items-grew a g.more noted g.ours_are)) (home did);
+  home = λ did. subst (λ (l : List Entry). DidAtHome (items_of l)) (sym g.after_is)
+      (home-grew a g.more noted g.ours_are (home did));
 }
 
 pub went-part : {X : Type 0} (n : ℕ) (alone alone' : Bool)
@@ -471,6 +511,7 @@ sending-quiet net n past (Local m id op result) is = refl
 sending-quiet net n past (GiveUp id word) is = refl
 sending-quiet net n past (Pass m done words) is = absurd is
 sending-quiet net n past (Leave m cause) is = absurd is
+sending-quiet net n past (Join m) is = absurd is
 
 finish-notes : (o : Option Entry) (e : RingEntry) → finish_of e ≡ o → (rest : List Entry)
     → Each IsNoCollect rest → Each IsNoCollect (cons_option o rest)
@@ -486,6 +527,7 @@ finish-notes (Some x) e is rest all = (at e is, all)
         let same : entries.Finish id (Bad word) ≡ x = cc in ap is_collect (sym same)
     at (Pass m done words) is' = absurd (let no' : None ≡ Some x = is' in cc)
     at (Leave m cause) is' = absurd (let no' : None ≡ Some x = is' in cc)
+    at (Join m) is' = absurd (let no' : None ≡ Some x = is' in cc)
 
 all-notes : (done : List RingEntry) → Each IsNoCollect (filter_map finish_of done)
 all-notes [] = tt

@@ -1,6 +1,6 @@
 -- What the lists of a station keep from turn to turn. This project's own.
 use Rattle.std.specs.Prelude.{◌≡◌, ℕ, Bool, true, false, List, [], Some}
-use Rattle.std.specs.List.{All}
+use Rattle.std.specs.List.{All, Contains}
 use Rattle.plant_types.specs.declared.net.NetPlan.{NetPlan}
 use Rattle.plant_types.specs.declared.net.HostPlan.{HostPlan}
 use Rattle.plant_types.specs.declared.plan.ControllerPlan.{ControllerPlan}
@@ -8,10 +8,12 @@ use Rattle.plant_types.specs.declared.plan.Plant.{Plant}
 use Rattle.mstr_block.specs.declared.call.CallId.{CallId}
 use Rattle.ring_core.specs.declared.frame.Frame.{Frame}
 use Rattle.ring_core.specs.declared.entry.LeaveCause.{LeaveCause}
-use Rattle.ring_core.specs.declared.entry.LeaveCause.TheVariants.{Ended, Spent}
+use Rattle.ring_core.specs.declared.entry.LeaveCause.TheVariants.{Ended, Spent, Down}
 use Rattle.ring_core.specs.declared.entry.LocalOp.{LocalOp}
 use Rattle.ring_core.specs.declared.entry.RingEntry.{RingEntry}
 use Rattle.ring_core.specs.declared.entry.RingEntry.TheVariants.{Pass, Leave}
+use Rattle.ring_core.specs.declared.status.NodeStatus.{NodeStatus}
+use Rattle.ring_core.specs.declared.status.NodeStatus.TheVariants.{In, Away, Asking, Gone}
 use Rattle.controller_core.specs.declared.fixed.Fixed.{Fixed}
 use Rattle.controller_core.specs.declared.entry.Entry.{Entry}
 use Rattle.controller_core.specs.Controller.{IsLegal}
@@ -20,19 +22,38 @@ use Rattle.host_port.specs.Calls.{unanswered_in}
 use Rattle.host_port.specs.Host.{host_is_done}
 use Rattle.host_port.specs.Legal.{IsHostHistory}
 use Rattle.tied_lists.specs.Own.{own}
-use Rattle.tied_lists.specs.Items.{Items, AController, AHost, LocalCall}
+use Rattle.tied_lists.specs.Items.{Items, AController, AHost, LocalCall, latest_down}
 use Rattle.tied_lists.specs.Tied.{Tied}
 use Rattle.tied_lists.specs.Calls.{IsOut, IsOutAs}
-use Rattle.tied_lists.specs.Waits.{HasLeft, IsOnRing, waiting}
+use Rattle.tied_lists.specs.Waits.{HasLeft, IsOnRing, status_at, waiting}
+use Rattle.comm_port.specs.declared.turn_end.TurnEnd.{TurnEnd}
+use Rattle.comm_port.specs.declared.turn_end.TurnEnd.TheVariants as ends
 use Rattle.comm_port.specs.Parts.{calls_waiting}
 use Rattle.joint_history.specs.declared.joint.ControllerLog.{ControllerLog}
 use Rattle.joint_history.specs.declared.joint.HostLog.{HostLog}
 use Rattle.joint_history.specs.JointLaws.{fixed_of}
 use Rattle.joint_history.specs.Nets.{net_of}
 use Rattle.joint_history.specs.Reading.{items_of, host_items_of, has_ended_at, has_started_at}
+use Rattle.joint_history.specs.Reading.{is_off_at}
 use Rattle.joint_history.specs.Complete.{EndsEachCall, StandsIn, RepliesBeforePasses, StaysDone}
 use Rattle.joint_history.specs.Complete.{AsksInItsHolds, AsksAllBeforeDone}
 use Rattle.time_laws.specs.InTime.{StaysInTime, HostStaysInTime}
+
+-- ---- Where a node stands.
+
+-- A node is out of the ring: it is gone; or it is away, and this keeps it away.
+abbrev pub is_out_of_ring : Bool → NodeStatus → Bool
+is_out_of_ring stays In = false
+is_out_of_ring stays Away = stays
+is_out_of_ring stays Asking = false
+is_out_of_ring stays Gone = true
+
+-- A turn that ended so left the node out of the ring.
+abbrev pub leaves_out : TurnEnd → Bool
+leaves_out ends.Passed = false
+leaves_out ends.Left = true
+leaves_out ends.Away = true
+leaves_out ends.Asking = false
 
 -- ---- Controllers.
 
@@ -71,14 +92,22 @@ pub record IsGone (net : NetPlan) (n : ℕ) (ring : List RingEntry) : Type 0 whe
   pub left : HasLeft net ring n
   pub idle : calls_waiting n ring ≡ []
 
+-- A controller ended with its node: its scans are gone, and each of its failures is noticed.
+pub record EndedNoticed (fixed : Fixed) (entries : List Entry) (own_list : List RingEntry)
+    : Type 0 where
+  pub ended : has_ended_at fixed entries ≡ true
+  pub noticed : (items_of entries).fails ≡ latest_down own_list
+
 -- What a complete run says of a node's Passes holds so far; once a Pass said done the controller
--- is; each operation at home that was collected has ended; a node that left is gone; and nothing
--- came before its cause.
+-- is; where the node left as all was done its controller ended with it; each operation at home that
+-- was collected has ended; of a node that left no call waits; and nothing came before its cause.
 pub record KeepsOn (fixed : Fixed) (net : NetPlan) (n : ℕ) (entries : List Entry)
     (ring : List RingEntry) (left : Bool) : Type 0 where
-  pub replied : RepliesBeforePasses (own n ring)
+  pub replied : RepliesBeforePasses (items_of entries) (own n ring)
   pub stays : StaysDone (own n ring)
   pub said : SaidDone (own n ring) → IsDone fixed entries
+  pub noticed : (m : ℕ) → Contains (own n ring) (Leave m Ended)
+      → EndedNoticed fixed entries (own n ring)
   pub at_home : DidAtHome (items_of entries)
   pub gone : left ≡ true → IsGone net n ring
   pub timely : StaysInTime n entries ring
@@ -92,17 +121,17 @@ pub record HostStandsTied (plan : HostPlan) (net : NetPlan) (history : List Host
   pub on : IsOnRing net ring plan.node
   pub tied : Tied AHost (host_items_of history) (own plan.node ring)
 
--- A host's node has left, and each of its requests has an answer.
+-- A host's node is gone, and each of its requests has an answer.
 pub record HostIsGone (plan : HostPlan) (net : NetPlan) (history : List HostEntry)
     (ring : List RingEntry) : Type 0 where
-  pub left : HasLeft net ring plan.node
+  pub gone : status_at net ring plan.node ≡ Gone
   pub answered : unanswered_in history ≡ []
 
 -- What a complete run says of a host's Passes and Requests holds so far; once a Pass said done the
 -- host is done; a host whose node left is gone; and nothing came before its cause.
 pub record HostKeepsOn (plan : HostPlan) (net : NetPlan) (history : List HostEntry)
     (ring : List RingEntry) (left : Bool) : Type 0 where
-  pub replied : RepliesBeforePasses (own plan.node ring)
+  pub replied : RepliesBeforePasses (host_items_of history) (own plan.node ring)
   pub stays : StaysDone (own plan.node ring)
   pub said : SaidDone (own plan.node ring)
       → host_is_done (record { plan = plan; history = history }) ≡ true
@@ -117,6 +146,7 @@ pub record HostKeepsOn (plan : HostPlan) (net : NetPlan) (history : List HostEnt
 abbrev pub is_spent_cause : LeaveCause → Bool
 is_spent_cause Spent = true
 is_spent_cause Ended = false
+is_spent_cause (Down number) = false
 
 abbrev pub leaves_spent : RingEntry → Bool
 leaves_spent (Leave n cause) = is_spent_cause cause
@@ -128,7 +158,8 @@ NoneSpent list = All (λ (entry : RingEntry). leaves_spent entry ≡ false) list
 
 -- ---- A run that is over.
 
--- A controller has finished: its node is gone, its scans have ended, and its calls were collected.
+-- A controller has finished: its scans have ended, its calls were collected, and its node is gone,
+-- or away without power.
 pub record HasFinished (plant : Plant) (scans : ℕ) (ring : List RingEntry) (plan : ControllerPlan)
     (log : ControllerLog) : Type 0 where
   pub stands : StandsTied (fixed_of plant scans plan) (net_of plant log.node) log.node log.entries
@@ -137,6 +168,8 @@ pub record HasFinished (plant : Plant) (scans : ℕ) (ring : List RingEntry) (pl
       true
   pub ended : has_ended_at (fixed_of plant scans plan) log.entries ≡ true
   pub collected : has_started_at (fixed_of plant scans plan) log.entries ≡ false
+  pub out : is_out_of_ring (is_off_at (fixed_of plant scans plan) log.entries)
+      (status_at (net_of plant log.node) ring log.node) ≡ true
 
 -- A host has finished: its node is gone.
 pub record HostHasFinished (plant : Plant) (ring : List RingEntry) (plan : HostPlan)

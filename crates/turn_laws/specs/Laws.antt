@@ -1,5 +1,5 @@
 -- What turns, visits and scans keep, and what follows at the end of a run. This project's own.
-use Rattle.std.specs.Prelude.{◌≡◌, ℕ, Bool, true, false, List, [], ◌++◌, filter}
+use Rattle.std.specs.Prelude.{◌≡◌, ◌⊎◌, ℕ, ◌<◌, All, Bool, true, false, not, List, [], ◌++◌, filter}
 use Rattle.std.specs.List.{AllZip}
 use Rattle.plant_types.specs.declared.net.NetPlan.{NetPlan}
 use Rattle.plant_types.specs.declared.net.HostPlan.{HostPlan}
@@ -10,15 +10,31 @@ use Rattle.controller_core.specs.declared.fixed.Fixed.{Fixed}
 use Rattle.controller_core.specs.declared.entry.Entry.{Entry}
 use Rattle.controller_core.specs.Controller.{IsLegal}
 use Rattle.host_port.specs.declared.entry.HostEntry.{HostEntry}
-use Rattle.tied_lists.specs.Own.{own}
-use Rattle.comm_port.specs.HoldTurn.{HoldsTurn, VisitsEnd}
+use Rattle.tied_lists.specs.Own.{own, WentOn}
+use Rattle.comm_port.specs.declared.turn_end.TurnEnd.{TurnEnd}
+use Rattle.comm_port.specs.declared.turn_end.TurnEnd.TheVariants as ends
+use Rattle.comm_port.specs.declared.turn_end.TurnEnd.TheVariants.{Left}
+use Rattle.comm_port.specs.Failing.{ComesBack, IsAway}
+use Rattle.comm_port.specs.HoldTurn.{VisitsEnd}
+use Rattle.comm_port.specs.WholeTurn.{HoldsTurn}
 use Rattle.comm_port.specs.HostTurns.{HoldsHostTurn}
 use Rattle.turn_laws.specs.KeepsOn.{StandsTied, KeepsOn, HostStandsTied, HostKeepsOn}
-use Rattle.turn_laws.specs.KeepsOn.{HasFinished, HostHasFinished, NoneSpent}
+use Rattle.turn_laws.specs.KeepsOn.{HasFinished, HostHasFinished, NoneSpent, is_out_of_ring, leaves_out}
 use Rattle.joint_history.specs.declared.joint.Joint.{Joint}
 use Rattle.joint_history.specs.Complete.{ControllerIsComplete, HostIsComplete, NodeIsComplete}
-use Rattle.joint_history.specs.Complete.{IsComplete}
-use Rattle.joint_history.specs.Reading.{is_ours, has_ended_at, has_started_at, host_items_of}
+use Rattle.joint_history.specs.Complete.{ControllerIsOut, IsComplete}
+use Rattle.joint_history.specs.Reading.{is_ours, has_ended_at, has_started_at, is_off_at}
+use Rattle.joint_history.specs.Reading.{host_items_of, items_of}
+use Rattle.tied_lists.specs.Waits.{HasLeft, IsOnRing, has_left, status_at}
+use Rattle.comm_port.specs.Parts.{calls_waiting}
+use Rattle.ring_core.specs.Machine.{addresses, ring_after}
+use Rattle.ring_core.specs.declared.status.NodeStatus.{NodeStatus}
+use Rattle.ring_core.specs.declared.status.NodeStatus.TheVariants.{In, Away, Gone}
+
+-- A node is in; or it is 0, and each node is out of the ring.
+abbrev pub IsInOrNobody : NetPlan → List RingEntry → ℕ → Type 0
+IsInOrNobody net ring n = (status_at net ring n ≡ In)
+    ⊎ ((n ≡ 0) × ((m : ℕ) → has_left (status_at net ring m) ≡ true))
 
 -- A controller that has no entry yet, on a ring whose node has none, has all that turns keep.
 abbrev pub StartsKeep : Type 0
@@ -28,11 +44,21 @@ StartsKeep = (fixed : Fixed) (net : NetPlan) (n : ℕ) (ring : List RingEntry) �
 -- A hold of the token by a controller keeps it.
 abbrev pub TurnsKeepOn : Type 0
 TurnsKeepOn =
-    (alone_ram alone_ring : Bool) (fixed : Fixed) (net : NetPlan) (n : ℕ) (budget left : Bool)
-    (known new_known : List Entry) (ring new_ring : List RingEntry)
-    → HoldsTurn alone_ram alone_ring fixed net n budget known new_known ring new_ring left
+    (alone_ram alone_ring : Bool) (fixed : Fixed) (net : NetPlan) (n : ℕ) (budget : Bool)
+    (end : TurnEnd) (known new_known : List Entry) (ring new_ring : List RingEntry)
+    → HoldsTurn alone_ram alone_ring fixed net n budget known new_known ring new_ring end
     → StandsTied fixed net n known ring → StandsTied fixed net n new_known new_ring
-    → KeepsOn fixed net n known ring false → KeepsOn fixed net n new_known new_ring left
+    → KeepsOn fixed net n known ring false → KeepsOn fixed net n new_known new_ring (leaves_out end)
+
+-- So does the turn of a node that is away, which comes back or does not.
+abbrev pub AwayTurnsKeepOn : Type 0
+AwayTurnsKeepOn =
+    (alone_ram alone_ring : Bool) (fixed : Fixed) (net : NetPlan) (n : ℕ) (joined : Bool)
+    (known new_known : List Entry) (ring new_ring : List RingEntry)
+    → ComesBack alone_ram alone_ring fixed n known new_known ring new_ring joined
+    → IsAway net ring n
+    → StandsTied fixed net n known ring → StandsTied fixed net n new_known new_ring
+    → KeepsOn fixed net n known ring true → KeepsOn fixed net n new_known new_ring (not joined)
 
 -- A visit of a controller whose node has left keeps it.
 abbrev pub VisitsKeepOn : Type 0
@@ -57,14 +83,16 @@ OthersKeepOn =
     (left : Bool) → own n more ≡ []
     → KeepsOn fixed net n entries ring left → KeepsOn fixed net n entries (ring ++ more) left
 
--- A controller whose node is gone, whose scans have ended and whose calls were collected, is
--- complete.
+-- A controller whose scans have ended and whose calls were collected, and whose node is gone, or
+-- away without power, is complete.
 abbrev pub ControllersComplete : Type 0
 ControllersComplete =
     (fixed : Fixed) (net : NetPlan) (n : ℕ) (entries : List Entry) (ring : List RingEntry)
     → StandsTied fixed net n entries ring → KeepsOn fixed net n entries ring true
     → has_ended_at fixed entries ≡ true → has_started_at fixed entries ≡ false
-    → ControllerIsComplete fixed entries × NodeIsComplete net ring n
+    → is_out_of_ring (is_off_at fixed entries) (status_at net ring n) ≡ true
+    → ControllerIsComplete fixed entries × ControllerIsOut net ring n fixed entries
+    × NodeIsComplete (items_of entries) (own n ring)
 
 -- A host that has no entry yet has all that turns keep; a hold of the token keeps it, and so do
 -- entries of other nodes.
@@ -94,7 +122,8 @@ HostsComplete =
     (plan : HostPlan) (net : NetPlan) (list : List HostEntry) (ring : List RingEntry)
     → HostStandsTied plan net list ring → HostKeepsOn plan net list ring true
     → HostIsComplete plan (host_items_of list) (own plan.node ring)
-    × NodeIsComplete net ring plan.node
+    × (status_at net ring plan.node ≡ Gone)
+    × NodeIsComplete (host_items_of list) (own plan.node ring)
 
 -- A run all of whose stations have finished is complete.
 abbrev pub RunsComplete : Type 0
@@ -103,22 +132,86 @@ RunsComplete = (plant : Plant) (scans : ℕ) (joint : Joint)
     → AllZip (HostHasFinished plant joint.ring) plant.hosts joint.hosts
     → IsComplete plant scans joint
 
--- Where a worker has no budget its node leaves only once its controller's scans have ended and its
--- calls were collected.
+-- Where a turn that ended so leaves its node: as it came back it asks to come in, or is in already.
+abbrev pub StandsAs : TurnEnd → NodeStatus → Type 0
+StandsAs ends.Passed status = status ≡ In
+StandsAs ends.Left status = status ≡ Gone
+StandsAs ends.Away status = status ≡ Away
+StandsAs ends.Asking status = has_left status ≡ false
+
+-- Where a turn leaves its node; where that is away there is no power, and no call waits.
+pub record EndsWhere (fixed : Fixed) (net : NetPlan) (n : ℕ) (end : TurnEnd) (known : List Entry)
+    (ring : List RingEntry) : Type 0 where
+  pub stands : StandsAs end (status_at net ring n)
+  pub off : end ≡ ends.Away → is_off_at fixed known ≡ true
+  pub idle : end ≡ ends.Away → calls_waiting n ring ≡ []
+
+abbrev pub TurnsEndWhere : Type 0
+TurnsEndWhere =
+    (alone_ram alone_ring : Bool) (fixed : Fixed) (net : NetPlan) (n : ℕ) (budget : Bool)
+    (end : TurnEnd) (known new_known : List Entry) (ring new_ring : List RingEntry)
+    → HoldsTurn alone_ram alone_ring fixed net n budget known new_known ring new_ring end
+    → IsOnRing net ring n → IsLegalRing net new_ring
+    → EndsWhere fixed net n end new_known new_ring
+
+-- The turn of a node that is away leaves it there exactly where it did not come back.
+abbrev pub AwayTurnsEndWhere : Type 0
+AwayTurnsEndWhere =
+    (alone_ram alone_ring : Bool) (fixed : Fixed) (net : NetPlan) (n : ℕ) (joined : Bool)
+    (known new_known : List Entry) (ring new_ring : List RingEntry)
+    → ComesBack alone_ram alone_ring fixed n known new_known ring new_ring joined
+    → IsOnRing net ring n → IsAway net ring n → IsLegalRing net new_ring
+    → has_left (status_at net new_ring n) ≡ not joined
+
+-- Who holds the token is in, unless it is nobody; then no node is in, and none asks to come in.
+abbrev pub SomebodyHolds : Type 0
+SomebodyHolds = (net : NetPlan) (ring : List RingEntry) → All (λ m. m < addresses) net.members
+    → IsLegalRing net ring → IsInOrNobody net ring (ring_after net ring).holder
+
+-- Where a worker has no budget its node leaves for good only once its controller's scans have ended
+-- and its calls were collected.
 abbrev pub LeavesWhenEnded : Type 0
 LeavesWhenEnded =
     (alone_ram alone_ring : Bool) (fixed : Fixed) (net : NetPlan) (n : ℕ)
     (known new_known : List Entry) (ring new_ring : List RingEntry)
-    → HoldsTurn alone_ram alone_ring fixed net n false known new_known ring new_ring true
+    → HoldsTurn alone_ram alone_ring fixed net n false known new_known ring new_ring Left
     → IsLegal fixed new_known
     → (has_ended_at fixed new_known ≡ true) × (has_started_at fixed new_known ≡ false)
+
+-- Events of the scan end with the scans: what is said of a list then is said of it behind them.
+abbrev pub EndedStays : Type 0
+EndedStays =
+    (fixed : Fixed) (known new_known : List Entry) (alone : Bool) (added : List Entry)
+    → WentOn alone is_ours known added new_known → IsLegal fixed new_known
+    → has_ended_at fixed known ≡ true
+    → (has_ended_at fixed new_known ≡ true) × (is_off_at fixed new_known ≡ is_off_at fixed known)
+
+-- A visit of a controller whose scans have ended leaves no call uncollected, and power as it was;
+-- and its node, which has left, where it was.
+abbrev pub VisitsCollect : Type 0
+VisitsCollect =
+    (alone_ram alone_ring : Bool) (fixed : Fixed) (net : NetPlan) (n : ℕ)
+    (known new_known : List Entry) (ring new_ring : List RingEntry)
+    → VisitsEnd alone_ram alone_ring fixed net n known new_known ring new_ring
+    → HasLeft net ring n → IsLegal fixed new_known → has_ended_at fixed known ≡ true
+    → (has_ended_at fixed new_known ≡ true) × (has_started_at fixed new_known ≡ false)
+    × (is_off_at fixed new_known ≡ is_off_at fixed known)
+    × (status_at net new_ring n ≡ status_at net ring n)
 
 -- In the holds and visits of a worker without a budget no node leaves because its Passes are spent.
 abbrev pub TurnsSpendNothing : Type 0
 TurnsSpendNothing =
-    (alone_ram alone_ring : Bool) (fixed : Fixed) (net : NetPlan) (n : ℕ) (left : Bool)
+    (alone_ram alone_ring : Bool) (fixed : Fixed) (net : NetPlan) (n : ℕ) (end : TurnEnd)
     (known new_known : List Entry) (ring new_ring : List RingEntry)
-    → HoldsTurn alone_ram alone_ring fixed net n false known new_known ring new_ring left
+    → HoldsTurn alone_ram alone_ring fixed net n false known new_known ring new_ring end
+    → NoneSpent (own n ring) → NoneSpent (own n new_ring)
+
+-- Nor as a node that was away comes back.
+abbrev pub AwayTurnsSpendNothing : Type 0
+AwayTurnsSpendNothing =
+    (alone_ram alone_ring : Bool) (fixed : Fixed) (n : ℕ) (joined : Bool)
+    (known new_known : List Entry) (ring new_ring : List RingEntry)
+    → ComesBack alone_ram alone_ring fixed n known new_known ring new_ring joined
     → NoneSpent (own n ring) → NoneSpent (own n new_ring)
 
 abbrev pub HostTurnsSpendNothing : Type 0

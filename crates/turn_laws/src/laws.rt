@@ -4,9 +4,12 @@ ghost use Rattle.turn_laws.specs.Laws.{OthersKeepOn, ControllersComplete, HostSt
 ghost use Rattle.turn_laws.specs.Laws.{HostTurnsKeepOn, HostOthersKeepOn, HostsComplete};
 ghost use Rattle.turn_laws.specs.Laws.{RunsComplete, LeavesWhenEnded, TurnsSpendNothing};
 ghost use Rattle.turn_laws.specs.Laws.{HostTurnsSpendNothing, VisitsSpendNothing, NobodySpends};
+ghost use Rattle.turn_laws.specs.Laws.{AwayTurnsKeepOn, AwayTurnsSpendNothing, AwayTurnsEndWhere};
+ghost use Rattle.turn_laws.specs.Laws.{EndedStays, SomebodyHolds, TurnsEndWhere, VisitsCollect};
 
 use ladder_solver::segments_keep_calls;
 use mstr_block::{calls_are_taken_in_order, finishes_end_one_call, stays_table};
+use ring_core::holder_is_member;
 use time_laws::turns_stay_in_time;
 
 /// A controller without entries, and its node, have all that turns keep.
@@ -23,6 +26,30 @@ pub fn turns_keep_on()
     calls_are_taken_in_order();
     finishes_end_one_call();
     stays_table();
+}
+
+/// The turn of a node that is away keeps it too.
+pub fn away_turns_keep_on()
+    ensures { AwayTurnsKeepOn }
+{
+    turns_stay_in_time();
+    segments_keep_calls();
+    calls_are_taken_in_order();
+    finishes_end_one_call();
+    stays_table();
+}
+
+/// Where a turn leaves its node.
+pub fn turns_end_where()
+    ensures holds { TurnsEndWhere }
+    ensures away { AwayTurnsEndWhere }
+{}
+
+/// Who holds the token is in, unless it is nobody.
+pub fn somebody_holds()
+    ensures { SomebodyHolds }
+{
+    holder_is_member();
 }
 
 /// A visit of a controller whose node has left keeps it too.
@@ -46,8 +73,8 @@ pub fn others_keep_on()
     ensures { OthersKeepOn }
 {}
 
-/// A controller whose node is gone, whose scans have ended and whose calls were all collected, is
-/// complete.
+/// A controller whose scans have ended, whose calls were all collected, and whose node is gone, or
+/// away without power, is complete.
 pub fn controllers_complete()
     ensures { ControllersComplete }
 {
@@ -91,10 +118,22 @@ pub fn leaves_when_ended()
     ensures { LeavesWhenEnded }
 {}
 
-/// In its holds of the token, in those of a host's worker, and in its visits, no node leaves
-/// because its Passes are spent.
+/// Once the scans have ended a visit leaves no call uncollected, and power stays as it is.
+pub fn visits_collect()
+    ensures visits { VisitsCollect }
+    ensures ended { EndedStays }
+{
+    segments_keep_calls();
+    calls_are_taken_in_order();
+    finishes_end_one_call();
+    stays_table();
+}
+
+/// In its holds of the token, in those of a host's worker, in its visits, and as it comes back, no
+/// node leaves because its Passes are spent.
 pub fn none_is_spent()
     ensures turns { TurnsSpendNothing }
+    ensures away { AwayTurnsSpendNothing }
     ensures hosts { HostTurnsSpendNothing }
     ensures visits { VisitsSpendNothing }
     ensures all { NobodySpends }

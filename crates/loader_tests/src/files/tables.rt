@@ -44,7 +44,8 @@ node = 1|coils = 16|panel = ["00001 00002"] => 5 BadRef controller 1 panel 1
 node = 1|coils = 16|panel = ["1"] => 5 BadRef controller 1 panel 1
 node = 1|input_registers = 10|panel = ["30011"] => 5 BadRef controller 1 panel 1
 node = 1|drop = 1 => 3 BadValue controller 1
-node = 1|drop = [1] => 3 BadValue controller 1"#;
+node = 1|drop = [1] => 3 BadValue controller 1
+node = 1|powers = [] => 2 BadKey controller 1"#;
 
 // Orders and segments in plants that are refused; `@` stands for an empty segment, and `(..)` for
 // one of these networks.
@@ -64,7 +65,36 @@ orders = ["1 20001 - -", ""]|@ => 5 BadRef controller 1 order 1
 orders = ["1 - - -"]|panel = ["00000"] => 9 BadOrder controller 1 order 1
 orders = ["1 - - -"]|[[controller.segment]] => 2 BadKey controller 1 segment 1
 orders = ["x"]|@|name = 1 => 2 BadKey controller 1 segment 1
-orders = ["2 - - -"]|segment = [(), ("1,1 LAB 1")] => 9 BadOrder controller 1 order 1"#;
+orders = ["2 - - -"]|segment = [(), ("1,1 LAB 1")] => 9 BadOrder controller 1 order 1
+orders = ["x"]|power = 1 => 3 BadValue controller 1
+power = ["1 0 0", 1]|panel = ["00000"] => 3 BadValue controller 1
+orders = ["x"]|power = ["x"] => 9 BadOrder controller 1 order 1
+power = ["x"]|panel = ["00000"] => 15 BadPower controller 1 power 1
+power = ["1 1 0"]|panel = ["00000"] => 15 BadPower controller 1 power 1
+power = ["1 0 0"]|panel = ["00000"] => 5 BadRef controller 1 panel 1"#;
+
+// Power rows of a controller with one order row.
+pub const POWER_ROWS: &str = r#" => taken
+"1 0 0" => taken
+" 2000\t1  2000 " => taken
+"1 0 0", "2 1 0" => taken
+"1 0 2", "4 0 0", "5 0 9" => taken
+"1 9 0" => 15 BadPower controller 1 power 1
+"" => 15 BadPower controller 1 power 1
+"1 0" => 15 BadPower controller 1 power 1
+"1 0 0 0" => 15 BadPower controller 1 power 1
+"1 - 0" => 15 BadPower controller 1 power 1
+"01 0 0" => 15 BadPower controller 1 power 1
+"+1 0 0" => 15 BadPower controller 1 power 1
+"0 0 0" => 15 BadPower controller 1 power 1
+"2001 0 0" => 15 BadPower controller 1 power 1
+"1 2 0" => 15 BadPower controller 1 power 1
+"1 0 2001" => 15 BadPower controller 1 power 1
+"1 4294967296 0" => 15 BadPower controller 1 power 1
+"1 0 0", "1 0 0" => 15 BadPower controller 1 power 2
+"1 0 2", "3 0 0" => 15 BadPower controller 1 power 2
+"1 0 0", "5 0 0", "4 0 0" => 15 BadPower controller 1 power 3
+"9 0 2000", "2000 0 0", "1 9 0" => 15 BadPower controller 1 power 2"#;
 
 // Segments that are refused, of which `(..)` stands for one of these networks.
 pub const BAD_SEGMENTS: &str = r#"[(), 1] => 3 BadValue controller 1

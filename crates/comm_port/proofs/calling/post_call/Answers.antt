@@ -2,16 +2,18 @@ use Rattle.comm_port.specs.Giving.{part_at}
 use Rattle.comm_port.proofs.Allowed.{free-path-no}
 use Rattle.std.proofs.Common.{refl}
 use Rattle.ring_core.specs.declared.entry.RingEntry.TheVariants.{Post}
-use Rattle.comm_port.proofs.RingTurns.{own-moved, kept-post}
+use Rattle.comm_port.proofs.RingTurns.{own-moved, own-on, kept-post}
 use Rattle.comm_port.proofs.Steps.{ring-rest}
 use Rattle.comm_port.proofs.calling.post_call.Goals as goal
 
 pub returns-clause-kept : goal.returns-clause-kept
 returns-clause-kept g c =
     let o = c.in_ok-post_frame.ensures in
+    let e = Post c.args.node c.args.frame in
     kept-post _ c.args.node _ _ c.args.frame
-    (own-moved _ g.R.RingSide.alone c.args.node _ (Post c.args.node c.args.frame) _ refl
-    c.requires.turn o.step.stands.legal o.went)
+    (own-on _ g.R.RingSide.alone c.args.node _ e _ c.requires.turn o.step.stands.legal o.went)
+    (own-moved _ g.R.RingSide.alone c.args.node _ e _ refl c.requires.turn o.step.stands.legal
+    o.went)
 
 pub post_frame-requires-clause-free : goal.post_frame-requires-clause-free
 post_frame-requires-clause-free g c = free-path-no

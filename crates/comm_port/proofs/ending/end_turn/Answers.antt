@@ -9,8 +9,10 @@ use Rattle.ring_core.specs.Legal.{IsLegalRing}
 use Rattle.tied_lists.specs.Own.{is_of}
 use Rattle.tied_lists.specs.Waits.{HasLeft}
 use Rattle.tied_lists.proofs.Growth.{adds-both, adds-weaker}
+use Rattle.ring_core.specs.Machine.{ring_after}
 use Rattle.comm_port.specs.Giving.{due_calls}
 use Rattle.comm_port.specs.HoldTurn.{IsGivenUp}
+use Rattle.comm_port.specs.Ending.{AsksIfDone}
 use Rattle.comm_port.specs.Leaving.{HandedOn}
 use Rattle.comm_port.specs.Parts.{InOrder, PartOf, calls_waiting}
 use Rattle.mstr_block.specs.Table.{network_paths}
@@ -20,11 +22,12 @@ use Rattle.joint_history.specs.Reading.{is_ours}
 use Rattle.comm_port.specs.Order.{IsGivingUp}
 use Rattle.comm_port.proofs.Parts.{net-as, part-none}
 use Rattle.comm_port.proofs.Leaves.{asks-so, due-waits, none-left, waiting-handed, handed-ends}
-use Rattle.comm_port.proofs.Leaves.{ending-too, all-paths, all-on, turn-side}
+use Rattle.comm_port.proofs.Leaves.{ending-too, all-paths, all-on, turn-side, quiet-due}
 use Rattle.comm_port.proofs.Through.{IsEnding, rest-through}
 use Rattle.std.proofs.Common.{sym, ◌∙◌}
 use Rattle.comm_port.proofs.TurnsEnded.{handed-lead, left-lead, left-at, asked-lead, some-of}
 use Rattle.comm_port.proofs.Steps.{both-then}
+use Rattle.comm_port.proofs.Downs.{giving-downs, latest-adds, latest-handed}
 use Rattle.comm_port.proofs.ending.end_turn.Goals as goal
 
 pub hand_on-requires-clause-sent : goal.hand_on-requires-clause-sent
@@ -38,11 +41,14 @@ give_up_where-requires g c =
     let o = c.in_ok-left.ensures in
     let n = c.args.node in
     let t = asked-lead g.M.RamSide.alone n (g.M.RamSide.side c.args.ram.now).fixed
-    c.is_done-done.result _ _ _ _ _ _
+    c.args.noticed c.is_done-done.result _ _ _ _ _ _
     c.args.waiting.now c.is_done-done.ensures.step.same c.is_done-done.ensures.asked
     c.requires.turning in
     let r = handed-lead g.R.RingSide.alone n c.is_done-done.result _ _ _ _ _ _ _ _
-    c.args.waiting.now o.step.same o.step.stands.legal o.handed t in
+    c.args.waiting.now o.step.same o.step.stands.legal
+    (quiet-due (g.R.RingSide.side c.args.ring.now).net
+    (ring_after (g.R.RingSide.side c.args.ring.now).net (g.R.RingSide.known c.args.ring.now)) n
+    c.is_done-done.result c.args.budget) o.handed t in
     let why = some-of _ (sym o.left ∙ c.if-left.true) in
     record {
       turning = left-lead n _ _ _ _ c.args.waiting.now
@@ -56,11 +62,14 @@ returns-clause-rested g c =
     let o = c.in_ok-left.ensures in
     let n = c.args.node in
     let t = asked-lead g.M.RamSide.alone n (g.M.RamSide.side c.args.ram.now).fixed
-    c.is_done-done.result _ _ _ _ _ _
+    c.args.noticed c.is_done-done.result _ _ _ _ _ _
     c.args.waiting.now c.is_done-done.ensures.step.same c.is_done-done.ensures.asked
     c.requires.turning in
     handed-lead g.R.RingSide.alone n c.is_done-done.result _ _ _ _ _ _ _ _ c.args.waiting.now
-    o.step.same o.step.stands.legal o.handed t
+    o.step.same o.step.stands.legal
+    (quiet-due (g.R.RingSide.side c.args.ring.now).net
+    (ring_after (g.R.RingSide.side c.args.ring.now).net (g.R.RingSide.known c.args.ring.now)) n
+    c.is_done-done.result c.args.budget) o.handed t
 
 pub returns-clause-ends : goal.returns-clause-ends
 returns-clause-ends g c =
@@ -69,9 +78,13 @@ returns-clause-ends g c =
     record {
       done = c.is_done-done.result;
       asked_known = g.M.RamSide.known c.is_done-done.new.ram;
-      asked = asks-so g.M.RamSide.alone _ n _ (g.R.RingSide.known c.args.ring.now)
-          c.args.waiting.now _ _ _ c.requires.turning.waits
-          c.is_done-done.ensures.asked;
+      asked = subst (λ (k : ℕ). AsksIfDone g.M.RamSide.alone
+          (g.M.RamSide.side c.args.ram.now).fixed k
+          (calls_waiting n (g.R.RingSide.known c.args.ring.now) ≡ [])
+          (g.M.RamSide.known c.args.ram.now) (g.M.RamSide.known c.is_done-done.new.ram)
+          c.is_done-done.result) c.requires.noticed
+          (asks-so g.M.RamSide.alone _ c.args.noticed n _ (g.R.RingSide.known c.args.ring.now)
+          c.args.waiting.now _ _ _ c.requires.turning.waits c.is_done-done.ensures.asked);
       left_is = sym c.if-left.false ∙ o.left;
       handed_ring = g.R.RingSide.known c.hand_on.new.ring;
       handed = o.handed;
@@ -104,11 +117,14 @@ returns-then-left-clause-ends g c =
     let e = c.in_ok-give_up_where.ensures in
     let n = c.args.node in
     let t0 = asked-lead g.M.RamSide.alone n (g.M.RamSide.side c.args.ram.now).fixed
-    c.is_done-done.result _ _ _ _ _ _
+    c.args.noticed c.is_done-done.result _ _ _ _ _ _
     c.args.waiting.now c.is_done-done.ensures.step.same c.is_done-done.ensures.asked
     c.requires.turning in
     let r = handed-lead g.R.RingSide.alone n c.is_done-done.result _ _ _ _ _ _ _ _
-    c.args.waiting.now o.step.same o.step.stands.legal o.handed t0 in
+    c.args.waiting.now o.step.same o.step.stands.legal
+    (quiet-due (g.R.RingSide.side c.args.ring.now).net
+    (ring_after (g.R.RingSide.side c.args.ring.now).net (g.R.RingSide.known c.args.ring.now)) n
+    c.is_done-done.result c.args.budget) o.handed t0 in
     let why = some-of _ (sym o.left ∙ c.if-left.true) in
     let gone = left-at (g.R.RingSide.side c.args.ring.now) (g.R.RingSide.side c.hand_on.new.ring)
     (g.R.RingSide.known c.hand_on.new.ring)
@@ -117,9 +133,13 @@ returns-then-left-clause-ends g c =
     record {
       done = c.is_done-done.result;
       asked_known = g.M.RamSide.known c.is_done-done.new.ram;
-      asked = asks-so g.M.RamSide.alone _ n _ (g.R.RingSide.known c.args.ring.now)
-          c.args.waiting.now _ _ _ c.requires.turning.waits
-          c.is_done-done.ensures.asked;
+      asked = subst (λ (k : ℕ). AsksIfDone g.M.RamSide.alone
+          (g.M.RamSide.side c.args.ram.now).fixed k
+          (calls_waiting n (g.R.RingSide.known c.args.ring.now) ≡ [])
+          (g.M.RamSide.known c.args.ram.now) (g.M.RamSide.known c.is_done-done.new.ram)
+          c.is_done-done.result) c.requires.noticed
+          (asks-so g.M.RamSide.alone _ c.args.noticed n _ (g.R.RingSide.known c.args.ring.now)
+          c.args.waiting.now _ _ _ c.requires.turning.waits c.is_done-done.ensures.asked);
       left_is = sym c.if-left.true ∙ o.left;
       handed_ring = g.R.RingSide.known c.hand_on.new.ring;
       handed = o.handed;
@@ -171,3 +191,21 @@ returns-then-left-clause-step g c =
 pub returns-clause-step : goal.returns-clause-step
 returns-clause-step g c =
     record { station = c.is_done-done.ensures.step; node = c.in_ok-left.ensures.step }
+
+pub returns-clause-noticed : goal.returns-clause-noticed
+returns-clause-noticed g c =
+    let o = c.in_ok-left.ensures in
+    c.requires.noticed ∙ sym (latest-handed g.R.RingSide.alone _ c.args.node _ _ _ _ _
+    (quiet-due (g.R.RingSide.side c.args.ring.now).net
+    (ring_after (g.R.RingSide.side c.args.ring.now).net (g.R.RingSide.known c.args.ring.now)) c.args.node
+    c.is_done-done.result c.args.budget) o.handed)
+
+pub returns-then-left-clause-noticed : goal.returns-then-left-clause-noticed
+returns-then-left-clause-noticed g c =
+    let o = c.in_ok-left.ensures in
+    let e = c.in_ok-give_up_where.ensures in
+    c.requires.noticed ∙ (sym (latest-handed g.R.RingSide.alone _ c.args.node _ _ _ _ _
+    (quiet-due (g.R.RingSide.side c.args.ring.now).net
+    (ring_after (g.R.RingSide.side c.args.ring.now).net (g.R.RingSide.known c.args.ring.now)) c.args.node
+    c.is_done-done.result c.args.budget) o.handed)
+    ∙ sym (latest-adds g.R.RingSide.alone c.args.node IsGivingUp _ _ giving-downs e.ring_adds))

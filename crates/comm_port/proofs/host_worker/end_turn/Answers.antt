@@ -1,13 +1,14 @@
 use Rattle.std.proofs.Common.{sym, ◌∙◌, subst, Bool}
 use Rattle.tied_lists.specs.Own.{is_of, own}
 use Rattle.tied_lists.proofs.Growth.{adds-both, adds-weaker}
+use Rattle.ring_core.specs.Machine.{ring_after}
 use Rattle.comm_port.specs.Order.{IsGivingUp}
 use Rattle.comm_port.specs.HostTurns.{EndsWithPass}
 use Rattle.comm_port.proofs.HostAsks.{stays-with, ends-with, gone-on, gone-with, ties-handed}
 use Rattle.comm_port.proofs.HostAsks.{turning-left}
 use Rattle.comm_port.proofs.HostBoxes.{gives-sort}
 use Rattle.comm_port.proofs.HostTurning.{turning-side}
-use Rattle.comm_port.proofs.Leaves.{ending-too, handed-ends}
+use Rattle.comm_port.proofs.Leaves.{ending-too, handed-ends, quiet-due}
 use Rattle.comm_port.proofs.Through.{IsEnding, rest-through}
 use Rattle.mstr_block.specs.Table.{network_paths}
 use Rattle.comm_port.proofs.HostGives.{gives-at}
@@ -27,7 +28,9 @@ give_up_where-requires g c =
     let gone = gone-with g.R.RingSide.alone _ c.args.node _ _ _ _ _ o.handed
     (sym c.if-not-left.false ∙ o.left) in
     let ties = ties-handed g.R.RingSide.alone c.args.node _ _ _ _ _ _ _ c.requires.turning o.handed
-    o.step.stands.legal c.requires.wait c.requires.rest in
+    (quiet-due (g.R.RingSide.side c.args.ring.now).net
+    (ring_after (g.R.RingSide.side c.args.ring.now).net (g.R.RingSide.known c.args.ring.now)) c.args.node
+    c.is_done-done.result c.args.budget) o.step.stands.legal c.requires.wait c.requires.rest in
     record {
       turning = turning-side c.args.node _ _ _ _ o.step.same
           (turning-left c.args.node _ _ _ ties gone);
@@ -37,7 +40,9 @@ pub returns-then-not-left-clause-ties : goal.returns-then-not-left-clause-ties
 returns-then-not-left-clause-ties g c =
     let o = c.in_ok-left.ensures in
     ties-handed g.R.RingSide.alone c.args.node _ _ _ _ _ _ _ c.requires.turning o.handed
-    o.step.stands.legal c.requires.wait c.requires.rest
+    (quiet-due (g.R.RingSide.side c.args.ring.now).net
+    (ring_after (g.R.RingSide.side c.args.ring.now).net (g.R.RingSide.known c.args.ring.now)) c.args.node
+    c.is_done-done.result c.args.budget) o.step.stands.legal c.requires.wait c.requires.rest
 
 pub returns-clause-ties : goal.returns-clause-ties
 returns-clause-ties g c =

@@ -3,9 +3,11 @@ use Rattle.comm_port.proofs.HostTurning.{turning-side}
 use Rattle.comm_port.proofs.HostAsks.{sent-none}
 use Rattle.std.proofs.Common.{sym}
 use Rattle.comm_port.proofs.HostGives.{gives-at}
-use Rattle.comm_port.proofs.HostRuns.{legal-at}
+use Rattle.plant_types.specs.declared.net.NetPlan.{NetPlan}
+use Rattle.tied_lists.specs.Waits.{IsOnRing}
+use Rattle.comm_port.proofs.Parts.{net-as}
 use Rattle.comm_port.proofs.HostSends.{new-still, sends-none, sent-step}
-use Rattle.comm_port.proofs.RingTurns.{on-ring}
+use Rattle.comm_port.proofs.RingTurns.{on-grew}
 use Rattle.comm_port.proofs.Steps.{host-ring, host-then}
 use Rattle.comm_port.proofs.host_worker.send_one.Goals as goal
 
@@ -35,10 +37,11 @@ returns-clause-sends g c =
     let sent = sent-some g.R.RingSide.alone before.net n c.in-Some.heard _ _ _ c.in-Some.is o.sent
     in
     (sent-step g.R.RingSide.alone before.net n c.in-Some.heard c.args.fresh _ _ _ _ _ _
-    c.requires.wait (on-ring before _ _ n c.requires.turning.own_turn o.step.stands.legal)
-    (on-ring before _ _ n c.requires.turning.own_turn
-    (legal-at before (g.R.RingSide.side c.send_next.new.ring) _ o.step.same
-    w.step.node.stands.legal)) c.requires.holds
+    c.requires.wait
+    (on-grew g.R.RingSide.alone before.net n _ _ _ c.requires.turning.own_turn.on
+    o.step.stands.legal (tt, tt) sent.grew)
+    (net-as (λ (m : NetPlan). IsOnRing m (g.R.RingSide.known c.give_up_where.new.ring) n) _ _
+    o.step.same w.turning.own_turn.on) c.requires.holds
     c.requires.new_calls sent.grew c.may_have_failed.ensures
     (gives-at g.R.RingSide.alone n _ _ _ _ _ (g.R.RingSide.side c.send_next.new.ring) before
     (sym o.step.same) w.gives_up)).sends
@@ -52,10 +55,11 @@ returns-clause-new_calls g c =
     let sent = sent-some g.R.RingSide.alone before.net n c.in-Some.heard _ _ _ c.in-Some.is o.sent
     in
     (sent-step g.R.RingSide.alone before.net n c.in-Some.heard c.args.fresh _ _ _ _ _ _
-    c.requires.wait (on-ring before _ _ n c.requires.turning.own_turn o.step.stands.legal)
-    (on-ring before _ _ n c.requires.turning.own_turn
-    (legal-at before (g.R.RingSide.side c.send_next.new.ring) _ o.step.same
-    w.step.node.stands.legal)) c.requires.holds
+    c.requires.wait
+    (on-grew g.R.RingSide.alone before.net n _ _ _ c.requires.turning.own_turn.on
+    o.step.stands.legal (tt, tt) sent.grew)
+    (net-as (λ (m : NetPlan). IsOnRing m (g.R.RingSide.known c.give_up_where.new.ring) n) _ _
+    o.step.same w.turning.own_turn.on) c.requires.holds
     c.requires.new_calls sent.grew c.may_have_failed.ensures
     (gives-at g.R.RingSide.alone n _ _ _ _ _ (g.R.RingSide.side c.send_next.new.ring) before
     (sym o.step.same) w.gives_up)).new_calls
@@ -67,7 +71,8 @@ returns-in_default-clause-new_calls g c =
     let before = g.R.RingSide.side c.args.ring.now in
     let all = sent-none g.R.RingSide.alone before.net n _ _ _ c.in_default.is o.sent in
     new-still g.R.RingSide.alone before.net n _ _ _
-    (on-ring before _ _ n c.requires.turning.own_turn o.step.stands.legal)
+    (on-grew g.R.RingSide.alone before.net n _ _ _ c.requires.turning.own_turn.on
+    o.step.stands.legal tt all.grew)
     c.requires.turning.own_turn.free all.grew c.requires.new_calls
 
 pub returns-in_default-clause-empty : goal.returns-in_default-clause-empty

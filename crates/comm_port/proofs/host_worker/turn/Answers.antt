@@ -1,6 +1,6 @@
 use Rattle.plant_types.specs.declared.net.NetPlan.{NetPlan}
 use Rattle.ring_core.specs.Legal.{IsLegalRing}
-use Rattle.tied_lists.specs.Waits.{Holds}
+use Rattle.tied_lists.specs.Waits.{IsOnRing, Holds}
 use Rattle.comm_port.specs.Giving.{part_at, IsAtRest}
 use Rattle.comm_port.proofs.HostBoxes.{inbox-empty, rest-due}
 use Rattle.comm_port.proofs.Parts.{net-as}
@@ -96,7 +96,6 @@ end_turn-requires-clause-empty g c =
     let same2 = b.step.node.same ∙ a.step.node.same in
     let same3 = d.step.node.same ∙ same2 in
     let same4 = e.step.node.same ∙ same3 in
-    let t = c.requires.turning.own_turn.on in
     let all = asked-all-at alone n _ c.args.hold _ _ _ _ _ (side c.serve_inbox.new.ring) before
     (sym a.step.node.same) b.asked in
     let out = sends-out-at alone n _ _ _ _ _ (side c.ask_all.new.ring) before (sym same2) d.sends in
@@ -105,10 +104,10 @@ end_turn-requires-clause-empty g c =
     net-as (λ (m : NetPlan). (part_at m n given).inbox ≡ []) _ _ (sym same4)
     (inbox-empty alone before.net n _ c.args.hold all.asks _ network_paths _ _ _ _ served asked sent
     given
-    (record { members = t.members; legal = a.step.node.stands.legal; member = t.member }) a.holds
-    (net-as (λ (m : NetPlan). IsLegalRing m asked) _ _ a.step.node.same b.step.node.stands.legal)
+    a.turning.own_turn.on a.holds
+    (net-as (λ (m : NetPlan). IsOnRing m asked n) _ _ a.step.node.same b.turning.own_turn.on)
     (net-as (λ (m : NetPlan). Holds m asked n) _ _ a.step.node.same b.holds)
-    (net-as (λ (m : NetPlan). IsLegalRing m sent) _ _ same2 d.step.node.stands.legal)
+    (net-as (λ (m : NetPlan). IsOnRing m sent n) _ _ same2 d.turning.own_turn.on)
     (net-as (λ (m : NetPlan). Holds m sent n) _ _ same2 d.holds)
     (net-as (λ (m : NetPlan). IsLegalRing m given) _ _ same3 e.step.node.stands.legal)
     a.served.empty
@@ -126,19 +125,14 @@ end_turn-requires-clause-rest g c =
     let given = g.R.RingSide.known c.give_up_where.new.ring in
     let same2 = c.in_ok-fresh.ensures.step.node.same ∙ c.in_ok-serve_inbox.ensures.step.node.same in
     let same3 = d.step.node.same ∙ same2 in
-    let t = c.requires.turning.own_turn.on in
     let out = sends-out-at alone n _ _ _ _ _ (side c.ask_all.new.ring) before (sym same2) d.sends in
     let gives = gives-at alone n network_paths _ _ _ _ (side c.send_all.new.ring) before (sym same3)
     e.gives_up in
     net-as (λ (m : NetPlan). IsAtRest m n given) _ _ (sym (e.step.node.same ∙ same3))
     (rest-due alone before.net n _ _ _ _ _ sent given
-    (record {
-      members = t.members;
-      legal = net-as (λ (m : NetPlan). IsLegalRing m sent) _ _ same2 d.step.node.stands.legal;
-      member = t.member;
-    })
+    (net-as (λ (m : NetPlan). IsOnRing m sent n) _ _ same2 d.turning.own_turn.on)
     (net-as (λ (m : NetPlan). Holds m sent n) _ _ same2 d.holds)
-    (net-as (λ (m : NetPlan). IsLegalRing m given) _ _ same3 e.step.node.stands.legal) out gives)
+    (net-as (λ (m : NetPlan). IsOnRing m given n) _ _ same3 e.turning.own_turn.on) out gives)
 
 pub returns-in_err-fresh-clause-step : goal.returns-in_err-fresh-clause-step
 returns-in_err-fresh-clause-step g c =

@@ -7,7 +7,7 @@ use Rattle.tied_lists.proofs.Growth.{grew-one, grew-more}
 use Rattle.modbus_pdu.specs.Spelling.{reply_bytes}
 use Rattle.modbus_pdu.specs.declared.reply.Reply.TheVariants as replies
 use Rattle.comm_port.specs.Replies.{reply_frame}
-use Rattle.comm_port.proofs.RingTurns.{own-moved, kept-local, kept-both, kept-same, turn-on, mine}
+use Rattle.comm_port.proofs.RingTurns.{own-moved, own-on, kept-local, kept-both, kept-same, turn-on, mine}
 use Rattle.comm_port.proofs.Statistics.{told-range}
 use Rattle.comm_port.proofs.Steps.{ring-then}
 use Rattle.comm_port.proofs.replies.tell_statistics.Goals as goal
@@ -26,11 +26,14 @@ statistics_reply-requires g c =
 pub post_reply-requires-clause-turn : goal.post_reply-requires-clause-turn
 post_reply-requires-clause-turn g c =
     let o = c.in_ok-result.ensures in
-    let m = own-moved _ g.R.RingSide.alone c.args.node _
-    (Local c.args.node c.args.request.now.id c.operation_for-op.result
-    c.in_ok-result.result) _ refl c.requires.turn o.step.stands.legal o.went in
+    let e = Local c.args.node c.args.request.now.id c.operation_for-op.result
+    c.in_ok-result.result in
+    let m = own-moved _ g.R.RingSide.alone c.args.node _ e _ refl c.requires.turn
+    o.step.stands.legal o.went in
+    let on = own-on _ g.R.RingSide.alone c.args.node _ e _ c.requires.turn o.step.stands.legal
+    o.went in
     turn-on _ _ _ _ c.args.node o.step.same c.requires.turn o.step.stands.legal
-    (kept-local _ c.args.node _ _ _ _ _ m)
+    (kept-local _ c.args.node _ _ _ _ _ on m)
 
 pub returns-clause-told : goal.returns-clause-told
 returns-clause-told g c =
@@ -58,11 +61,14 @@ returns-clause-told g c =
 pub returns-clause-kept : goal.returns-clause-kept
 returns-clause-kept g c =
     let o = c.in_ok-result.ensures in
-    let m = own-moved _ g.R.RingSide.alone c.args.node _
-    (Local c.args.node c.args.request.now.id c.operation_for-op.result
-    c.in_ok-result.result) _ refl c.requires.turn o.step.stands.legal o.went in
+    let e = Local c.args.node c.args.request.now.id c.operation_for-op.result
+    c.in_ok-result.result in
+    let m = own-moved _ g.R.RingSide.alone c.args.node _ e _ refl c.requires.turn
+    o.step.stands.legal o.went in
+    let on = own-on _ g.R.RingSide.alone c.args.node _ e _ c.requires.turn o.step.stands.legal
+    o.went in
     kept-both (g.R.RingSide.side c.args.ring.now).net c.args.node _ _ _
-    (kept-local _ c.args.node _ _ _ _ _ m)
+    (kept-local _ c.args.node _ _ _ _ _ on m)
     (kept-same _ _ c.args.node _ _ (sym o.step.same) c.in_ok-post_reply.ensures.kept)
 
 pub returns-in_err-pdu-clause-step : goal.returns-in_err-pdu-clause-step

@@ -1,6 +1,6 @@
 use Rattle.std.proofs.Common.{◌∙◌, refl, sym, ap}
 use Rattle.plant_types.specs.declared.net.NetPlan.{NetPlan}
-use Rattle.tied_lists.specs.Waits.{HasLeft}
+use Rattle.tied_lists.specs.Waits.{has_left, HasLeft}
 use Rattle.ring_core.specs.Machine.{NodeIs}
 use Rattle.comm_port.specs.Visiting.{GivesCall}
 use Rattle.comm_port.proofs.Parts.{net-as}
@@ -110,7 +110,7 @@ returns-in-Local-clause-gone g c =
     c.in-Local.field-0 _ _ side _ _ _ c.requires.within
     c.index-calls-at.is c.in-Local.is m.step.node.same c.requires.owing.turning.own_turn
     m.owing.turning.own_turn.on.legal m.made in
-    ap (λ (x : NodeIs). x.here) a.part_is ∙ c.requires.gone
+    ap (λ (c : NodeIs). has_left c.status) a.part_is ∙ c.requires.gone
 
 pub returns-in-Local-clause-rest : goal.returns-in-Local-clause-rest
 returns-in-Local-clause-rest g c =

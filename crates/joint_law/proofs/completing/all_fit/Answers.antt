@@ -1,16 +1,25 @@
-use Rattle.std.proofs.Common.{◌+◌, ◌<◌, length, take, drop, refl, sym, ap, subst, ◌∙◌, arith}
+use Rattle.std.proofs.Common.{List, [], ◌+◌, ◌<◌, length, take, drop, refl, sym, ap, subst, ◌∙◌}
+use Rattle.std.proofs.Common.{arith}
 use Rattle.joint_law.specs.Completing.{EachAllows, NodeAllows, NodeFits, progress_next}
 use Rattle.joint_law.specs.Completing.{progress_of}
 use Rattle.joint_law.specs.declared.completing.Progress.{Progress}
 use Rattle.joint_law.specs.Picked.{picked}
+use Rattle.joint_law.specs.Taking.{left_plain}
+use Rattle.tied_lists.specs.Items.{taken_by, taken_of}
+use Rattle.std.specs.List.{cons_option}
+use Rattle.ring_core.specs.declared.entry.RingEntry.{RingEntry}
 use Rattle.joint_law.proofs.Fitting.{each-none, each-push}
 use Rattle.joint_law.proofs.Lists.{not-true, picked-around, picked-push}
-use Rattle.joint_law.proofs.Progress.{progress-push, progress-short}
+use Rattle.joint_law.proofs.Progress.{left-push, progress-push, progress-short}
 use Rattle.joint_law.proofs.completing.all_fit.Goals as goal
 
 pub loop-place-init : goal.loop-place-init
 loop-place-init c =
-    record { progress_is = c.no_progress-progress.ensures; each = each-none NodeAllows }
+    record {
+      progress_is = c.no_progress-progress.ensures c.args.answers.items;
+      left_is = refl;
+      each = each-none (NodeAllows c.args.answers.items);
+    }
 
 pub returns-then-not-fits : goal.returns-then-not-fits
 returns-then-not-fits c =
@@ -29,8 +38,8 @@ returns-then-not-fits c =
 pub next-progress-requires : goal.next-progress-requires
 next-progress-requires c =
     let low : c.loop-place.place-index < length c.args.places.now = omega arith in
-    progress-short c.args.ring.now c.args.places.now c.loop-place.place-index c.loop-place.progress
-    c.loop-place.invariant.progress_is (omega arith)
+    progress-short c.args.answers.items c.args.ring.now c.args.places.now
+    c.loop-place.place-index c.loop-place.progress c.loop-place.invariant.progress_is (omega arith)
 
 pub loop-place-preserved : goal.loop-place-preserved
 loop-place-preserved c =
@@ -42,10 +51,16 @@ loop-place-preserved c =
     let here = subst (λ (p : Progress). NodeFits p c.index-ring-place.result)
     c.loop-place.invariant.progress_is (c.if-not-fits.ensures.0 refl) in
     record {
-      progress_is = c.next-progress.ensures
-          ∙ (ap (λ (p : Progress). progress_next p e) c.loop-place.invariant.progress_is
-          ∙ (sym (progress-push front e) ∙ ap progress_of (sym push)));
+      progress_is = c.next-progress.ensures.next
+          ∙ ((λ i. progress_next (c.loop-place.invariant.left_is i)
+          (c.loop-place.invariant.progress_is i) e)
+          ∙ (sym (progress-push c.args.answers.items front e)
+          ∙ ap (progress_of c.args.answers.items) (sym push)));
+      left_is = c.next-progress.ensures.left
+          ∙ (ap (left_plain (cons_option (taken_of e) [])) c.loop-place.invariant.left_is
+          ∙ (sym (left-push c.args.answers.items front e)
+          ∙ ap (λ (b : List RingEntry). left_plain (taken_by b) c.args.answers.items) (sym push)));
       each =
-          subst (EachAllows NodeAllows) (sym push)
-          (each-push NodeAllows front e c.loop-place.invariant.each here);
+          subst (EachAllows (NodeAllows c.args.answers.items)) (sym push)
+          (each-push (NodeAllows c.args.answers.items) front e c.loop-place.invariant.each here);
     }

@@ -1,5 +1,5 @@
-use Rattle.std.proofs.Common.{List, Bool, subst, sym}
-use Rattle.joint_law.specs.AllCourses.{AreDone}
+use Rattle.std.proofs.Common.{subst}
+use Rattle.joint_law.specs.AllComplete.{IsFirstIncomplete}
 use Rattle.joint_law.specs.Bound.{bounds_of}
 use Rattle.joint_law.specs.LawEnds.{IsLawsEnd}
 use Rattle.joint_law.proofs.LawSteps.{none-of}
@@ -18,16 +18,16 @@ first_incomplete-requires-clause-sections c =
     legal-sections c.args.plant.now c.args.scans c.args.joint.now c.requires.legal.controllers
     c.requires.legal.hosts
 
-pub returns-in-Some-first_incomplete : goal.returns-in-Some-first_incomplete
-returns-in-Some-first_incomplete c =
+pub returns-in-Some-2 : goal.returns-in-Some-2
+returns-in-Some-2 c =
     let tied = laws-joint c.args.plant.now c.args.scans c.args.joint.now c.requires.sound
     c.requires.legal
     (subst (IsLawsEnd (bounds_of c.args.joint.now))
     (none-of c.in_ok-spot.field-0 c.in_default.not-Some) c.in_ok-spot.ensures) in
-    let done = subst (λ (l : List Bool). AreDone c.args.plant.now c.args.scans c.args.joint.now l)
-    (sym c.as_slice-2.ensures) c.requires.done in
-    incomplete-spot c.args.plant.now c.args.scans c.args.joint.now c.in-Some-first_incomplete.node
-    c.requires.legal tied (c.in-Some-first_incomplete.ensures c.args.scans done)
+    incomplete-spot c.args.plant.now c.args.scans c.args.joint.now c.in-Some-2.node
+    c.requires.legal tied
+    (subst (IsFirstIncomplete c.args.plant.now c.args.scans c.args.joint.now) c.in-Some-2.is
+    c.in_ok-node.ensures)
 
 pub returns : goal.returns
 returns c =
@@ -35,7 +35,6 @@ returns c =
     c.requires.legal
     (subst (IsLawsEnd (bounds_of c.args.joint.now))
     (none-of c.in_ok-spot.field-0 c.in_default.not-Some) c.in_ok-spot.ensures) in
-    let done = subst (λ (l : List Bool). AreDone c.args.plant.now c.args.scans c.args.joint.now l)
-    (sym c.as_slice-2.ensures) c.requires.done in
     end-spot c.args.plant.now c.args.scans c.args.joint.now c.requires.sound c.requires.legal tied
-    (c.in-None.ensures c.args.scans done)
+    (subst (IsFirstIncomplete c.args.plant.now c.args.scans c.args.joint.now) c.in-None.is
+    c.in_ok-node.ensures)

@@ -1,4 +1,4 @@
-use Rattle.std.proofs.Common.{◌≡◌, sym, subst}
+use Rattle.std.proofs.Common.{◌≡◌, sym, subst, arith}
 use Rattle.plant_types.specs.declared.plan.Plant.{Plant}
 use Rattle.judge_tests.specs.Example.{example_plant}
 use Rattle.joint_law.specs.Spots.{CanBeJudged}
@@ -21,4 +21,5 @@ returns c =
       controllers = c.in_ok-controllers.ensures i;
       hosts = c.in_ok-hosts.ensures i;
     } in
-    subst (λ (p : Plant). CanBeJudged p 1) (sym same) example-judged
+    λ scans from to.
+    subst (λ (p : Plant). CanBeJudged p scans) (sym same) (example-judged scans from to)

@@ -8,11 +8,11 @@ use Rattle.comm_port.specs.HostTurns.{after_turn}
 use Rattle.comm_port.specs.Leaving.{IsHere}
 use Rattle.comm_port.specs.Sides.{RingSideIs}
 use Rattle.live_run.specs.Talking.{AttendsOn}
-use Rattle.live_run.proofs.Keeping.{attends-next, attends-others, host-holds-now}
+use Rattle.live_run.proofs.Keeping.{HostLaws, attends-next, attends-others, host-holds-now}
 use Rattle.live_run.proofs.hosting.take_turn.Goals as goal
 
 -- a turn that was made, whatever it answered
-made : {Q X : Type 0} (alone : Bool) (w w' : HostWorkerIs) (host host' : HostIs)
+made : {Q X : Type 0} (laws : HostLaws) (alone : Bool) (w w' : HostWorkerIs) (host host' : HostIs)
     (side side' : RingSideIs Q) (ring ring' : List RingEntry) (r : Result Bool X)
     → host'.plan ≡ host.plan → side' ≡ side → IfOk r (λ left. w' ≡ after_turn w left)
     → IfOk r
@@ -20,11 +20,11 @@ made : {Q X : Type 0} (alone : Bool) (w w' : HostWorkerIs) (host host' : HostIs)
     → OnOk r (HostTies w'.node host' side' ring') → OnOk r (CountsPasses w' ring')
     → IfOk r (λ left. left ≡ false → IsHere side'.net ring' w.node)
     → AttendsOn w host side ring false → IfOk r (AttendsOn w' host' side' ring')
-made alone w w' host host' side side' ring ring' (Ok left) plan same worker held ties
+made laws alone w w' host host' side side' ring ring' (Ok left) plan same worker held ties
     counts here a =
-    attends-next alone w w' host host' side side' ring ring' left plan same worker held
+    attends-next laws alone w w' host host' side side' ring ring' left plan same worker held
     ties counts here a
-made alone w w' host host' side side' ring ring' (Err why) plan same worker held ties
+made laws alone w w' host host' side side' ring ring' (Err why) plan same worker held ties
     counts here a = tt
 
 pub returns-then-holder-node-clause-attends : goal.returns-then-holder-node-clause-attends
@@ -76,7 +76,8 @@ returns-clause-attends g c =
     c.holder.ensures.same
     (c.holder.ensures.went _ c.requires.attends.ties.serves).list c.holder.ensures.legal
     c.requires.attends in
-    made g.G.RingSide.alone _ _ _ _ _ _ _ _ c.hold_turn.result c.hold_turn.ensures.step.plan
+    made (record { keeps = c.host_turns_keep_on.ensures; unspent = c.none_is_spent.ensures.hosts })
+    g.G.RingSide.alone _ _ _ _ _ _ _ _ c.hold_turn.result c.hold_turn.ensures.step.plan
     c.hold_turn.ensures.step.node.same c.hold_turn.ensures.worker
     c.hold_turn.ensures.held c.hold_turn.ensures.ties c.hold_turn.ensures.counts
     c.hold_turn.ensures.stays a

@@ -1,6 +1,5 @@
 use Rattle.std.proofs.Common.{◌≡◌, All, sym, ap, subst, ◌∙◌, refl}
 use Rattle.turn_gate.specs.Known.{Owns, StartsWith}
-use Rattle.plant_types.specs.Plans.{KeepsPower}
 use Rattle.controller_core.specs.Controller.{ControllerIs, IsLegal}
 use Rattle.controller_core.specs.Notes.{notes_of}
 use Rattle.joint_history.specs.JointLaws.{fixed_of}
@@ -19,9 +18,6 @@ through_gate-zero-requires-clause-talks g c κs within =
     gate.name.opening (g.G.RingSide.side ring) (g.G.RingSide.known ring)
     (ap (λ f. f.plan.node) c.in_ok-gate.ensures.fixed
     ∙ ap (λ (v : ControllerIs). v.fixed.plan.node) made)
-    (subst (λ f. KeepsPower f.plan)
-    (sym (c.in_ok-gate.ensures.fixed ∙ ap (λ (v : ControllerIs). v.fixed) made))
-    c.requires.runnable.power)
     (c.in_ok-gate.ensures.opening ∙ ap (λ (v : ControllerIs). v.history) made)
     c.requires.unused c.in_ok-worker.ensures
 

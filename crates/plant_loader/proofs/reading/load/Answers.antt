@@ -1,6 +1,6 @@
 use Rattle.toml.specs.View.{table_view}
 use Rattle.plant_loader.proofs.LoadedLemmas.{plant_of-document, gives-loaded, loaded-checked}
-use Rattle.plant_loader.proofs.LoadedLemmas.{loaded-drops, loaded-runnable, loaded-keeps}
+use Rattle.plant_loader.proofs.LoadedLemmas.{loaded-drops, loaded-runnable}
 use Rattle.plant_loader.proofs.reading.load.Goals as goal
 
 -- what the call answers is what is read of the bytes
@@ -26,11 +26,5 @@ returns-clause-drops c =
 pub returns-clause-runnable : goal.returns-clause-runnable
 returns-clause-runnable c =
     loaded-runnable c.plant_at.result (gives-loaded c.args.bytes.now c.plant_at.result
-    (plant_of-document c.args.bytes.now (table_view c.in_ok-top.top) c.plant_at.result
-    c.in_ok-top.ensures c.plant_at.ensures))
-
-pub returns-clause-keeps : goal.returns-clause-keeps
-returns-clause-keeps c =
-    loaded-keeps c.plant_at.result (gives-loaded c.args.bytes.now c.plant_at.result
     (plant_of-document c.args.bytes.now (table_view c.in_ok-top.top) c.plant_at.result
     c.in_ok-top.ensures c.plant_at.ensures))

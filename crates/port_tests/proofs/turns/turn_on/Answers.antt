@@ -1,6 +1,7 @@
 use Rattle.std.proofs.Common.{◌≡◌, ℕ, true, List, [], ◌∷◌, sym, ap, ◌∙◌, subst, refl, arith}
 use Rattle.plant_types.specs.declared.net.NetPlan.{NetPlan}
-use Rattle.ring_core.specs.Machine.{addresses, fresh, part_of, ring_after, ring_node, with_members}
+use Rattle.ring_core.specs.Machine.{addresses, fresh, is_here, part_of, ring_after, ring_node}
+use Rattle.ring_core.specs.Machine.{with_members}
 use Rattle.ring_core.specs.declared.entry.RingEntry.{RingEntry}
 use Rattle.std.proofs.Common.{replicate, None, false}
 use Rattle.tied_lists.specs.Waits.{Holds}
@@ -22,15 +23,15 @@ hold_turn-requires-clause-standing c =
     subst (λ (w : WorkerIs). Standing w ram known side c.args.ring.now.history)
     (sym c.in_ok-worker.ensures)
     (subst (λ (r : List RingEntry). Standing
-    (record { node = 2; net = c.args.net.now; budget = true; waiting = replicate path_places None })
+    (record { node = 2; net = c.args.net.now; budget = true; noticed = 0; waiting = replicate path_places None })
     ram known side r) (sym c.requires.empty)
-    (standing-new 2 c.args.net.now true ram known side c.requires.node c.requires.power
-    c.requires.ring tt c.requires.events))
+    (standing-new 2 c.args.net.now true ram known side c.requires.node c.requires.ring tt
+    c.requires.events))
 
 here-of : (net : NetPlan) (rest : List ℕ) → net.members ≡ 2 ∷ rest
-    → (ring_node (ring_after net []) 2).here ≡ true
+    → is_here (ring_node (ring_after net []) 2) ≡ true
 here-of net rest is =
-    ap (λ (l : List ℕ). (part_of (with_members (replicate addresses (fresh false)) l) 2).here) is
+    ap (λ (l : List ℕ). is_here (part_of (with_members (replicate addresses (fresh false)) l) 2)) is
     ∙ first-here 2 rest (omega arith)
 
 pub hold_turn-requires-clause-holds : goal.hold_turn-requires-clause-holds

@@ -2,7 +2,7 @@ use Rattle.std.proofs.Common.{IfSome, sym, subst}
 use Rattle.std.specs.List.{All}
 use Rattle.std.proofs.lemmas.List.Elements.{All-push}
 use Rattle.traffic_cop.specs.Rows.{IsRunnablePlan}
-use Rattle.plant_types.specs.Plans.{KeepsPower, PassesTests}
+use Rattle.plant_types.specs.Plans.{PassesTests}
 use Rattle.run_tests.proofs.read2.two_plans.Goals as goal
 
 pub returns-clause-runs : goal.returns-clause-runs
@@ -14,8 +14,3 @@ pub returns-clause-passes : goal.returns-clause-passes
 returns-clause-passes c = subst (All PassesTests) (sym c.in_ok-push-in-Some.ensures.ok)
     (All-push PassesTests c.args.plans c.in-Some.plan c.requires.all_pass
     (subst (λ p. IfSome p PassesTests) c.in-Some.is c.requires.passes))
-
-pub returns-clause-power : goal.returns-clause-power
-returns-clause-power c = subst (All KeepsPower) (sym c.in_ok-push-in-Some.ensures.ok)
-    (All-push KeepsPower c.args.plans c.in-Some.plan c.requires.all_keep
-    (subst (λ p. IfSome p KeepsPower) c.in-Some.is c.requires.power))

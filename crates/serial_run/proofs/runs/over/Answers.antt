@@ -1,7 +1,7 @@
 use Rattle.std.proofs.Common.{◌∙◌, refl, subst}
 use Rattle.serial_run.specs.Serial.{Repeats}
 use Rattle.serial_run.specs.Stations.{joint_of}
-use Rattle.serial_run.proofs.Collected.{nobody-left, stay-collected}
+use Rattle.serial_run.proofs.Off.{nobody-away}
 use Rattle.serial_run.proofs.Finished.{all-finished-there, all-hosts-finished, ended-kept}
 use Rattle.serial_run.proofs.runs.over.Goals as goal
 
@@ -12,11 +12,16 @@ repeat-requires-clause-stand c =
 pub repeat-requires-clause-between : goal.repeat-requires-clause-between
 repeat-requires-clause-between c = c.in_ok-run.ensures.between
 
-pub repeat-requires-clause-collected : goal.repeat-requires-clause-collected
-repeat-requires-clause-collected c = nobody-left c.in_ok-run.run' c.in_ok-run.ensures.here
+pub repeat-requires-clause-off : goal.repeat-requires-clause-off
+repeat-requires-clause-off c =
+    nobody-away c.args.plant.now c.args.scans c.in_ok-run.run' c.in_ok-run.ensures.stand
+    c.in_ok-run.ensures.here
 
-pub finish-requires : goal.finish-requires
-finish-requires c = record {
+pub finish-requires-clause-off : goal.finish-requires-clause-off
+finish-requires-clause-off c = c.in_ok-repeat.ensures.off
+
+pub finish-requires-clause-stand : goal.finish-requires-clause-stand
+finish-requires-clause-stand c = record {
   plant = c.args.plant.now;
   scans = c.args.scans;
   all = c.in_ok-repeat.ensures.did.stand c.args.plant.now c.args.scans c.in_ok-run.ensures.stand;
@@ -34,7 +39,6 @@ returns c =
     let stands = repeated.did.stand plant scans start.stand in
     let stand = finished.did.stand plant scans stands in
     let ended = ended-kept c.repeat.new.self last finished.scans ∙ repeated.ended in
-    let collected = stay-collected c.repeat.new.self last finished.collected repeated.collected in
     record {
       stand = stand;
       serial = record {
@@ -44,6 +48,7 @@ returns c =
         finishes = finished.did.made plant scans stands;
       };
       complete = c.runs_complete.ensures plant scans (joint_of last)
-          (all-finished-there plant scans last stand finished.left ended collected)
+          (all-finished-there plant scans last stand finished.left ended finished.off
+          finished.visited)
           (all-hosts-finished plant scans last stand finished.left);
     }

@@ -8,5 +8,5 @@ returns c =
     let is = c.in_ok-controller.ensures in
     start-controller c.args.plant.now c.args.scans c.args.plan.now c.in_ok-controller.controller
     c.in_ok-worker.worker c.requires.plant.sound
-    c.requires.member c.requires.power (subst (λ (v : ControllerIs). IsLegal v.fixed v.history) is
+    c.requires.member (subst (λ (v : ControllerIs). IsLegal v.fixed v.history) is
     c.history.ensures.legal) is c.in_ok-worker.ensures

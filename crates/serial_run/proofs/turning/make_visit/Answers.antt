@@ -1,16 +1,30 @@
-use Rattle.std.proofs.Common.{true, Bool, refl, sym, ap, subst, ◌∙◌}
-use Rattle.controller_core.specs.Controller.{has_started}
+use Rattle.std.proofs.Common.{◌≡◌, true, Bool, refl, sym, ap, subst, ◌∙◌}
+use Rattle.ring_core.specs.Kept.{RingLog}
+use Rattle.controller_core.specs.Controller.{has_ended, has_started, is_off}
 use Rattle.joint_history.specs.Reading.{has_started_at}
+use Rattle.tied_lists.specs.Waits.{HasLeft, status_at}
+use Rattle.std.specs.Prelude.{◌&&◌}
 use Rattle.turn_laws.specs.KeepsOn.{KeepsOn}
-use Rattle.serial_run.specs.Held.{VisitedWhere}
-use Rattle.serial_run.proofs.Collecting.{visit-collects}
-use Rattle.serial_run.proofs.Keeping.{stands-before, stands-behind}
-use Rattle.serial_run.proofs.Did.{and-first, not-true}
+use Rattle.serial_run.specs.declared.stations.ControllerStation.{ControllerStation}
+use Rattle.serial_run.specs.Held.{VisitedWhere, is_visit_due, status_in}
+use Rattle.serial_run.specs.Turns.{may_visit}
+use Rattle.serial_run.proofs.Collecting.{visit-collects, visit-status}
+use Rattle.serial_run.proofs.Keeping.{and-false, and-first, left-asks, out-left, stands-before}
+use Rattle.serial_run.proofs.Keeping.{same-worker, stands-behind}
 use Rattle.serial_run.proofs.turning.make_visit.Goals as goal
 
+-- whose visit is due has left
+has-left : (s : ControllerStation) (ring : RingLog) → s.node ≡ s.worker.node
+    → is_visit_due ring s ≡ true → HasLeft ring.net ring.history s.worker.node
+has-left s ring node due =
+    out-left (has_ended s.controller && is_off s.controller)
+    (status_at ring.net ring.history s.worker.node)
+    (ap (λ n. may_visit s.controller.fixed s.controller.history (status_in ring n)) (sym node)
+    ∙ and-first _ (has_started s.controller) due)
+
 pub visit_end-requires-clause-left : goal.visit_end-requires-clause-left
-visit_end-requires-clause-left c = not-true _
-    (sym c.requires.left ∙ and-first c.args.station.now.left _ c.requires.due)
+visit_end-requires-clause-left c =
+    has-left c.args.station.now c.args.ring.now c.requires.node c.requires.due
 
 pub returns : goal.returns
 returns c =
@@ -21,11 +35,12 @@ returns c =
     let new_ring = c.visit_end.new.ring in
     let fixed = ap (λ side. side.fixed) o.step.station.same in
     let net = ap (λ side. side.net) o.step.node.same in
-    let gone = and-first s.left (has_started s.controller) c.requires.due in
+    let out = has-left s ring c.requires.node c.requires.due in
+    let gone = c.requires.left ∙ out in
     record {
       stays = record {
         node = refl;
-        worker = o.worker;
+        worker = same-worker s.worker c.visit_end.new.self o.worker;
         fixed = ap (λ side. side.fixed) o.step.station.same;
         legal = c.history.ensures.legal;
         net = ap (λ side. side.net) o.step.node.same;
@@ -49,12 +64,16 @@ returns c =
           (stands-before s.worker s.controller ring c.requires.keeps.member c.requires.keeps.legal
           c.requires.stands)
           (stands-behind s.worker c.visit_end.new.self s.controller v ring new_ring
-          c.requires.keeps.member c.history.ensures.legal o.worker fixed net
+          c.requires.keeps.member c.history.ensures.legal
+          (same-worker s.worker c.visit_end.new.self o.worker) fixed net
           o.standing)
           (subst (λ (b : Bool). KeepsOn s.controller.fixed ring.net s.worker.node
           s.controller.history ring.history b) gone c.requires.keeps.keeps));
-      collected = λ is. ap (λ f. has_started_at f v.history) fixed
+      status = visit-status s.controller.fixed ring.net s.worker.node s.controller.history
+          v.history ring.history new_ring.history o.visited
+          (left-asks (status_at ring.net ring.history s.worker.node) out);
+      visited = and-false _ _ (ap (λ f. has_started_at f v.history) fixed
           ∙ visit-collects c.calls_follow.ensures s.controller.fixed true ring.net s.worker.node
           s.controller.history v.history
-          ring.history new_ring.history o.visited;
+          ring.history new_ring.history o.visited);
     }

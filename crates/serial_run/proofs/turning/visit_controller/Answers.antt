@@ -1,7 +1,5 @@
 use Rattle.std.proofs.Common.{Bool, refl, sym, subst, ◌∙◌}
-use Rattle.controller_core.specs.Controller.{has_started}
 use Rattle.serial_run.specs.Held.{VisitedWhere}
-use Rattle.serial_run.proofs.Keeping.{none-due}
 use Rattle.serial_run.proofs.turning.visit_controller.Goals as goal
 
 pub returns : goal.returns
@@ -22,6 +20,6 @@ returns c =
       visit = subst (λ (b : Bool). VisitedWhere b s s ring ring)
           (sym (sym c.is_visit_due.ensures ∙ c.if-is_visit_due.false)) (refl, refl);
       keeps = c.requires.keeps.keeps;
-      collected = none-due s.left (has_started s.controller)
-          (sym c.is_visit_due.ensures ∙ c.if-is_visit_due.false);
+      status = refl;
+      visited = sym c.is_visit_due.ensures ∙ c.if-is_visit_due.false;
     }

@@ -1,5 +1,6 @@
 use Rattle.joint_history.proofs.Collected.{CallLaws}
 use Rattle.time_laws.proofs.Legal.{legal-turn, legal-visit, legal-host}
+use Rattle.time_laws.proofs.Turn.{back-in-time}
 use Rattle.time_laws.proofs.laws.turns_stay_in_time.Goals as goal
 
 pub returns : goal.returns
@@ -10,4 +11,9 @@ returns c =
       finishing = c.finishes_end_one_call.ensures;
       tables = c.stays_table.ensures;
     } in
-    record { turns = legal-turn laws; visits = legal-visit laws; hosts = legal-host }
+    record {
+      turns = legal-turn laws;
+      away = back-in-time;
+      visits = legal-visit laws;
+      hosts = legal-host;
+    }

@@ -10,8 +10,8 @@ returns c =
       finishing = c.finishes_end_one_call.ensures;
       tables = c.stays_table.ensures;
     } in
-    λ alone_ram alone_ring fixed net n budget left known new_known ring new_ring t old new k.
-    turn-keeps laws fixed alone_ram alone_ring net n budget left known new_known ring
+    λ alone_ram alone_ring fixed net n budget end known new_known ring new_ring t old new k.
+    turn-keeps laws fixed alone_ram alone_ring net n budget end known new_known ring
     new_ring t old new k
-    (c.turns_stay_in_time.ensures.turns alone_ram alone_ring fixed net n budget left known new_known
+    (c.turns_stay_in_time.ensures.turns alone_ram alone_ring fixed net n budget end known new_known
     ring new_ring old.node old.on new.legal t k.timely)

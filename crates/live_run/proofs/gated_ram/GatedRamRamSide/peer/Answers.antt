@@ -1,15 +1,20 @@
-use Rattle.std.proofs.Common.{ap, subst, sym, ◌∙◌, refl}
+use Rattle.std.proofs.Common.{◌≡◌, ℕ, ap, ◌∙◌, refl, List, Option, Some, None}
 use Rattle.turn_gate.specs.Known.{PassFacts}
-use Rattle.plant_types.specs.Plans.{KeepsPower}
+use Rattle.mstr_block.specs.declared.call.CallId.{CallId}
 use Rattle.controller_core.specs.Controller.{ControllerIs}
 use Rattle.controller_core.specs.declared.entry.Entry.{Entry}
-use Rattle.controller_core.specs.declared.fixed.Fixed.{Fixed}
 use Rattle.joint_history.specs.Reading.{is_ours}
 use Rattle.live_run.specs.Cells.{controller_in, maker_number}
 use Rattle.live_run.specs.Sides.{GatedRamIs}
-use Rattle.controller_core.specs.declared.entry.Entry.TheVariants.{Peer}
+use Rattle.controller_core.specs.Event.{peer_entry}
 use Rattle.live_run.proofs.Stays.{stay-adds, stay-went, all_if, none-ours}
 use Rattle.live_run.proofs.gated_ram.GatedRamRamSide.peer.Goals as goal
+
+-- a request that was taken stands under the communication's number, answered or not
+taken-two : (id : CallId) (request : List ℕ) (reply : Option (List ℕ))
+    → maker_number (peer_entry id request reply) ≡ 2
+taken-two id request (Some reply) = refl
+taken-two id request None = refl
 
 pub leave-requires-clause-added : goal.leave-requires-clause-added
 leave-requires-clause-added g c =
@@ -19,7 +24,8 @@ leave-requires-clause-added g c =
     (ap (λ (p : PassFacts Entry). p.seen) c.enter-held.ensures.pass)
     (ap (λ (v : ControllerIs). v.history) found) c.peer-answer.ensures.went.list
     (all_if maker_number 2 c.peer-answer.result
-    (λ reply. Peer c.args.id c.args.request.now reply) (λ _. refl))
+    (λ reply. peer_entry c.args.id c.args.request.now reply)
+    (taken-two c.args.id c.args.request.now))
 
 pub returns-clause-went : goal.returns-clause-went
 returns-clause-went g c =
@@ -32,11 +38,3 @@ returns-clause-went g c =
           (ap (λ (p : PassFacts Entry). p.seen) c.leave.ensures.pass);
       kept = tt;
     }
-
-pub peer-answer-requires : goal.peer-answer-requires
-peer-answer-requires g c =
-    let found = c.get_mut-controller.ensures.value ∙ ap controller_in c.value.ensures.value in
-    subst (λ (f : Fixed). KeepsPower f.plan)
-    (sym (ap (λ (v : ControllerIs). v.fixed) found
-    ∙ (c.enter-held.ensures.fixed ∙ ap (λ (s : GatedRamIs). s.gate.fixed) c.self.view_is)))
-    c.requires

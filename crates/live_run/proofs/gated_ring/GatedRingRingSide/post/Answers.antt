@@ -1,7 +1,6 @@
-use Rattle.std.proofs.Common.{All, ◌<◌, ap, subst, ◌∙◌, refl}
+use Rattle.std.proofs.Common.{ap, ◌∙◌, refl}
 use Rattle.turn_gate.specs.Known.{PassFacts}
 use Rattle.ring_core.specs.Kept.{RingLog}
-use Rattle.ring_core.specs.Machine.{addresses}
 use Rattle.ring_core.specs.Words.{maker}
 use Rattle.ring_core.specs.declared.entry.RingEntry.{RingEntry}
 use Rattle.tied_lists.specs.Own.{is_of}
@@ -40,10 +39,8 @@ post-answer-requires-clause-next g c =
     let found = c.get_mut-ring.ensures.value ∙ ap ring_in c.value.ensures.value in
     next-in c.args.self.now.gate.fixed c.get_mut-ring.result.now.net c.args.node c.args.frame
     c.self.inside.pass c.args.self.now.seen _ c.get_mut-ring.result.now.history
-    (subst (λ (s : GatedRingIs). All (λ m. m < addresses) s.gate.fixed.members) c.self.view_is
-    c.self.invariant.members) c.requires.member
     (ap (λ (v : RingLog). v.net) found
     ∙ (c.enter-held.ensures.fixed ∙ ap (λ (s : GatedRingIs). s.gate.fixed) c.self.view_is))
-    c.history.ensures.legal (ap (λ (s : GatedRingIs). s.number) c.self.view_is ∙ c.requires.serves)
+    (ap (λ (s : GatedRingIs). s.number) c.self.view_is ∙ c.requires.serves)
     c.enter-held.ensures.found (ap (λ (s : GatedRingIs). s.seen) c.self.view_is)
-    (ap (λ (v : RingLog). v.history) found) c.requires.from c.requires.next
+    (ap (λ (v : RingLog). v.history) found) c.requires.next

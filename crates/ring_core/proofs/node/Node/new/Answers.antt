@@ -7,8 +7,10 @@ returns c =
     let paths = c.in_ok-vec.ensures.items_if_clones_equal (λ y e. e)
     ∙ ap (λ (p : Path). replicate 5 p) c.no_path.ensures in
     let accepted = c.in_ok-new.ensures in
+    let status = c.at_first.ensures in
     λ i. record {
-      here = c.args.here;
+      status = status i;
+      down = 0;
       outbox = c.new.ensures.items i;
       tries = 0;
       inbox = c.new-2.ensures.items i;

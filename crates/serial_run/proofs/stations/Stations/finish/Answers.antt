@@ -1,39 +1,41 @@
-use Rattle.std.proofs.Common.{◌∙◌, sym}
-use Rattle.serial_run.proofs.Rounds.{all-finished, no-late, one-more-late}
+use Rattle.std.proofs.Common.{◌∙◌}
+use Rattle.serial_run.specs.Held.{IsOffAway}
+use Rattle.serial_run.proofs.Gained.{all-stay}
+use Rattle.serial_run.proofs.Rounds.{all-finished, scans-both}
+use Rattle.serial_run.proofs.TurnsMade.{on-ok}
 use Rattle.serial_run.proofs.stations.Stations.finish.Goals as goal
 
-pub loop-self-init : goal.loop-self-init
-loop-self-init c = no-late c.args.self.now
-
-pub round-requires : goal.round-requires
-round-requires c =
-    let r = c.requires in
+pub visit_all-requires : goal.visit_all-requires
+visit_all-requires c =
+    let r = c.requires.stand in
     record {
       plant = r.plant;
       scans = r.scans;
-      all = c.loop-self.invariant.did.stand r.plant r.scans
-          r.all;
+      all = c.in_ok-empty_ring.ensures.did.stand r.plant r.scans r.all;
     }
 
-pub loop-self-preserved : goal.loop-self-preserved
-loop-self-preserved c =
-    one-more-late c.args.self.now c.loop-self.self c.round.new.self c.loop-self.invariant
-    (λ none. c.loop-self-test.true (c.here.ensures ∙ none)) c.in_ok-round.ensures.round
-    c.in_ok-round.ensures.scans c.in_ok-round.ensures.collected
-
-pub loop-self-smaller : goal.loop-self-smaller
-loop-self-smaller c = c.in_ok-round.ensures.less.less
-    (λ none. c.loop-self-test.true (c.here.ensures ∙ none))
-
 pub returns-clause-did : goal.returns-clause-did
-returns-clause-did c = all-finished c.args.self.now c.loop-self.self c.loop-self.invariant
-    (sym c.here.ensures ∙ c.loop-self-test.false)
+returns-clause-did c =
+    on-ok c.visit_all.result
+    (λ visits. all-finished c.args.self.now c.empty_ring.new.self c.visit_all.new.self
+    c.in_ok-empty_ring.ensures.did visits)
+    c.visit_all.ensures.visits
 
 pub returns-clause-scans : goal.returns-clause-scans
-returns-clause-scans c = c.loop-self.invariant.scans
+returns-clause-scans c =
+    on-ok c.visit_all.result
+    (λ scans. scans-both c.args.self.now c.empty_ring.new.self c.visit_all.new.self
+    c.in_ok-empty_ring.ensures.scans scans)
+    c.visit_all.ensures.scans
 
-pub returns-clause-collected : goal.returns-clause-collected
-returns-clause-collected c = c.loop-self.invariant.collected
+pub returns-clause-off : goal.returns-clause-off
+returns-clause-off c =
+    on-ok c.visit_all.result
+    (λ stay. all-stay IsOffAway c.empty_ring.new.self c.visit_all.new.self stay
+    c.in_ok-empty_ring.ensures.off)
+    c.visit_all.ensures.off
 
 pub returns-clause-left : goal.returns-clause-left
-returns-clause-left c = sym c.here.ensures ∙ c.loop-self-test.false
+returns-clause-left c =
+    on-ok c.visit_all.result (λ here. here ∙ c.in_ok-empty_ring.ensures.left)
+    c.visit_all.ensures.here

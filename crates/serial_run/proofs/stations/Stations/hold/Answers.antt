@@ -9,8 +9,11 @@ use Rattle.serial_run.proofs.Did.{host-stands-beside}
 use Rattle.serial_run.proofs.Did.{no-hold-did, stands-beside}
 use Rattle.serial_run.proofs.Measures.{lessens-none, scans-same}
 use Rattle.serial_run.proofs.Holding.{hold-lessens, hold-scans, host-hold-lessens}
-use Rattle.serial_run.proofs.Keeping.{host-is-here, host-keeps-beside, is-here, keeps-beside}
-use Rattle.serial_run.proofs.Collected.{collected-same, collected-with}
+use Rattle.serial_run.proofs.Holding.{here-left}
+use Rattle.serial_run.proofs.Keeping.{host-is-here, host-keeps-beside, keeps-beside}
+use Rattle.serial_run.specs.Held.{IsOffAway}
+use Rattle.serial_run.proofs.Gained.{stays-same}
+use Rattle.serial_run.proofs.Off.{hold-off, host-hold-off}
 use Rattle.serial_run.proofs.stations.Stations.hold.Goals as goal
 
 pub hold_controller-requires-clause-stands : goal.hold_controller-requires-clause-stands
@@ -27,7 +30,7 @@ hold_controller-requires-clause-token c =
     let s = c.index_mut.result.now in
     let found = found-station run c.holder-holder.result c.in-Some.at s
     (sym c.controller_at.ensures ∙ c.in-Some.is) c.index_mut.ensures.value in
-    has-token c.requires.plant c.requires.scans run c.in-Some.at s c.requires.all found.0
+    has-token c.somebody_holds.ensures c.requires.plant c.requires.scans run c.in-Some.at s c.requires.all found.0
     (subst (λ (n : ℕ). (s.node == n) ≡ true) c.holder-holder.ensures found.1)
 
 pub hold_controller-requires-clause-keeps : goal.hold_controller-requires-clause-keeps
@@ -44,8 +47,8 @@ hold_controller-requires-clause-here c =
     let s = c.index_mut.result.now in
     let found = found-station run c.holder-holder.result c.in-Some.at s
     (sym c.controller_at.ensures ∙ c.in-Some.is) c.index_mut.ensures.value in
-    is-here c.requires.plant c.requires.scans run c.in-Some.at s c.requires.all found.0
-    (has-token c.requires.plant c.requires.scans run c.in-Some.at s c.requires.all found.0
+    here-left c.requires.plant c.requires.scans run c.in-Some.at s c.requires.all found.0
+    (has-token c.somebody_holds.ensures c.requires.plant c.requires.scans run c.in-Some.at s c.requires.all found.0
     (subst (λ (n : ℕ). (s.node == n) ≡ true) c.holder-holder.ensures found.1))
 
 pub hold_host-requires-clause-keeps : goal.hold_host-requires-clause-keeps
@@ -66,28 +69,43 @@ hold_host-requires-clause-here c =
     (sym c.host_at.ensures ∙ c.in-Some-host_at.is)
     c.index_mut-in-Some-host_at.ensures.value in
     host-is-here c.requires.plant c.requires.scans run c.in-Some-host_at.at s c.requires.all found.0
-    (host-has-token c.requires.plant c.requires.scans run c.in-Some-host_at.at s c.requires.all
+    (host-has-token c.somebody_holds.ensures c.requires.plant c.requires.scans run c.in-Some-host_at.at s c.requires.all
     found.0
     (subst (λ (n : ℕ). (s.node == n) ≡ true) c.holder-holder.ensures found.1))
 
-pub returns-in-Some-clause-collected : goal.returns-in-Some-clause-collected
-returns-in-Some-clause-collected c =
+pub returns-in-Some-clause-off : goal.returns-in-Some-clause-off
+returns-in-Some-clause-off c =
     let run = c.args.self.now in
     let at = c.in-Some.at in
     let s = c.index_mut.result.now in
     let t = c.hold_controller.new.station in
     let found = found-station run c.holder-holder.result at s
     (sym c.controller_at.ensures ∙ c.in-Some.is) c.index_mut.ensures.value in
-    on-ok c.hold_controller.result (λ held. collected-with run.controllers.items at s t found.0
-    (λ was left. held.collected)) c.hold_controller.ensures
+    on-ok c.hold_controller.result (λ held. hold-off c.requires.plant c.requires.scans run
+    (record {
+      controllers = with_item run.controllers at t;
+      hosts = run.hosts;
+      ring = c.hold_controller.new.ring;
+    }) at s t c.requires.all found.0 refl held) c.hold_controller.ensures
 
-pub returns-in-Some-host_at-clause-collected : goal.returns-in-Some-host_at-clause-collected
-returns-in-Some-host_at-clause-collected c =
-    on-ok c.hold_host.result (λ held. collected-same c.args.self.now.controllers.items)
+pub returns-in-Some-host_at-clause-off : goal.returns-in-Some-host_at-clause-off
+returns-in-Some-host_at-clause-off c =
+    let run = c.args.self.now in
+    let at = c.in-Some-host_at.at in
+    let s = c.index_mut-in-Some-host_at.result.now in
+    let found = found-host run c.holder-holder.result at s
+    (sym c.host_at.ensures ∙ c.in-Some-host_at.is)
+    c.index_mut-in-Some-host_at.ensures.value in
+    on-ok c.hold_host.result (λ held. host-hold-off c.requires.plant c.requires.scans run
+    (record {
+      controllers = run.controllers;
+      hosts = with_item run.hosts at c.hold_host.new.station;
+      ring = c.hold_host.new.ring;
+    }) at s c.hold_host.new.station c.requires.all found.0 refl held refl)
     c.hold_host.ensures
 
-pub returns-clause-collected : goal.returns-clause-collected
-returns-clause-collected c = collected-same c.args.self.now.controllers.items
+pub returns-clause-off : goal.returns-clause-off
+returns-clause-off c = stays-same IsOffAway c.args.self.now.ring c.args.self.now.controllers.items
 
 pub returns-in-Some-clause-held : goal.returns-in-Some-clause-held
 returns-in-Some-clause-held c =
@@ -134,7 +152,7 @@ returns-in-Some-clause-less c =
     let s = c.index_mut.result.now in
     let found = found-station run c.holder-holder.result at s
     (sym c.controller_at.ensures ∙ c.in-Some.is) c.index_mut.ensures.value in
-    let token = has-token c.requires.plant c.requires.scans run at s c.requires.all found.0
+    let token = has-token c.somebody_holds.ensures c.requires.plant c.requires.scans run at s c.requires.all found.0
     (subst (λ (n : ℕ). (s.node == n) ≡ true) c.holder-holder.ensures found.1) in
     on-ok c.hold_controller.result
     (λ held. hold-lessens c.requires.plant c.requires.scans run
@@ -163,7 +181,7 @@ hold_host-requires-clause-token c =
     let found = found-host run c.holder-holder.result c.in-Some-host_at.at s
     (sym c.host_at.ensures ∙ c.in-Some-host_at.is)
     c.index_mut-in-Some-host_at.ensures.value in
-    host-has-token c.requires.plant c.requires.scans run c.in-Some-host_at.at s c.requires.all
+    host-has-token c.somebody_holds.ensures c.requires.plant c.requires.scans run c.in-Some-host_at.at s c.requires.all
     found.0
     (subst (λ (n : ℕ). (s.node == n) ≡ true) c.holder-holder.ensures found.1)
 
@@ -210,7 +228,7 @@ returns-in-Some-host_at-clause-less c =
     let found = found-host run c.holder-holder.result at s
     (sym c.host_at.ensures ∙ c.in-Some-host_at.is)
     c.index_mut-in-Some-host_at.ensures.value in
-    let token = host-has-token c.requires.plant c.requires.scans run at s c.requires.all found.0
+    let token = host-has-token c.somebody_holds.ensures c.requires.plant c.requires.scans run at s c.requires.all found.0
     (subst (λ (n : ℕ). (s.node == n) ≡ true) c.holder-holder.ensures found.1) in
     on-ok c.hold_host.result
     (λ held. host-hold-lessens c.requires.plant c.requires.scans run
@@ -240,7 +258,7 @@ returns-clause-scans c = scans-same c.args.self.now c.args.self.now refl
 pub returns-clause-less : goal.returns-clause-less
 returns-clause-less c =
     let run = c.args.self.now in
-    lessens-none c.requires.plant c.requires.scans run c.requires.all
+    lessens-none c.somebody_holds.ensures c.requires.plant c.requires.scans run c.requires.all
     (subst (λ (n : ℕ). position (λ (x : ControllerStation). x.node == n) run.controllers.items ≡
     None) c.holder-holder.ensures
     (sym c.controller_at.ensures ∙ c.in_default.is))

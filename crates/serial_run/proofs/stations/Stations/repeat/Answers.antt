@@ -4,7 +4,7 @@ use Rattle.serial_run.proofs.stations.Stations.repeat.Goals as goal
 
 pub loop-self-init : goal.loop-self-init
 loop-self-init c = no-repetitions c.args.rotations c.args.self.now c.requires.between
-    c.requires.collected
+    c.requires.off
 
 pub repetition-requires-clause-stand : goal.repetition-requires-clause-stand
 repetition-requires-clause-stand c =
@@ -23,7 +23,7 @@ pub loop-self-preserved : goal.loop-self-preserved
 loop-self-preserved c =
     let o = c.in_ok-repetition.ensures in
     one-more-repetition c.args.rotations c.args.self.now c.loop-self.self c.repetition.new.self
-    c.loop-self.invariant o.did o.between o.collected
+    c.loop-self.invariant o.did o.between o.off
 
 pub loop-self-smaller : goal.loop-self-smaller
 loop-self-smaller c = c.in_ok-repetition.ensures.less
@@ -35,5 +35,5 @@ returns-clause-did c = all-repeated c.args.rotations c.args.self.now c.loop-self
 pub returns-clause-ended : goal.returns-clause-ended
 returns-clause-ended c = sym c.have_ended.ensures ∙ c.loop-self-test.false
 
-pub returns-clause-collected : goal.returns-clause-collected
-returns-clause-collected c = c.loop-self.invariant.collected
+pub returns-clause-off : goal.returns-clause-off
+returns-clause-off c = c.loop-self.invariant.off

@@ -1,8 +1,18 @@
 use Rattle.std.proofs.Common.{arith}
-use Rattle.serial_run.proofs.Collected.{stay-collected}
+use Rattle.serial_run.specs.Held.{IsOffAway}
+use Rattle.serial_run.proofs.Gained.{all-stay, stays-both}
 use Rattle.serial_run.proofs.Rounds.{repetition-did, scans-between, scans-both, steps-kept}
 use Rattle.serial_run.proofs.TurnsMade.{on-ok}
 use Rattle.serial_run.proofs.stations.Stations.repetition.Goals as goal
+
+pub come_back_all-requires : goal.come_back_all-requires
+come_back_all-requires c =
+    let r = c.requires.stand in
+    record {
+      plant = r.plant;
+      scans = r.scans;
+      all = c.in_ok-scan_all.ensures.scans.stand r.plant r.scans r.all;
+    }
 
 pub visit_all-requires : goal.visit_all-requires
 visit_all-requires c =
@@ -10,8 +20,8 @@ visit_all-requires c =
     record {
       plant = r.plant;
       scans = r.scans;
-      all = c.in_ok-scan_all.ensures.scans.stand r.plant
-          r.scans r.all;
+      all = c.in_ok-come_back_all.ensures.came.stand r.plant r.scans
+          (c.in_ok-scan_all.ensures.scans.stand r.plant r.scans r.all);
     }
 
 pub rounds-requires : goal.rounds-requires
@@ -21,23 +31,27 @@ rounds-requires c =
       plant = r.plant;
       scans = r.scans;
       all = c.in_ok-visit_all.ensures.visits.stand r.plant r.scans
-          (c.in_ok-scan_all.ensures.scans.stand r.plant r.scans r.all);
+          (c.in_ok-come_back_all.ensures.came.stand r.plant r.scans
+          (c.in_ok-scan_all.ensures.scans.stand r.plant r.scans r.all));
     }
 
 pub returns-clause-did : goal.returns-clause-did
 returns-clause-did c =
     on-ok c.rounds.result
     (λ rounds. repetition-did c.args.rotations c.args.self.now c.scan_all.new.self
-    c.visit_all.new.self c.rounds.new.self c.requires.goes_on
-    c.in_ok-scan_all.ensures.scans c.in_ok-visit_all.ensures.visits rounds)
+    c.come_back_all.new.self c.visit_all.new.self c.rounds.new.self c.requires.goes_on
+    c.in_ok-scan_all.ensures.scans c.in_ok-come_back_all.ensures.came
+    c.in_ok-visit_all.ensures.visits rounds)
     c.rounds.ensures.rounds
 
 pub returns-clause-between : goal.returns-clause-between
 returns-clause-between c =
     on-ok c.rounds.result
     (λ scans. scans-between c.scan_all.new.self c.rounds.new.self
-    (scans-both c.scan_all.new.self c.visit_all.new.self c.rounds.new.self
-    c.in_ok-visit_all.ensures.scans scans) c.in_ok-scan_all.ensures.between)
+    (scans-both c.scan_all.new.self c.come_back_all.new.self c.rounds.new.self
+    c.in_ok-come_back_all.ensures.scans
+    (scans-both c.come_back_all.new.self c.visit_all.new.self c.rounds.new.self
+    c.in_ok-visit_all.ensures.scans scans)) c.in_ok-scan_all.ensures.between)
     c.rounds.ensures.scans
 
 pub returns-clause-less : goal.returns-clause-less
@@ -45,15 +59,18 @@ returns-clause-less c =
     on-ok c.rounds.result
     (λ scans.
     let same = steps-kept c.scan_all.new.self c.rounds.new.self
-    (scans-both c.scan_all.new.self c.visit_all.new.self c.rounds.new.self
-    c.in_ok-visit_all.ensures.scans scans) in
+    (scans-both c.scan_all.new.self c.come_back_all.new.self c.rounds.new.self
+    c.in_ok-come_back_all.ensures.scans
+    (scans-both c.come_back_all.new.self c.visit_all.new.self c.rounds.new.self
+    c.in_ok-visit_all.ensures.scans scans)) in
     let less = c.in_ok-scan_all.ensures.less c.requires.goes_on in
     omega (arith, same, less))
     c.rounds.ensures.scans
 
-pub returns-clause-collected : goal.returns-clause-collected
-returns-clause-collected c =
+pub returns-clause-off : goal.returns-clause-off
+returns-clause-off c =
     on-ok c.rounds.result
-    (λ stay. stay-collected c.visit_all.new.self c.rounds.new.self stay
-    c.in_ok-visit_all.ensures.collected)
-    c.rounds.ensures.collected
+    (λ stay. all-stay IsOffAway c.come_back_all.new.self c.rounds.new.self
+    (stays-both IsOffAway c.come_back_all.new.self c.visit_all.new.self c.rounds.new.self
+    c.in_ok-visit_all.ensures.off stay) c.in_ok-come_back_all.ensures.off)
+    c.rounds.ensures.off

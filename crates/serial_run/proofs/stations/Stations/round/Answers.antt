@@ -19,18 +19,18 @@ pub loop-preserved : goal.loop-preserved
 loop-preserved c =
     let o = c.in_ok-hold.ensures in
     one-more-hold c.loop.counter c.args.self.now c.loop.self c.hold.new.self c.loop.invariant o.held
-    o.scans o.less o.collected
+    o.scans o.less o.off
 
 pub returns-clause-round : goal.returns-clause-round
 returns-clause-round c =
     let low = c.loop-test.false in
     let high = c.loop.auto.counter-end in
-    let is : c.loop.counter ≡ c.here-end.result = omega (arith, low, high) in
-    holds-round c.args.self.now c.loop.self c.loop.counter (is ∙ c.here-end.ensures)
+    let is : c.loop.counter ≡ c.members-end.result = omega (arith, low, high) in
+    holds-round c.args.self.now c.loop.self c.loop.counter (is ∙ c.members-end.ensures)
     c.loop.invariant
 
-pub returns-clause-collected : goal.returns-clause-collected
-returns-clause-collected c = c.loop.invariant.collected
+pub returns-clause-off : goal.returns-clause-off
+returns-clause-off c = c.loop.invariant.off
 
 pub returns-clause-scans : goal.returns-clause-scans
 returns-clause-scans c = c.loop.invariant.scans
@@ -39,6 +39,8 @@ pub returns-clause-less : goal.returns-clause-less
 returns-clause-less c =
     let low = c.loop-test.false in
     let high = c.loop.auto.counter-end in
-    let is : c.loop.counter ≡ c.here-end.result = omega (arith, low, high) in
-    holds-lessen c.args.self.now c.loop.self c.loop.counter (is ∙ c.here-end.ensures)
+    let is : c.loop.counter ≡ c.members-end.result = omega (arith, low, high) in
+    let r = c.requires in
+    holds-lessen c.somebody_holds.ensures r.plant r.scans c.args.self.now c.loop.self
+    c.loop.counter r.all (is ∙ c.members-end.ensures)
     c.loop.invariant

@@ -1,7 +1,8 @@
 use Rattle.std.proofs.Common.{◌≡◌, refl, subst, arith}
 use Rattle.serial_run.specs.Serial.{MakesRounds}
 use Rattle.serial_run.specs.Stations.{Did}
-use Rattle.serial_run.proofs.Collected.{collected-both, collected-same}
+use Rattle.serial_run.specs.Held.{IsOffAway}
+use Rattle.serial_run.proofs.Gained.{stays-both, stays-same}
 use Rattle.serial_run.proofs.Measures.{scans-same}
 use Rattle.serial_run.proofs.Rounds.{no-rounds, one-more-round, scans-both}
 use Rattle.serial_run.proofs.stations.Stations.rounds.Goals as goal
@@ -10,7 +11,7 @@ pub loop-init : goal.loop-init
 loop-init c = record {
   did = no-rounds c.args.self.now;
   scans = scans-same c.args.self.now c.args.self.now refl;
-  collected = collected-same c.args.self.now.controllers.items;
+  off = stays-same IsOffAway c.args.self.now.ring c.args.self.now.controllers.items;
 }
 
 pub round-requires : goal.round-requires
@@ -31,8 +32,8 @@ loop-preserved c =
           c.loop.invariant.did o.round;
       scans = scans-both c.args.self.now c.loop.self c.round.new.self c.loop.invariant.scans
           o.scans;
-      collected = collected-both c.args.self.now c.loop.self c.round.new.self
-          c.loop.invariant.collected o.collected;
+      off = stays-both IsOffAway c.args.self.now c.loop.self c.round.new.self
+          c.loop.invariant.off o.off;
     }
 
 pub returns-clause-rounds : goal.returns-clause-rounds
@@ -43,8 +44,8 @@ returns-clause-rounds c =
     subst (λ n. Did (λ plant scans. MakesRounds plant scans n) c.args.self.now c.loop.self) is
     c.loop.invariant.did
 
-pub returns-clause-collected : goal.returns-clause-collected
-returns-clause-collected c = c.loop.invariant.collected
+pub returns-clause-off : goal.returns-clause-off
+returns-clause-off c = c.loop.invariant.off
 
 pub returns-clause-scans : goal.returns-clause-scans
 returns-clause-scans c = c.loop.invariant.scans
