@@ -7,6 +7,9 @@ WORDS = [
     (r"S (\d+)", "the segment of row {0} was solved, or left out where its control is off"),
     (r"O (\d+) (\S+)", "the output drop of row {0} was given the words {1}"),
     (r"E", "the scan ended"),
+    (r"X", "power failed, and the scan went no further"),
+    (r"K", "a scan went by without power"),
+    (r"N (\S+) (\S+)", "the request {1} of call {0} came without power: it had no effect, and there is no reply"),
     (r"L (.*)", "calls were handed on: {0}"),
     (r"P (\S+) (\S+) (\S+)", "the request {1} of call {0} was answered with {2}"),
     (r"F (\S+) G (\S+)", "call {0} came to a good result: the words {1}"),
@@ -28,6 +31,8 @@ WORDS = [
     (r"PA (\d+) 1 (\S+)", "node {0} passed the token on, and was done; its global words: {1}"),
     (r"LE (\d+) E", "node {0} left the ring, since all were done"),
     (r"LE (\d+) S", "node {0} left the ring, since it had used up its passes"),
+    (r"LE (\d+) D(\d+)", "node {0} left the ring, since power had failed: failure {1} of its controller"),
+    (r"JN (\d+)", "node {0} asked to come in again"),
 ]
 
 

@@ -45,6 +45,7 @@ TESTS = {
     "module": reasons.of_module,
     "script": reasons.of_script,
     "order": reasons.of_order,
+    "power": reasons.of_power,
     "panel": reasons.of_panel,
     "host": reasons.of_host,
     "request": reasons.of_request,

@@ -223,6 +223,29 @@ def of_order(plant, path):
         yield from of_reference(plant, words[1], "01", 1, path[:2], path, "a control")
 
 
+# The most scans of a run, and the most dark scans behind a failure.
+MOST_SCANS = 2000
+
+
+def of_power(plant, path):
+    words, rows = words_of(plant.at(path)), len(plant.at(path[:2]).get("orders", []))
+    if len(words) != 3:
+        detail = f"it has {len(words)}: the scan, the row of the order of solve, and how many scans after it are dark"
+        yield Finding(15, "a power failure that has not three words", detail, path)
+        return
+    limits = (("scan", 1, MOST_SCANS), ("row", 0, rows), ("number of dark scans", 0, MOST_SCANS))
+    for word, (name, low, high) in zip(words, limits):
+        if not re.fullmatch("0|[1-9][0-9]*", word) or not low <= int(word) <= high:
+            has = f"; the controller has {rows} order rows" if name == "row" else ""
+            yield Finding(15, "a number of a power failure out of its range", f"the {name} {word} is not {low} to {high}{has}", path)
+    if path[-1]:
+        before = path[:-1] + (path[-1] - 1,)
+        scan, _, dark = [int(word) for word in words_of(plant.at(before))]
+        if int(words[0]) <= scan + dark:
+            detail = f"it is in scan {words[0]}, and the one before it goes to scan {scan + dark}"
+            yield Finding(15, "a power failure before the last one is over", detail, path, before)
+
+
 def of_panel(plant, path):
     words = words_of(plant.at(path))
     word = words[0] if len(words) == 1 else plant.at(path)

@@ -8,7 +8,7 @@ import journal as journals
 import program
 from checking import CASES, TOP, changed, panel_of, plant_file, read_text, results, run_script
 
-PAGES = "bottle_counter conveyor count_line endless_call matrices motor_starter pump_house pumps read_two traffic_light".split()
+PAGES = "bottle_counter conveyor count_line endless_call matrices motor_starter power_cut pump_house pumps read_two traffic_light".split()
 LABELS = """(() => { const box = document.getElementById('plot'), found = {};
   for (let top = 0; top === 0 || top < box.scrollHeight; top += 100) {
     box.scrollTop = top; drawTiming(view);

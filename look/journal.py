@@ -17,8 +17,8 @@ CALL = rf"{ID}={NUMBER}:{PDU}|{ID}={LOCAL}"
 STATION = rf"""
     (?P<kind>P)\ (?P<id>{ID})\ (?P<pdu>{PDU})\ (?P<reply>{PDU})"""
 CONTROLLER = re.compile(
-    rf"""(?P<event>[BE]) | (?P<row>[IS])\ (?P<at>{NUMBER}) | O\ (?P<out>{NUMBER})\ {BLOCK}
-    | L(?P<calls>(?:\ (?:{CALL}))+) | {STATION}
+    rf"""(?P<event>[BEXK]) | (?P<row>[IS])\ (?P<at>{NUMBER}) | O\ (?P<out>{NUMBER})\ {BLOCK}
+    | L(?P<calls>(?:\ (?:{CALL}))+) | {STATION} | N\ (?P<declined>{ID})\ {PDU}
     | F\ (?P<ended>{ID})\ (?:G\ (?P<good>{BLOCK})|B\ (?P<bad>{WORD}))""",
     re.VERBOSE,
 )
@@ -34,7 +34,8 @@ RING = re.compile(
     | LO\ (?P<local>{NUMBER})\ (?P<own>{ID})\ (?P<op>{LOCAL}|RG|RC)\ (?:G\ (?P<good>{BLOCK})|B\ (?P<bad>{WORD}))
     | GU\ (?P<given>{ID})\ (?P<word>{WORD})
     | PA\ (?P<passed>{NUMBER})\ (?P<done>[01])\ (?P<words>{WORDS})
-    | LE\ (?P<left>{NUMBER})\ (?P<cause>[ES])""",
+    | LE\ (?P<left>{NUMBER})\ (?:(?P<cause>[ES])|D(?P<down>{NUMBER}))
+    | JN\ (?P<joined>{NUMBER})""",
     re.VERBOSE,
 )
 # The largest number that each of these fields takes.
@@ -76,11 +77,13 @@ def small(name, value):
     """Whether the numbers of a field are within their types."""
     if value is None or not isinstance(value, str):
         return True
-    if name in ("id", "ended", "asked", "replied", "taken", "own", "given"):
+    if name in ("id", "ended", "asked", "replied", "taken", "own", "given", "declined"):
         node, path, seq = (int(part) for part in value.split("."))
         return node <= 255 and path <= 255 and seq < 2**32
-    if name in ("to", "post", "send", "take", "local", "passed", "left"):
+    if name in ("to", "post", "send", "take", "local", "passed", "left", "joined"):
         return int(value) <= 255
+    if name == "down":
+        return int(value) < 2**32
     if name == "op":
         parts = value.split(":")
         return parts[0] != "GG" or (int(parts[1]) <= 255 and int(parts[2]) <= 65535)
@@ -134,13 +137,19 @@ class Panel:
     lines: list = field(default_factory=list)
 
     def changes(self, node, reference):
-        """Scan and value, again and again, for each scan in which the value is another than before."""
+        """Scan and value, again and again, for each scan in which the value is another than before; None without power."""
         found, before = [], None
-        for scan, value in self.values.get(node, {}).get(reference, []):
+        values = self.values.get(node, {}).get(reference, [])
+        for scan, value in sorted([*values, *((scan, None) for scan in self.dark.get(node, []))], key=lambda pair: pair[0]):
             if value != before:
                 found += [scan, value]
                 before = value
         return found
+
+    def lit(self, node):
+        """The number of scans of which a controller has a line with values."""
+        last = self.scans.get(node, 0)
+        return last - sum(scan < last for scan in self.dark.get(node, []))
 
 
 def read_panel(text):
@@ -185,6 +194,7 @@ class Call:
     began: list = None
     ended: list = None
     served: list = None
+    declined: list = None
     outcome: str = "open"
     result: str = ""
     raw: str = ""
@@ -218,7 +228,8 @@ class Calls:
 
     def __init__(self, journal):
         self.by_id = {}
-        self.scans = {}
+        # By node the scans that ended with power.
+        self.powered = {}
         for node, entries in journal.controllers.items():
             self.read_controller(node, entries)
         for node, entries in journal.hosts.items():
@@ -233,10 +244,13 @@ class Calls:
         scan, is_inside = 0, False
         for entry in entries:
             fields = entry.fields
-            if fields.get("event") == "B":
-                scan, is_inside = scan + 1, True
-            elif fields.get("event") == "E":
-                is_inside = False
+            event = fields.get("event")
+            if event in ("B", "K"):
+                scan += 1
+            if event:
+                is_inside = event == "B"
+            if event == "E":
+                self.powered.setdefault(node, []).append(scan)
             at = [scan, is_inside, entry.line]
             for one in ONE_CALL.finditer(fields.get("calls", "")):
                 call = self.call(one["id"], entry, f"C {node}")
@@ -246,6 +260,8 @@ class Calls:
                 else:
                     call.words, call.to = local_words(one["op"]), node
             self.read_served(node, entry, at, "C")
+            if "declined" in fields:
+                self.call(fields["declined"], entry, f"C {node}").declined = [node, *at]
             if "ended" in fields:
                 call = self.call(fields["ended"], entry, f"C {node}")
                 call.ended = at
@@ -295,6 +311,8 @@ class Ring:
     def __init__(self, journal, plant, calls, scans=0):
         self.plant, self.calls, self.scans = plant, calls, scans
         self.members = set(plant.nodes)
+        # The nodes that ask to come in, and the one that has left in a turn that goes on: it gives up its calls.
+        self.asking, self.leaving = set(), None
         self.outboxes = {}
         self.passed = {}
         self.sent = 0
@@ -322,6 +340,9 @@ class Ring:
 
     def add(self, place, entry):
         f = entry.fields
+        if self.leaving is not None and not self.goes_on(f):
+            self.leaving = None
+            self.end_turn()
         if "post" in f:
             self.post(place, entry, f)
         elif "send" in f:
@@ -337,12 +358,48 @@ class Ring:
             self.outboxes[node] = deque(frame for frame in self.outboxes.get(node, ()) if frame["id"] != f["given"])
         elif "passed" in f:
             self.pass_on(place, entry, int(f["passed"]), f)
+        elif "joined" in f:
+            self.join(place, entry, int(f["joined"]))
         else:
-            node = int(f["left"])
-            cause = "all are done" if f["cause"] == "E" else "its passes are spent"
-            self.row(place, entry, "leave", node, words=f"leaves the ring: {cause}")
-            self.members.discard(node)
-            self.end_turn()
+            self.leave(place, entry, int(f["left"]), f)
+
+    def leave(self, place, entry, node, f):
+        cause = {"E": "all are done", "S": "its passes are spent"}.get(f.get("cause"), "power has failed")
+        self.row(place, entry, "leave", node, words=f"leaves the ring: {cause}")
+        self.admit()
+        self.members.discard(node)
+        self.leaving = node
+        if "down" in f:
+            # Its boxes and its global words are lost with the power.
+            self.outboxes.pop(node, None)
+            self.passed.pop(node, None)
+
+    def goes_on(self, f):
+        """Whether an entry still belongs to the turn in which a node left."""
+        if "joined" in f:
+            return int(f["joined"]) == self.leaving and self.scan_of_join(self.leaving) == self.scan()
+        return "given" in f and int(f["given"].split(".")[0]) == self.leaving
+
+    def scan_of_join(self, node):
+        """A node comes back behind the first scan that its controller ends with power."""
+        return next((scan for scan in self.calls.powered.get(node, []) if scan >= self.scan()), 0) if self.scans else 0
+
+    def join(self, place, entry, node):
+        scan = self.scan_of_join(node)
+        if scan > self.scan():
+            # The node was away: it asks between the scans and the rounds of that repetition.
+            self.rows += self.hold
+            self.hold, self.round = [], (scan - 1) * self.plant.rotations + 1
+            self.turns_left = None
+        self.row(place, entry, "join", node, words="has power, and asks to come in again")
+        (self.asking if self.members else self.members).add(node)
+        if self.turns_left is None:
+            self.turns_left = len(self.members)
+
+    def admit(self):
+        """At a pass, and at a leave, all that ask come in."""
+        self.members |= self.asking
+        self.asking = set()
 
     def post(self, place, entry, f):
         node, is_request = int(f["post"]), "asked" in f
@@ -403,6 +460,7 @@ class Ring:
             self.rows.append(row | {"scan": self.scan()})
         else:
             self.row(place, entry, "pass", node, words=words, done=f["done"] == "1")
+        self.admit()
         self.end_turn()
 
     def end_turn(self):

@@ -125,6 +125,7 @@ def call_data(call, rows_scan):
         "began": began if call.began else None,
         "ended": ended if call.ended else None,
         "served": call.served,
+        "declined": call.declined,
         "outcome": call.outcome,
         "result": call.result,
         "tries": len(call.sends),

@@ -59,6 +59,8 @@ def value_text(run, node, reference, scan):
     value = dict(run.panel.values.get(node, {}).get(reference, [])).get(scan)
     if value is not None:
         return str(value)
+    if scan in run.panel.dark.get(node, []):
+        return "without power"
     return "stopped" if node in run.panel.stops else "no value"
 
 
@@ -68,6 +70,10 @@ def compare_controller(old, new, node, scans, are_journals):
     stops = [run.panel.stops.get(node) for run in (old, new)]
     if stops[0] != stops[1]:
         told = [f"stopped in scan {stop[0]} with code {stop[1]}" if stop else "did not stop" for stop in stops]
+        lines.append(f"controller {node}: {told[0]} in {old.name}, {told[1]} in {new.name}")
+    dark = [run.panel.dark.get(node, []) for run in (old, new)]
+    if dark[0] != dark[1]:
+        told = [f"without power in scans {ranges_text(ranges_of(them))}" if them else "never without power" for them in dark]
         lines.append(f"controller {node}: {told[0]} in {old.name}, {told[1]} in {new.name}")
     panel, others = shared_references(old.plant.controller(node), new.plant.controller(node))
     found = differing(old, new, node, panel + others)

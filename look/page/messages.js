@@ -71,6 +71,7 @@ function drawCall(box, call, view) {
   step(steps, 'began', call.began, view);
   const others = call.outcome === 'good' ? "answered by the node's port" : 'nobody served it';
   if (call.served) step(steps, `served at node ${call.served[0]}`, call.served.slice(1), view);
+  else if (call.declined) step(steps, `came to node ${call.declined[0]} without power`, call.declined.slice(1), view);
   else if (call.kind !== 'local') make(steps, 'span', {class: 'step'}, others);
   step(steps, 'ended', call.ended, view);
   if (call.tries) make(steps, 'span', {class: 'step'}, `${call.tries} transmissions`);
@@ -93,7 +94,7 @@ function step(box, name, at, view) {
 
 // The rows of the chart that are wanted.
 function chartRows(run, framesAlone) {
-  return framesAlone ? run.rows.filter(row => row.kind === 'send' || row.kind === 'give up' || row.kind === 'leave') : run.rows;
+  return framesAlone ? run.rows.filter(row => row.kind === 'send' || row.kind === 'give up' || row.kind === 'leave' || row.kind === 'join') : run.rows;
 }
 
 function drawLaneNames(box, lanes, nodes) {

@@ -118,6 +118,10 @@ function showHead() {
     for (const node in run.stops) {
       make(box, 'span', {class: 'chip bad'}, `✕ controller ${node} stopped in scan ${run.stops[node][0]}`);
     }
+    for (const node in run.dark) {
+      const scans = run.dark[node].length;
+      make(box, 'span', {class: 'chip bad'}, `✕ controller ${node} without power in ${scans} scan${scans > 1 ? 's' : ''}`);
+    }
   }
 }
 

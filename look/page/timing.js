@@ -80,7 +80,7 @@ function drawRow(plot, view, row, y) {
   const changes = (run.values[row.node] || {})[row.reference] || [];
   const last = Math.min(scale.last, lastScan(run, row.node));
   if (changes.length && scale.first <= last) {
-    const spans = spansOf(changes, scale.first, last);
+    const spans = spansOf(changes, scale.first, last).filter(span => span.value !== null);
     if (row.kind === 'bit') drawBit(inside, scale, spans, y, row); else drawWord(inside, scale, spans, y, row);
   }
   drawStop(inside, scale, run, row.node, y);
@@ -107,10 +107,11 @@ function drawLabel(plot, view, row, run, y) {
 // A discrete: a line that is high or low, filled below where it is on. Narrow fills are drawn as one.
 function drawBit(plot, scale, spans, y, row) {
   const high = y + 5, low = y + ROW - 5;
-  let line = '', narrow = '';
+  let line = '', narrow = '', told = null;
   for (const span of spans) {
     const left = scale.x(span.from - 1), right = scale.x(span.to);
-    line += `${line ? 'V' : 'M' + left + ' '}${span.value ? high : low}H${right}`;
+    line += `${told === span.from - 1 ? 'V' : 'M' + left + ' '}${span.value ? high : low}H${right}`;
+    told = span.to;
     if (!span.value) continue;
     if (right - left < 4) {
       narrow += `M${left} ${high}H${right}V${low}H${left}Z`;
