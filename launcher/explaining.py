@@ -15,6 +15,8 @@ STEPS = {"module": "modules", "network": "networks", "order": "orders", "request
 MOST_BRACKETS = 80
 # How many characters of a line are shown.
 SHOWN = 100
+# A fault of the words and the plant together, and not of the plant file.
+NO_CONTROLLER = (17, "a session of a node without a controller")
 
 
 def advice():
@@ -27,12 +29,12 @@ class Refusal:
     """A line `refused <number> <name> <place>`, and the path of its place."""
 
     def __init__(self, line):
-        found = re.fullmatch(r"refused (\d+) (\w+) (plant|net|(?:[a-z]+ \d+ ?)+)\n?", line)
+        found = re.fullmatch(r"refused (\d+) (\w+) (plant|net|session|(?:[a-z]+ \d+ ?)+)\n?", line)
         if not found:
             raise ValueError(f"no refusal line: {line!r}")
         self.number, self.name = int(found[1]), found[2]
-        self.path, self.what = (() if found[3] == "plant" else ("net",)), found[3]
-        if found[3] not in ("plant", "net"):
+        self.path, self.what = (("net",) if found[3] == "net" else ()), found[3]
+        if found[3] not in ("plant", "net", "session"):
             words = found[3].split()
             steps = zip(words[::2], words[1::2])
             self.path = tuple(it for word, number in steps for it in (STEPS.get(word, word), int(number) - 1) if it != "cell")
@@ -93,6 +95,8 @@ def of_toml(text):
         line = int(last or text.rstrip("\n").count("\n") + 1)
         if text.split("\n")[line - 1].startswith("%JOURNAL"):
             return "a journal where none is read", "`run`, `trace` and `live` read a plant alone", line
+        if text.split("\n")[line - 1].rstrip("\r") == "%SESSION":
+            return "bytes of a port where none are read", "only `session` reads them, behind a line that is exactly %SESSION", line
         if re.search("overwrite|twice|immutable|already", words):
             return "a key or a table that stands there twice", words, line
         return "a line that is no TOML", words[:1].lower() + words[1:], line
@@ -134,6 +138,14 @@ def told(name, spots, number, fault, finding):
         yield f"what to do: {words.replace('`', '')}"
 
 
+def no_controller(plant, refusal):
+    """Why there is no session: no line of the file is at fault."""
+    nodes = sorted(controller["node"] for controller in plant.document["controller"])
+    listed = ", ".join(str(node) for node in nodes)
+    yield f"{refusal.number} {refusal.name}, {NO_CONTROLLER[1]}: the plant has a controller at node {listed}"
+    yield f"what to do: {advice()[NO_CONTROLLER].replace('`', '')}"
+
+
 def explain(name, data, refusal):
     """The lines that explain the refusal of a file's bytes; none where these tests find nothing wrong there."""
     try:
@@ -149,6 +161,8 @@ def explain(name, data, refusal):
         row = text.split("\n")[line - 1]
         return told(name, [(line, shown(row))], refusal.number, refusal.name, Finding(1, reason, detail))
     plant = Plant(text, tomllib.loads(text), Places(text), schema())
+    if refusal.what == "session":
+        return no_controller(plant, refusal)
     finding = next((it for it in findings(plant, refusal) if it.fault == refusal.number), None)
     if finding is None:
         return []

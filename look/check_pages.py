@@ -171,6 +171,31 @@ def try_journal_pages(window, folder):
     results.equal("their requests", ["node", "its request", "good.journal", "live.journal"], head)
 
 
+def try_routes(window, folder):
+    """The routes of calls and of frames, and where a request that was taken is to go on to."""
+    page = os.path.join(folder, "routes.html")
+    status = run_script("view", "1", plant_file("read_two"), os.path.join(CASES, "routes.journal"), page)[0]
+    window.open("file://" + page)
+    ways = window.texts("#calls .way")
+    wanted = {"2 → 5.7", "2 → 1.2.3.4.255", "2 → 5", "10 → 5.7", "10 → 0.2.3.4.255", "own port"}
+    results.equal("the routes of calls", (0, wanted), (status, set(ways)))
+    words = window.texts("#chart .words")
+    wanted = [
+        "puts request 2.1.1 to node 7 by route 5.7 into its outbox",
+        "request 2.1.1 to node 7 by route 5.7: no bridge there – read 40001 to 40002",
+        "puts request 9.1.1 to node 255 by route 1.2.3.4.5.255 into its outbox",
+        "takes request 2.1.1",
+        "takes request 2.1.1, which is to go on to node 7",
+        "takes request 2.2.1, which is to go on to node 255 by route 2.3.4.255",
+        "takes reply to 2.1.1",
+    ]
+    results.equal("the routes of frames", wanted, [one for one in wanted if one in words])
+    window.value("view.select('2.1.1', 0)")
+    told = window.text("#call")
+    results.note("a call by a route", "Node 2 asks node 7 by route 5.7: read 40001 to 40002." in told, told)
+    results.equal("routes: errors", [], window.errors())
+
+
 def try_compare_page(window, folder):
     read_two, page = plant_file("read_two"), os.path.join(folder, "compare.html")
     lost = changed(folder, "lost.toml", "rounds = 1", 'rounds = 1\nfates = "A"', "read_two")
@@ -194,6 +219,7 @@ def try_pages(folder):
         try_markup(window, folder)
         try_large(window, folder)
         try_journal_pages(window, folder)
+        try_routes(window, folder)
         try_compare_page(window, folder)
     finally:
         window.close()

@@ -5,14 +5,17 @@ from dataclasses import dataclass, field
 
 import modbus
 
-NUMBER = r"(?:0|[1-9][0-9]*)"
+NUMBER = r"(?:0|[1-9][0-9]{0,9})"
 ID = rf"{NUMBER}\.{NUMBER}\.{NUMBER}"
+# A route has at most five addresses; where a request is posted, its target stands before one.
+ROUTE = rf"{NUMBER}(?:\.{NUMBER}){{0,4}}"
+WAY = rf"{NUMBER}(?:\.{NUMBER}){{0,5}}"
 PDU = r"(?:[0-9a-f]{2}){1,253}"
 WORDS = r"(?:-|(?:[0-9a-f]{4})+)"
 BLOCK = r"(?:-|(?:[0-9a-f]{4}){1,100})"
 WORD = r"[0-9a-f]{4}"
 LOCAL = rf"(?:GS|CS|PG:{WORDS}|GG:{NUMBER}:{NUMBER})"
-CALL = rf"{ID}={NUMBER}:{PDU}|{ID}={LOCAL}"
+CALL = rf"{ID}={ROUTE}:{PDU}|{ID}={LOCAL}"
 
 STATION = rf"""
     (?P<kind>P)\ (?P<id>{ID})\ (?P<pdu>{PDU})\ (?P<reply>{PDU})"""
@@ -23,14 +26,14 @@ CONTROLLER = re.compile(
     re.VERBOSE,
 )
 HOST = re.compile(
-    rf"""Q\ (?P<asked>{ID})\ (?P<to>{NUMBER})\ (?P<ask>{PDU})
+    rf"""Q\ (?P<asked>{ID})\ (?P<route>{ROUTE})\ (?P<ask>{PDU})
     | A\ (?P<ended>{ID})\ (?:R\ (?P<good>{PDU})|B\ (?P<bad>{WORD})) | {STATION}""",
     re.VERBOSE,
 )
 RING = re.compile(
-    rf"""PO\ (?P<post>{NUMBER})\ (?:Q\ (?P<asked>{ID})\ (?P<to>{NUMBER})|R\ (?P<replied>{ID}))\ (?P<posted>{PDU})
+    rf"""PO\ (?P<post>{NUMBER})\ (?:Q\ (?P<asked>{ID})\ (?P<route>{WAY})|R\ (?P<replied>{ID}))\ (?P<posted>{PDU})
     | SE\ (?P<send>{NUMBER})\ (?P<heard>[ASB])
-    | TA\ (?P<take>{NUMBER})\ (?P<what>[QR])\ (?P<taken>{ID})\ (?P<pdu>{PDU})
+    | TA\ (?P<take>{NUMBER})\ (?P<what>(?P<is_ask>Q)|R)\ (?P<taken>{ID})\ (?P<pdu>{PDU})(?(is_ask)(?:\ (?P<rest>{ROUTE}))?)
     | LO\ (?P<local>{NUMBER})\ (?P<own>{ID})\ (?P<op>{LOCAL}|RG|RC)\ (?:G\ (?P<good>{BLOCK})|B\ (?P<bad>{WORD}))
     | GU\ (?P<given>{ID})\ (?P<word>{WORD})
     | PA\ (?P<passed>{NUMBER})\ (?P<done>[01])\ (?P<words>{WORDS})
@@ -40,7 +43,7 @@ RING = re.compile(
 )
 # The largest number that each of these fields takes.
 LIMITS = {"at": 65535, "out": 65535}
-ONE_CALL = re.compile(rf"(?P<id>{ID})=(?:(?P<to>{NUMBER}):(?P<pdu>{PDU})|(?P<op>{LOCAL}))")
+ONE_CALL = re.compile(rf"(?P<id>{ID})=(?:(?P<route>{ROUTE}):(?P<pdu>{PDU})|(?P<op>{LOCAL}))")
 
 
 class JournalFault(Exception):
@@ -80,7 +83,9 @@ def small(name, value):
     if name in ("id", "ended", "asked", "replied", "taken", "own", "given", "declined"):
         node, path, seq = (int(part) for part in value.split("."))
         return node <= 255 and path <= 255 and seq < 2**32
-    if name in ("to", "post", "send", "take", "local", "passed", "left", "joined"):
+    if name in ("route", "rest"):
+        return all(int(address) <= 255 for address in value.split("."))
+    if name in ("post", "send", "take", "local", "passed", "left", "joined"):
         return int(value) <= 255
     if name == "down":
         return int(value) < 2**32
@@ -187,7 +192,7 @@ def split_trace(text):
 class Call:
     id: str
     node: int
-    to: int = 0
+    route: str = ""
     words: str = ""
     pdu: str = ""
     kind: str = "local"
@@ -208,6 +213,11 @@ LOCAL_WORDS = {
     "RG": "statistics, for another node",
     "RC": "clear the statistics, for another node",
 }
+
+
+def target_words(route):
+    """Where a route leads: to its last address, along the others."""
+    return f"node {route.rpartition('.')[2]}" + (f" by route {route}" if "." in route else "")
 
 
 def local_words(op):
@@ -256,9 +266,9 @@ class Calls:
                 call = self.call(one["id"], entry, f"C {node}")
                 call.began = at
                 if one["pdu"]:
-                    self.ask(call, int(one["to"]), one["pdu"], "controller")
+                    self.ask(call, one["route"], one["pdu"], "controller")
                 else:
-                    call.words, call.to = local_words(one["op"]), node
+                    call.words, call.route = local_words(one["op"]), str(node)
             self.read_served(node, entry, at, "C")
             if "declined" in fields:
                 self.call(fields["declined"], entry, f"C {node}").declined = [node, *at]
@@ -273,7 +283,7 @@ class Calls:
             if "asked" in fields:
                 call = self.call(fields["asked"], entry, f"H {node}")
                 call.began = at
-                self.ask(call, int(fields["to"]), fields["ask"], "host")
+                self.ask(call, fields["route"], fields["ask"], "host")
             self.read_served(node, entry, at, "H")
             if "ended" in fields:
                 call = self.call(fields["ended"], entry, f"H {node}")
@@ -285,8 +295,8 @@ class Calls:
             call = self.call(entry.fields["id"], entry, f"{letter} {node}")
             call.served = [node, *at]
 
-    def ask(self, call, to, pdu, kind):
-        call.to, call.pdu, call.kind, call.words = to, pdu, kind, modbus.request_words(pdu)
+    def ask(self, call, route, pdu, kind):
+        call.route, call.pdu, call.kind, call.words = route, pdu, kind, modbus.request_words(pdu)
 
     def end_of_block(self, call, fields):
         if "good" in fields:
@@ -348,14 +358,15 @@ class Ring:
         elif "send" in f:
             self.send(place, entry, int(f["send"]), f["heard"])
         elif "take" in f:
-            self.row(place, entry, "take", int(f["take"]), id=f["taken"], what=f["what"])
+            more = {"onward": target_words(f["rest"])} if "rest" in f else {}
+            self.row(place, entry, "take", int(f["take"]), id=f["taken"], what=f["what"], **more)
         elif "local" in f:
             result = decimal(f["good"]) or "done" if "good" in f else modbus.error_words(f["bad"])
             self.row(place, entry, "local", int(f["local"]), id=f["own"], words=local_words(f["op"]), fate=result)
         elif "given" in f:
             node = int(f["given"].split(".")[0])
             self.row(place, entry, "give up", node, id=f["given"], fate=modbus.error_words(f["word"]))
-            self.outboxes[node] = deque(frame for frame in self.outboxes.get(node, ()) if frame["id"] != f["given"])
+            self.outboxes[node] = deque(frame for frame in self.outboxes.get(node, ()) if frame["shown"]["id"] != f["given"])
         elif "passed" in f:
             self.pass_on(place, entry, int(f["passed"]), f)
         elif "joined" in f:
@@ -404,13 +415,14 @@ class Ring:
     def post(self, place, entry, f):
         node, is_request = int(f["post"]), "asked" in f
         name = f["asked"] if is_request else f["replied"]
-        to = int(f["to"]) if is_request else int(name.split(".")[0])
+        route = f["route"] if is_request else name.split(".")[0]
         call = self.calls.by_id.get(name)
         asked = call.pdu if call and call.pdu else "00"
         words = modbus.request_words(f["posted"]) if is_request else modbus.reply_words(asked, f["posted"])
-        frame = {"id": name, "what": "Q" if is_request else "R", "to": to, "words": words, "tries": 0, "came": False}
-        self.outboxes.setdefault(node, deque()).append(frame)
-        self.row(place, entry, "post", node, id=name, what=frame["what"], to=to, words=words)
+        to, dot, _ = route.partition(".")
+        shown = {"id": name, "what": "Q" if is_request else "R", "to": int(to), "target": target_words(route), "words": words}
+        self.outboxes.setdefault(node, deque()).append({"shown": shown, "is_onward": bool(dot), "tries": 0, "came": False})
+        self.row(place, entry, "post", node, **shown)
 
     def send(self, place, entry, node, heard):
         self.sent += 1
@@ -422,27 +434,25 @@ class Ring:
         frame = box[0]
         frame["tries"] += 1
         fate, mark = self.fate(frame, letter, heard)
-        row = self.row(
-            place, entry, "send", node, id=frame["id"], what=frame["what"], to=frame["to"], words=frame["words"],
-            fate=fate, mark=mark, tries=frame["tries"],
-        )
-        call = self.calls.by_id[frame["id"]]
-        call.sends.append(row["at"])
+        row = self.row(place, entry, "send", node, **frame["shown"], fate=fate, mark=mark, tries=frame["tries"])
+        self.calls.by_id[row["id"]].sends.append(row["at"])
         if heard in "AB" or frame["tries"] == 3:
             box.popleft()
 
     def fate(self, frame, letter, heard):
         """What became of a transmission, in words and as the mark of its arrow."""
-        came_before, is_member = frame["came"], frame["to"] in self.members
-        frame["came"] = came_before or (is_member and letter != "L")
+        came_before, is_member = frame["came"], frame["shown"]["to"] in self.members
+        # A node that is no bridge hears no frame that is to go on from it.
+        hears = is_member and not frame["is_onward"]
+        frame["came"] = came_before or (hears and letter != "L")
         again = ", a repeat that is dropped" if came_before else ""
         last = ", no further try" if frame["tries"] == 3 else ""
         if heard == "A":
             return f"acknowledged{again}", "came"
         if heard == "B":
             return "four requests wait there", "busy"
-        if not is_member:
-            return f"nobody there{last}", "nobody"
+        if not hears:
+            return f"{'no bridge' if is_member else 'nobody'} there{last}", "nobody"
         if letter == "L":
             return f"lost{last}", "lost"
         return f"received{again}, its acknowledgement lost{last}", "unheard"

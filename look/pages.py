@@ -104,7 +104,7 @@ def places_of(one, plant, calls):
             does = "drives" if kind in ("in", "inw") else "reads"
             found.append(place(first, size, does, module, f"drop {drop['number']}"))
     for call in calls.values() if calls else ():
-        if call.to == one.node and call.served:
+        if call.pdu and call.served and call.served[0] == one.node:
             for kind, address, quantity, writes in modbus.touched(call.pdu):
                 if address < 9984:
                     who = f"request {call.id} of node {call.node}, in scan {call.served[1]}"
@@ -119,7 +119,8 @@ def call_data(call, rows_scan):
     return {
         "id": call.id,
         "node": call.node,
-        "to": call.to,
+        "route": call.route,
+        "target": journals.target_words(call.route),
         "kind": call.kind,
         "words": call.words,
         "began": began if call.began else None,

@@ -122,7 +122,7 @@ def pair_calls(old, new, with_scans):
         for place in range(max(len(one), len(other))):
             pair = [list_[place] if place < len(list_) else None for list_ in (one, other)]
             there = [call for call in pair if call]
-            asked = list(dict.fromkeys(f"node {call['to']}: {call['words']}" for call in there))
+            asked = list(dict.fromkeys(f"{call['target']}: {call['words']}" for call in there))
             sides = [side_of(call, with_scans) for call in pair]
             words = asked[0] if len(asked) == 1 else f"was {asked[0]}; is {asked[1]}"
             same = len(asked) == 1 and sides[0] == sides[1]

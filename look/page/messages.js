@@ -49,7 +49,8 @@ function drawCallRow(row, call, view, number) {
   const [sign, words] = OUTCOMES[call.outcome];
   make(row, 'b', {title: words}, sign);
   make(row, 'span', {class: 'id'}, call.id);
-  make(row, 'span', {class: 'way'}, call.kind === 'local' ? `own port` : `${call.node} → ${call.to}`);
+  const way = call.kind === 'local' ? 'own port' : `${call.node} → ${call.route}`;
+  make(row, 'span', {class: 'way', title: way}, way);
   make(row, 'span', {class: 'words', title: call.words}, call.words);
   make(row, 'span', {class: 'result', title: call.result}, call.result || words);
   make(row, 'span', {class: 'when'}, spanOf(call));
@@ -64,7 +65,7 @@ function drawCall(box, call, view) {
   box.className = call.outcome;
   const [sign, words] = OUTCOMES[call.outcome];
   make(box, 'h3', {}, `${sign} Call ${call.id}: ${words}`);
-  const target = call.kind === 'local' ? 'its own port' : 'node ' + call.to;
+  const target = call.kind === 'local' ? 'its own port' : call.target;
   make(box, 'p', {}, `Node ${call.node} asks ${target}: ${call.words}.`);
   make(box, 'p', {class: 'result'}, call.result);
   const steps = make(box, 'p', {});
@@ -132,9 +133,9 @@ function frameName(row) { return (row.what === 'Q' ? 'request ' : 'reply to ') +
 function wordsOf(row) {
   switch (row.kind) {
     case 'idle': return (row.count === 1 ? `node ${row.node} passes the token` : `the token goes on, ${row.count} passes from node ${row.node}`) + ', nothing else';
-    case 'post': return `puts ${frameName(row)} to node ${row.to} into its outbox`;
-    case 'send': return row.id ? `${frameName(row)} to node ${row.to}${row.tries > 1 ? `, try ${row.tries}` : ''}:` : 'sends';
-    case 'take': return `takes ${frameName(row)}`;
+    case 'post': return `puts ${frameName(row)} to ${row.target} into its outbox`;
+    case 'send': return row.id ? `${frameName(row)} to ${row.target}${row.tries > 1 ? `, try ${row.tries}` : ''}:` : 'sends';
+    case 'take': return `takes ${frameName(row)}${row.onward ? `, which is to go on to ${row.onward}` : ''}`;
     case 'local': return `own port, ${row.id}, ${row.words}:`;
     case 'give up': return `gives up ${row.id}:`;
     default: return row.words + (row.done ? ', and is done' : '');

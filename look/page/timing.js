@@ -194,7 +194,7 @@ function drawCalls(plot, view, row, run, y) {
     bar.classList.toggle('selected', view.selected === call.id);
     draw(bar, 'rect', {x: left, y: top, width: right - left, height: 4});
     if (scale.zoom > 7) draw(bar, 'text', {x: right + 1, y: top + 6}, OUTCOMES[call.outcome][0]);
-    draw(bar, 'title', {}, `${call.id} to node ${call.to}: ${call.words}; ${OUTCOMES[call.outcome][1]}: ${call.result}`);
+    draw(bar, 'title', {}, `${call.id} to ${call.target}: ${call.words}; ${OUTCOMES[call.outcome][1]}: ${call.result}`);
     bar.addEventListener('click', event => { event.stopPropagation(); view.select(call.id, row.run); });
   }
 }

@@ -29,7 +29,8 @@ before_line_end-cons : (byte : ℕ) (rest : List ℕ) → begins_line_end (byte 
     → before_line_end (byte ∷ rest) ≡ option_map (λ text. byte ∷ text) (before_line_end rest)
 unfolding before_line_end
 before_line_end-cons byte rest none =
-    cond-false (begins_line_end (byte ∷ rest)) (Some []) (option_map (λ text. byte ∷ text) (before_line_end rest)) none
+    cond-false (begins_line_end (byte ∷ rest)) (Some [])
+    (option_map (λ text. byte ∷ text) (before_line_end rest)) none
 
 -- Nothing is put before what was found.
 option_map-same : (found : Option (List ℕ)) → option_map (λ text. text) found ≡ found
@@ -68,7 +69,8 @@ spoilt_by digits (Some text) each = no_frame (digits ++ text) (each text refl)
 
 -- The piece has no frame where no text up to a line end is one.
 spoilt : (digits rest : List ℕ) → AreDigits digits
-    → ((text : List ℕ) → before_line_end rest ≡ Some text → is_frame_digits (digits ++ text) ≡ false)
+    → ((text : List ℕ) → before_line_end rest ≡ Some text
+    → is_frame_digits (digits ++ text) ≡ false)
     → frame_in (digits ++ rest) ≡ None
 spoilt digits rest are each =
     ap (option_and_then frame_in_digits) (before_line_end-digits digits rest are)

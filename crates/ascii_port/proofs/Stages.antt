@@ -58,7 +58,8 @@ adds stream bytes rest byte found has none other before after =
     ∙ or_from (list_any is_colon rest) (list_any is_colon (byte ∷ [])) none
     (or_from (is_colon byte) false other refl))
     ∙ ap (λ found. frames has.earlier ++ cons_option found []) after
-    ∙ ap (λ frames. frames ++ cons_option found []) (sym (frames_as stream bytes rest has none before))
+    ∙ ap (λ frames. frames ++ cons_option found [])
+    (sym (frames_as stream bytes rest has none before))
 
 -- What a byte fixes, so that nothing behind it but a colon changes it.
 fixed : (stream bytes rest : List ℕ) (byte : ℕ) (found : Option AsciiFrame)
@@ -121,7 +122,8 @@ at_colon stream = record {
 }
 
 -- Behind pairs of digits comes another digit.
-pub at_high : (stream bytes : List ℕ) (byte : ℕ) (digit : Digit) → frame_digit byte ≡ Some digit.value
+pub at_high : (stream bytes : List ℕ) (byte : ℕ) (digit : Digit)
+    → frame_digit byte ≡ Some digit.value
     → HasDigits stream bytes [] → StandsBehind (High digit) bytes stream byte
 at_high stream bytes byte digit counts has = record {
   stands = (byte, counts, grown stream bytes [] byte has);
@@ -160,7 +162,8 @@ at_low stream bytes byte first high low counts counted has =
         earlier = has.earlier;
         digits = has.digits ++ first ∷ byte ∷ [];
         cut = cut_on stream bytes (first ∷ []) (byte ∷ []) has
-            ∙ ap (λ piece. has.earlier ++ 58 ∷ piece) (sym (append-nil (has.digits ++ first ∷ byte ∷ [])));
+            ∙ ap (λ piece. has.earlier ++ 58 ∷ piece)
+            (sym (append-nil (has.digits ++ first ∷ byte ∷ [])));
         are_digits = paired;
         twice = omega (
           arith,
@@ -170,10 +173,12 @@ at_low stream bytes byte first high low counts counted has =
         );
         values = byte_values-more has.digits (length bytes) first byte has.twice
             ∙ ap (λ values. values ++ digits_value first byte ∷ []) has.values
-            ∙ ap (λ value. bytes ++ value ∷ []) (digits_value-of first byte high low counts counted);
+            ∙ ap (λ value. bytes ++ value ∷ [])
+            (digits_value-of first byte high low counts counted);
       };
       grows =
-          adds stream bytes (first ∷ []) byte None has (or_from (is_colon first) false (no_colon first one) refl)
+          adds stream bytes (first ∷ []) byte None has
+          (or_from (is_colon first) false (no_colon first one) refl)
           (no_colon byte other) (unended (has.digits ++ first ∷ []) begun)
           (unended (has.digits ++ first ∷ byte ∷ []) paired);
     }
@@ -208,7 +213,8 @@ past_full stream bytes byte first high low counts counted full has =
     let begun = digits_more has.digits first has.are_digits one in
     let many : 510 < length (has.digits ++ first ∷ []) =
     omega (arith, has.twice, length-append has.digits (first ∷ [])) in
-    lost stream bytes (first ∷ []) byte has (or_from (is_colon first) false (no_colon first one) refl)
+    lost stream bytes (first ∷ []) byte has
+    (or_from (is_colon first) false (no_colon first one) refl)
     (no_colon byte (is_digit byte low counted)) (unended (has.digits ++ first ∷ []) begun)
     (λ more. ap frame_in (sym (append_assoc has.digits (first ∷ []) (byte ∷ more)))
     ∙ overlong (has.digits ++ first ∷ []) (byte ∷ more) begun many)
@@ -222,7 +228,8 @@ past_high stream bytes byte first high other counts none has =
     let begun = digits_more has.digits first has.are_digits one in
     let half : length (has.digits ++ first ∷ []) % 2 ≡ 1 =
     omega (arith, has.twice, length-append has.digits (first ∷ [])) in
-    lost stream bytes (first ∷ []) byte has (or_from (is_colon first) false (no_colon first one) refl)
+    lost stream bytes (first ∷ []) byte has
+    (or_from (is_colon first) false (no_colon first one) refl)
     other (unended (has.digits ++ first ∷ []) begun)
     (λ more. ap frame_in (sym (append_assoc has.digits (first ∷ []) (byte ∷ more)))
     ∙ half_lost (has.digits ++ first ∷ []) byte more begun half (is_no_digit byte none))

@@ -41,9 +41,11 @@ written_digits (byte ∷ bytes) are =
     let high : byte / 16 < 16 = omega arith in
     let low : byte % 16 < 16 = omega arith in
     and_from (is_frame_digit (slice_index upper_digits (byte / 16))) _
-    (is_digit (slice_index upper_digits (byte / 16)) (byte / 16) (frame_digit-written (byte / 16) high))
+    (is_digit (slice_index upper_digits (byte / 16)) (byte / 16)
+    (frame_digit-written (byte / 16) high))
     (and_from (is_frame_digit (slice_index upper_digits (byte % 16))) _
-    (is_digit (slice_index upper_digits (byte % 16)) (byte % 16) (frame_digit-written (byte % 16) low))
+    (is_digit (slice_index upper_digits (byte % 16)) (byte % 16)
+    (frame_digit-written (byte % 16) low))
     (written_digits bytes (λ place. are (suc place))))
 
 -- It stands for the bytes.
@@ -110,7 +112,8 @@ frames-text stream address pdu fits are sized =
     (written_values bytes all) (omega arith)
     ∙ and_from (nat_le 3 (length bytes)) (sum bytes % 256 == 0) three summed in
     let is : frame_in_digits (encode_upper bytes) ≡ Some (frame_of bytes) =
-    cond-true (is_frame_digits (encode_upper bytes)) (Some (frame_of (byte_values (encode_upper bytes)))) None passes
+    cond-true (is_frame_digits (encode_upper bytes))
+    (Some (frame_of (byte_values (encode_upper bytes)))) None passes
     ∙ ap (λ values. Some (frame_of values)) (written_values bytes all) in
     let uncut : list_any is_colon (encode_upper bytes ++ 13 ∷ 10 ∷ []) ≡ false =
     list_any-append is_colon (encode_upper bytes) (13 ∷ 10 ∷ [])

@@ -61,7 +61,7 @@ impl Desk {
         ensure!(ram.has(control), "there is a control block");
         ram.set_word(control, CLEAR_LOCAL);
         Ok(Desk {
-            bank: MstrBank::new(alloc, 1, blocks)?,
+            bank: MstrBank::new(alloc, 1, blocks, false)?,
             ram,
             calls: Vec::new(alloc),
             blocks,

@@ -1,7 +1,7 @@
 //! How many entries a second a ring takes: each node asks the next one, which answers.
 use anyhow::{Result, bail, ensure};
 use mstr_block::CallId;
-use plant_types::{Fate, List, NetPlan, Pdu};
+use plant_types::{Fate, List, NetPlan, Pdu, Route};
 use ring_core::{Frame, FrameKind, Ring, is_from, is_net};
 use std::alloc::Global;
 use std::io::Print;
@@ -17,7 +17,9 @@ fn ring_of(alloc: Global, members: u8) -> Result<Ring> {
         nodes.push(node + 1)?;
     }
     let plan = NetPlan {
+        number: 0,
         members: List::from_vec(nodes),
+        bridges: List::new(alloc),
         fates: List::from_vec(Vec::from_slice(alloc, &[Fate::D])?),
         answer: 2,
         rotations: 1,
@@ -40,7 +42,13 @@ fn post(
     let Some(pdu) = Pdu::of(alloc, &[3, 0, 0, 0, 1])? else {
         bail!("a PDU has 1 to 253 bytes");
     };
-    let frame = Frame { kind, to, id, pdu };
+    let frame = Frame {
+        kind,
+        to,
+        rest: Route::of(&[]),
+        id,
+        pdu,
+    };
     ensure!(ring.is_member(node), "a node that posts is a member");
     ensure!(
         is_from(node, &frame) && ring.is_next(node, kind, id),

@@ -13,7 +13,7 @@ use Rattle.controller_core.specs.declared.entry.Entry.TheVariants.{End, Collect,
 use Rattle.controller_core.specs.declared.entry.Entry.TheVariants.{Fail, Dark, Off}
 use Rattle.host_port.specs.declared.entry.HostEntry.TheVariants as hosts
 use Rattle.mstr_block.specs.declared.call.CallId.{CallId}
-use Rattle.ring_core.specs.Statistics.{is_stats}
+use Rattle.ring_core.specs.Statistics.{is_for_stats}
 use Rattle.ring_core.specs.declared.frame.Frame.{Frame}
 use Rattle.ring_core.specs.declared.frame.FrameKind.{FrameKind}
 use Rattle.ring_core.specs.declared.frame.FrameKind.TheVariants.{Request, Reply}
@@ -47,13 +47,13 @@ length-cons (Some x) xs = omega arith
 one-asked : (s : Noted) (id : CallId) (kind : CallKind)
     → (noted_next s (asking kind)).asked
     ≡ s.asked + length (cons_option (net_ask (record { id = id; sort = sort_of kind })) [])
-one-asked s id (call_kinds.Net to pdu) = refl
+one-asked s id (call_kinds.Net route pdu) = refl
 one-asked s id (call_kinds.Local op) = omega arith
 
 one-served : (s : Noted) (kind : CallKind)
     → ((noted_next s (asking kind)).served ≡ s.served)
     × ((noted_next s (asking kind)).ended ≡ s.ended)
-one-served s (call_kinds.Net to pdu) = (refl, refl)
+one-served s (call_kinds.Net route pdu) = (refl, refl)
 one-served s (call_kinds.Local op) = (refl, refl)
 
 calls-asked : (s : Noted) (calls : List Call)
@@ -87,7 +87,7 @@ note-asked s (ByController (Collect calls)) = calls-asked s calls
 note-asked s (ByController (Peer id request reply)) = omega arith
 note-asked s (ByController (Off id request)) = omega arith
 note-asked s (ByController (Finish id result)) = omega arith
-note-asked s (ByHost (hosts.Ask id to pdu)) = refl
+note-asked s (ByHost (hosts.Ask id route pdu)) = refl
 note-asked s (ByHost (hosts.Served id request reply)) = omega arith
 note-asked s (ByHost (hosts.Answer id result)) = omega arith
 
@@ -103,7 +103,7 @@ note-served s (ByController (Collect calls)) = let a = (calls-served s calls).0 
 note-served s (ByController (Peer id request reply)) = refl
 note-served s (ByController (Off id request)) = refl
 note-served s (ByController (Finish id result)) = omega arith
-note-served s (ByHost (hosts.Ask id to pdu)) = omega arith
+note-served s (ByHost (hosts.Ask id route pdu)) = omega arith
 note-served s (ByHost (hosts.Served id request reply)) = refl
 note-served s (ByHost (hosts.Answer id result)) = omega arith
 
@@ -119,7 +119,7 @@ note-ended s (ByController (Collect calls)) = let a = (calls-served s calls).1 i
 note-ended s (ByController (Peer id request reply)) = omega arith
 note-ended s (ByController (Off id request)) = omega arith
 note-ended s (ByController (Finish id result)) = refl
-note-ended s (ByHost (hosts.Ask id to pdu)) = omega arith
+note-ended s (ByHost (hosts.Ask id route pdu)) = omega arith
 note-ended s (ByHost (hosts.Served id request reply)) = omega arith
 note-ended s (ByHost (hosts.Answer id result)) = refl
 
@@ -175,27 +175,27 @@ take-posted d Reply stats = refl
 take-taken-at : (d : Done) (f : Frame) (stats : Bool)
     → (tally done_next d (taking Request stats ∷ [])).taken
     ≡ d.taken + length (plain_items
-    (cons_option (Some (if stats then ForStats f.id f.pdu else Plain f.id f.pdu)) []))
+    (cons_option (Some (if stats then ForStats f.id f.pdu else Plain f.id f.rest f.pdu)) []))
 take-taken-at d f true = omega arith
 take-taken-at d f false = refl
 
 take-taken : (d : Done) (f : Frame) (kind : FrameKind)
-    → (tally done_next d (taking kind (is_stats f.pdu) ∷ [])).taken
+    → (tally done_next d (taking kind (is_for_stats f) ∷ [])).taken
     ≡ d.taken + length (plain_items (cons_option (taken_in kind f) []))
-take-taken d f Request = take-taken-at d f (is_stats f.pdu)
+take-taken d f Request = take-taken-at d f (is_for_stats f)
 take-taken d f Reply = omega arith
 
 take-port-at : (d : Done) (f : Frame) (stats : Bool)
     → (tally done_next d (taking Request stats ∷ [])).taken_port
     ≡ d.taken_port + length (stats_items
-    (cons_option (Some (if stats then ForStats f.id f.pdu else Plain f.id f.pdu)) []))
+    (cons_option (Some (if stats then ForStats f.id f.pdu else Plain f.id f.rest f.pdu)) []))
 take-port-at d f true = refl
 take-port-at d f false = omega arith
 
 take-port : (d : Done) (f : Frame) (kind : FrameKind)
-    → (tally done_next d (taking kind (is_stats f.pdu) ∷ [])).taken_port
+    → (tally done_next d (taking kind (is_for_stats f) ∷ [])).taken_port
     ≡ d.taken_port + length (stats_items (cons_option (taken_in kind f) []))
-take-port d f Request = take-port-at d f (is_stats f.pdu)
+take-port d f Request = take-port-at d f (is_for_stats f)
 take-port d f Reply = omega arith
 
 -- of Replies posted, and of what the port answered
@@ -234,7 +234,12 @@ work-answered : (d : Done) (n : ℕ) (id : CallId) (op : LocalOp) (result : Mstr
     → (tally done_next d (working (id.node == n))).answered_port
     ≡ d.answered_port + length (cons_option (answered_for n id op result) [])
 work-answered d n id op result =
-    work-answered-at d (record { id = id; request = request_of op; reply = Some (reply_of result) })
+    work-answered-at d (record {
+      id = id;
+      rest = [];
+      request = request_of op;
+      reply = Some (reply_of result);
+    })
     (id.node == n)
 
 take-over-at : (d : Done) (stats : Bool)
@@ -294,7 +299,7 @@ leave-beside d (Down number) = beside d (record d { down = number }) refl
 
 deed-posted : (d : Done) (r : RingEntry) → (deed d r).posted ≡ d.posted + length (posts_in r)
 deed-posted d (Post n f) = post-posted d f.kind f
-deed-posted d (Take n f) = let a = take-posted d f.kind (is_stats f.pdu) in omega (arith, a)
+deed-posted d (Take n f) = let a = take-posted d f.kind (is_for_stats f) in omega (arith, a)
 deed-posted d (Local n id op result) = let a = (work-other d (id.node == n)).0 in omega (arith, a)
 deed-posted d (GiveUp id word) = omega arith
 deed-posted d (Send n heard) = omega arith
@@ -314,7 +319,7 @@ deed-taken d (Join n) = omega arith
 
 deed-over : (d : Done) (r : RingEntry) → (deed d r).over ≡ d.over + length (overs_in r)
 deed-over d (Post n f) = let a = (post-other d f.kind).1 in omega (arith, a)
-deed-over d (Take n f) = take-over d f f.kind (is_stats f.pdu)
+deed-over d (Take n f) = take-over d f f.kind (is_for_stats f)
 deed-over d (Local n id op result) = work-over d n id op result
 deed-over d (GiveUp id word) = refl
 deed-over d (Send n heard) = omega arith
@@ -340,7 +345,7 @@ deed-taken-port d (Join n) = omega arith
 deed-answered : (d : Done) (r : RingEntry)
     → (deed d r).answered_port ≡ d.answered_port + length (port_answers_in r)
 deed-answered d (Post n f) = let a = (post-port d f.kind).1 in omega (arith, a)
-deed-answered d (Take n f) = let a = (take-replies d f.kind (is_stats f.pdu)).1 in omega (arith, a)
+deed-answered d (Take n f) = let a = (take-replies d f.kind (is_for_stats f)).1 in omega (arith, a)
 deed-answered d (Local n id op result) = work-answered d n id op result
 deed-answered d (GiveUp id word) = omega arith
 deed-answered d (Send n heard) = omega arith
@@ -351,7 +356,7 @@ deed-answered d (Join n) = omega arith
 deed-replies : (d : Done) (r : RingEntry)
     → (deed d r).replies ≡ d.replies + length (replies_posted_in r)
 deed-replies d (Post n f) = post-replies d f.kind f
-deed-replies d (Take n f) = let a = (take-replies d f.kind (is_stats f.pdu)).0 in omega (arith, a)
+deed-replies d (Take n f) = let a = (take-replies d f.kind (is_for_stats f)).0 in omega (arith, a)
 deed-replies d (Local n id op result) = let a = (work-port d (id.node == n)).0 in omega (arith, a)
 deed-replies d (GiveUp id word) = omega arith
 deed-replies d (Send n heard) = omega arith
@@ -415,7 +420,7 @@ all-over d (r ∷ rs) =
 
 -- the sorts of the Requests taken, and the answers with a reply, in order
 abbrev pub for-station : Taken → Bool
-for-station (Plain id pdu) = true
+for-station (Plain id rest pdu) = true
 for-station (ForStats id pdu) = false
 
 abbrev pub with-reply : Answered → Bool
@@ -426,14 +431,14 @@ sorts_in o = map for-station (cons_option o [])
 
 sort-taken : (d : Done) (f : Frame) (stats : Bool)
     → (tally done_next d (taking Request stats ∷ [])).requests
-    ≡ d.requests ++ sorts_in (Some (if stats then ForStats f.id f.pdu else Plain f.id f.pdu))
+    ≡ d.requests ++ sorts_in (Some (if stats then ForStats f.id f.pdu else Plain f.id f.rest f.pdu))
 sort-taken d f true = refl
 sort-taken d f false = refl
 
 take-sort : (d : Done) (f : Frame) (kind : FrameKind)
-    → (tally done_next d (taking kind (is_stats f.pdu) ∷ [])).requests
+    → (tally done_next d (taking kind (is_for_stats f) ∷ [])).requests
     ≡ d.requests ++ sorts_in (taken_in kind f)
-take-sort d f Request = sort-taken d f (is_stats f.pdu)
+take-sort d f Request = sort-taken d f (is_for_stats f)
 take-sort d f Reply = sym (append-nil d.requests)
 
 post-sort : (d : Done) (kind : FrameKind)
@@ -478,7 +483,7 @@ calls-answer s (c ∷ calls) =
     calls-answer (noted_next s (asking_of c)) calls ∙ one s c.kind
   where
     one : (t : Noted) (kind : CallKind) → (noted_next t (asking kind)).answers ≡ t.answers
-    one t (call_kinds.Net to pdu) = refl
+    one t (call_kinds.Net route pdu) = refl
     one t (call_kinds.Local op) = refl
 
 note-answers : (s : Noted) (e : StationEntry)
@@ -494,7 +499,7 @@ note-answers s (ByController (Collect calls)) = calls-answer s calls ∙ sym (ap
 note-answers s (ByController (Peer id request reply)) = refl
 note-answers s (ByController (Off id request)) = refl
 note-answers s (ByController (Finish id result)) = sym (append-nil s.answers)
-note-answers s (ByHost (hosts.Ask id to pdu)) = sym (append-nil s.answers)
+note-answers s (ByHost (hosts.Ask id route pdu)) = sym (append-nil s.answers)
 note-answers s (ByHost (hosts.Served id request reply)) = refl
 note-answers s (ByHost (hosts.Answer id result)) = sym (append-nil s.answers)
 

@@ -3,8 +3,8 @@ use Rattle.std.proofs.Common.{◌≡◌, ℕ, ◌+◌, ◌≤◌, ◌⊎◌, tru
 use Rattle.std.proofs.Common.{map, Option, Some, None, sym, ap, inl, inr, ⊎_elim, ◌∙◌, arith}
 use Rattle.std.specs.List.{Contains, cons_option, AllByRecursion as Each}
 use Rattle.mstr_block.specs.declared.call.CallId.{CallId}
-use Rattle.tied_lists.specs.Items.{Answered, Item, Taken, Plain, ForStats, item_of, plain_items}
-use Rattle.tied_lists.specs.Items.{stats_items, due_reply, due_replies, replies_in}
+use Rattle.tied_lists.specs.Items.{Answered, Item, RequestItem, Taken, Plain, ForStats, item_of}
+use Rattle.tied_lists.specs.Items.{plain_items, stats_items, due_reply, due_replies, replies_in}
 use Rattle.joint_history.specs.Effects.{has_reply}
 use Rattle.entry_causes.specs.Causes.{ready}
 use Rattle.effect_laws.proofs.Sources.{name_of, behind, here}
@@ -26,9 +26,6 @@ HasReply answer = with-reply answer ≡ true
 
 head-of : {X : Type 0} (x y : X) (xs ys : List X) → x ∷ xs ≡ y ∷ ys → (x ≡ y) × (xs ≡ ys)
 head-of x y xs ys q = (cc, cc)
-
-none-empty : {X : Type 0} (x : X) (xs : List X) → [] ≡ x ∷ xs → ⊥
-none-empty x xs q = cc
 
 -- the first Request and its answer
 module _ (id : CallId) (pdu : List ℕ) (after : List Item) where
@@ -82,13 +79,16 @@ AreTold ts ps ls =
     → length before + 1 ≤ ready (map for-station ts) (map with-reply ps) (length ls)
     → Told ts ps ls id pdu
 
-plain-told : (j : CallId) (q : List ℕ) (ts : List Taken) (a : Answered) (ps ls : List Answered)
-    → AreTold ts ps ls → AreTold (Plain j q ∷ ts) (a ∷ ps) ls
-plain-told j q ts a ps ls rest later peers locals before after id pdu p l due h =
+plain-told : (j : CallId) (way q : List ℕ) (ts : List Taken) (a : Answered)
+    (ps ls : List Answered) → AreTold ts ps ls → AreTold (Plain j way q ∷ ts) (a ∷ ps) ls
+plain-told j way q ts a ps ls rest later peers locals before after id pdu p l due h =
     at a.reply (λ x. x) due h
   where
-    item : (item_of a ≡ (j, Some q)) × (map item_of (ps ++ peers) ≡ plain_items (ts ++ later))
-    item = head-of {X = Item} (item_of a) (j, Some q) (map item_of (ps ++ peers))
+    this : RequestItem
+    this = record { id = j; rest = way; request = Some q }
+
+    item : (item_of a ≡ this) × (map item_of (ps ++ peers) ≡ plain_items (ts ++ later))
+    item = head-of {X = RequestItem} (item_of a) this (map item_of (ps ++ peers))
         (plain_items (ts ++ later)) p
 
     others : List Item
@@ -101,22 +101,22 @@ plain-told j q ts a ps ls rest later peers locals before after id pdu p l due h 
         → before ++ (id, Some pdu) ∷ after ≡ cons_option (due_reply j (Some o)) others
         → length before + 1 ≤ ready (true ∷ map for-station ts)
         (has_reply o ∷ map with-reply ps) (length ls)
-        → Told (Plain j q ∷ ts) (a ∷ ps) ls id pdu
-    at None is due' h' = later-plain (Plain j q) a ts ps ls id pdu
+        → Told (Plain j way q ∷ ts) (a ∷ ps) ls id pdu
+    at None is due' h' = later-plain (Plain j way q) a ts ps ls id pdu
         (rest later peers locals before after id pdu item.1 l due' h')
     at (Some reply) is due' h' = ⊎_elim
-        (λ (this : (j ≡ id) × (Some reply ≡ Some pdu)). record {
-          request = Plain j q;
-          among = here (Plain j q) ts;
-          name = this.0;
+        (λ (first : (j ≡ id) × (Some reply ≡ Some pdu)). record {
+          request = Plain j way q;
+          among = here (Plain j way q) ts;
+          name = first.0;
           answer = a;
           given = inl (here a ps);
-          call = ap (λ (x : Item). x.0) item.0 ∙ this.0;
-          reply = is this.1;
+          call = ap (λ (x : RequestItem). x.id) item.0 ∙ first.0;
+          reply = is first.1;
         })
         (λ (t : (b : List Item) × (b ++ (id, Some pdu) ∷ after ≡ others)
         × (length b + 1 ≤ more)).
-        later-plain (Plain j q) a ts ps ls id pdu
+        later-plain (Plain j way q) a ts ps ls id pdu
         (rest later peers locals t.0 after id pdu item.1 l t.1 t.2))
         (this-or-later id pdu after j reply before others more due' h')
 
@@ -125,8 +125,11 @@ stats-told : (j : CallId) (q : List ℕ) (ts : List Taken) (a : Answered) (ps ls
 stats-told j q ts a ps ls has rest later peers locals before after id pdu p l due h =
     at a.reply (λ x. x) has due
   where
-    item : (item_of a ≡ (j, Some q)) × (map item_of (ls ++ locals) ≡ stats_items (ts ++ later))
-    item = head-of {X = Item} (item_of a) (j, Some q) (map item_of (ls ++ locals))
+    this : RequestItem
+    this = record { id = j; rest = []; request = Some q }
+
+    item : (item_of a ≡ this) × (map item_of (ls ++ locals) ≡ stats_items (ts ++ later))
+    item = head-of {X = RequestItem} (item_of a) this (map item_of (ls ++ locals))
         (stats_items (ts ++ later)) l
 
     others : List Item
@@ -140,14 +143,14 @@ stats-told j q ts a ps ls has rest later peers locals before after id pdu p l du
         → Told (ForStats j q ∷ ts) ps (a ∷ ls) id pdu
     at None is has' due' = absurd (let no' : false ≡ true = has' in cc)
     at (Some reply) is has' due' = ⊎_elim
-        (λ (this : (j ≡ id) × (Some reply ≡ Some pdu)). record {
+        (λ (first : (j ≡ id) × (Some reply ≡ Some pdu)). record {
           request = ForStats j q;
           among = here (ForStats j q) ts;
-          name = this.0;
+          name = first.0;
           answer = a;
           given = inr (here a ls);
-          call = ap (λ (x : Item). x.0) item.0 ∙ this.0;
-          reply = is this.1;
+          call = ap (λ (x : RequestItem). x.id) item.0 ∙ first.0;
+          reply = is first.1;
         })
         (λ (t : (b : List Item) × (b ++ (id, Some pdu) ∷ after ≡ others)
         × (length b + 1 ≤ more)).
@@ -158,9 +161,10 @@ stats-told j q ts a ps ls has rest later peers locals before after id pdu p l du
 pub due-told : (ts : List Taken) (ps ls : List Answered) → Each HasReply ls → AreTold ts ps ls
 due-told [] ps ls has = λ later peers locals before after id pdu p l due h.
     absurd (omega (arith, h))
-due-told (Plain j q ∷ ts) [] ls has = λ later peers locals before after id pdu p l due h.
+due-told (Plain j way q ∷ ts) [] ls has = λ later peers locals before after id pdu p l due h.
     absurd (omega (arith, h))
-due-told (Plain j q ∷ ts) (a ∷ ps) ls has = plain-told j q ts a ps ls (due-told ts ps ls has)
+due-told (Plain j way q ∷ ts) (a ∷ ps) ls has =
+    plain-told j way q ts a ps ls (due-told ts ps ls has)
 due-told (ForStats j q ∷ ts) ps [] has = λ later peers locals before after id pdu p l due h.
     absurd (omega (arith, h))
 due-told (ForStats j q ∷ ts) ps (a ∷ ls) has =

@@ -7,7 +7,7 @@ use Rattle.std.proofs.lemmas.Grind.{flat_map-append}
 use Rattle.std.proofs.lemmas.List.{length-map}
 use Rattle.std.proofs.lemmas.List.Elements.{filter_map-append, Contains-push, Contains-push_cases}
 use Rattle.plant_types.specs.declared.net.NetPlan.{NetPlan}
-use Rattle.ring_core.specs.Words.{maker}
+use Rattle.ring_core.specs.Words.{frame_route, maker}
 use Rattle.ring_core.specs.Legal.{IsRun, IsLegalRing}
 use Rattle.ring_core.specs.declared.frame.Frame.{Frame}
 use Rattle.ring_core.specs.declared.frame.FrameKind.{FrameKind}
@@ -19,7 +19,7 @@ use Rattle.ring_core.specs.declared.entry.LocalOp.{LocalOp}
 use Rattle.mstr_block.specs.declared.call.MstrResult.{MstrResult}
 use Rattle.mstr_block.specs.declared.call.CallId.{CallId}
 use Rattle.ring_laws.specs.Once.{IsRingHistory, OnlyItsTarget, ReplyToItsCaller, TookCall}
-use Rattle.tied_lists.specs.Items.{Answered, Item, Taken, asked_in, item_of}
+use Rattle.tied_lists.specs.Items.{Answered, Item, RequestItem, Taken, asked_in, item_of}
 use Rattle.tied_lists.specs.Items.{taken_of, taken_by, plain_items, stats_items, port_answers}
 use Rattle.tied_lists.specs.Items.{replied_in, replied_of, replied_by, due_replies, replies_in}
 use Rattle.tied_lists.specs.Items.{answered_of, answered_for, request_of, reply_of}
@@ -58,7 +58,7 @@ Caused n order =
     → AreCaused (tally note no_notes (at_station n v)) (tally deed no_deeds (own_in n v))
 
 request-posts : (n : ℕ) (f : Frame) → f.kind ≡ Request
-    → posts_in (Post n f) ≡ record { id = f.id; to = f.to; pdu = f.pdu } ∷ []
+    → posts_in (Post n f) ≡ record { id = f.id; route = frame_route f; pdu = f.pdu } ∷ []
 request-posts n f k = ap (λ (kind : FrameKind). cons_option (asked_in kind f) []) k
 
 posts-bound : (n : ℕ) (order : Order) → Caused n order → (v rest : Order) → order ≡ v ++ rest
@@ -70,10 +70,10 @@ posts-bound n order c v rest q =
     omega (arith, h, a, b)
 
 -- an answer by its request
-abbrev items_in : StationEntry → List Item
+abbrev items_in : StationEntry → List RequestItem
 items_in e = map item_of (answers_in e)
 
-abbrev port_items_in : RingEntry → List Item
+abbrev port_items_in : RingEntry → List RequestItem
 port_items_in r = map item_of (port_answers_in r)
 
 served-size : (es : List StationEntry)
@@ -160,7 +160,7 @@ tied-in ring order log p q t =
 posts-follow : (n : ℕ) (order : Order) → TiedIn n order → Caused n order → PostsFollowAsks n order
 posts-follow n order t c before after f is k =
     ring-behind maker asks_in posts_in n order before after (Post n f)
-    (record { id = f.id; to = f.to; pdu = f.pdu }) is refl (request-posts n f k) t.asks
+    (record { id = f.id; route = frame_route f; pdu = f.pdu }) is refl (request-posts n f k) t.asks
     (posts-bound n order c)
 
 answers-follow : (n : ℕ) (order : Order) → TiedIn n order → Caused n order
@@ -288,7 +288,12 @@ port-one : (n : ℕ) (id : CallId) (op : LocalOp) (result : MstrResult) (answers
 port-one n id op result answers has = at (id.node == n)
   where
     at : (own : Bool) → Each HasReply (cons_option (cond own None (Some
-        (record { id = id; request = request_of op; reply = Some (reply_of result) }))) answers)
+        (record {
+          id = id;
+          rest = [];
+          request = request_of op;
+          reply = Some (reply_of result);
+        }))) answers)
     at true = has
     at false = (refl, has)
 

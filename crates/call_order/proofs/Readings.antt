@@ -22,8 +22,8 @@ use Rattle.tied_lists.specs.Items.{Station, AController, net_ask, item_of, asked
 use Rattle.tied_lists.specs.Items.{taken_of, taken_by, plain_items, stats_items, answered_of}
 use Rattle.tied_lists.specs.Items.{port_answers, replied_of, replied_by, ended_of, ended_in}
 use Rattle.tied_lists.specs.Items.{ended_by}
-use Rattle.joint_history.specs.Reading.{called_of, item_next, items_after, items_of}
-use Rattle.joint_history.specs.Reading.{host_item_next, host_items_after, host_items_of}
+use Rattle.joint_history.specs.Reading.{answered_here, called_of, item_next, items_after}
+use Rattle.joint_history.specs.Reading.{items_of, host_item_next, host_items_after, host_items_of}
 use Rattle.entry_causes.specs.Causes.{ByController, ByHost}
 use Rattle.call_order.specs.Named.{asks_in, answers_in, ends_in, takes_in, port_takes_in}
 use Rattle.call_order.specs.Named.{port_answers_in, overs_in, end_id}
@@ -44,7 +44,7 @@ posts-read (r ∷ b) =
 plain-one : (o : Option Taken) (ts : List Taken)
     → plain_items (cons_option o ts) ≡ plain_items (cons_option o []) ++ plain_items ts
 plain-one None ts = refl
-plain-one (Some (Plain id pdu)) ts = refl
+plain-one (Some (Plain id rest pdu)) ts = refl
 plain-one (Some (ForStats id pdu)) ts = refl
 
 pub takes-read : (b : List RingEntry) → plain_items (taken_by b) ≡ flat_map takes_in b
@@ -55,7 +55,7 @@ takes-read (r ∷ b) =
 stats-one : (o : Option Taken) (ts : List Taken)
     → stats_items (cons_option o ts) ≡ stats_items (cons_option o []) ++ stats_items ts
 stats-one None ts = refl
-stats-one (Some (Plain id pdu)) ts = refl
+stats-one (Some (Plain id rest pdu)) ts = refl
 stats-one (Some (ForStats id pdu)) ts = refl
 
 pub port-takes-read : (b : List RingEntry) → stats_items (taken_by b) ≡ flat_map port_takes_in b
@@ -153,11 +153,11 @@ answers-on a (Dark ∷ es) = answers-on a es
 answers-on a (Collect calls ∷ es) = answers-on (item_next a (Collect calls)) es
 answers-on a (Peer id request reply ∷ es) =
     answers-on (item_next a (Peer id request reply)) es
-    ∙ append_assoc a.answers (record { id = id; request = Some request; reply = Some reply } ∷ [])
+    ∙ append_assoc a.answers (answered_here id request (Some reply) ∷ [])
     (flat_map answers_in (map ByController es))
 answers-on a (Off id request ∷ es) =
     answers-on (item_next a (Off id request)) es
-    ∙ append_assoc a.answers (record { id = id; request = Some request; reply = None } ∷ [])
+    ∙ append_assoc a.answers (answered_here id request None ∷ [])
     (flat_map answers_in (map ByController es))
 answers-on a (Finish id result ∷ es) = answers-on (item_next a (Finish id result)) es
 
@@ -199,11 +199,11 @@ host-asks-on : (a : Items) (es : List HostEntry)
     → filter_map net_ask (host_items_after a es).calls ≡ filter_map net_ask a.calls
     ++ flat_map asks_in (map ByHost es)
 host-asks-on a [] = sym (append-nil (filter_map net_ask a.calls))
-host-asks-on a (hosts.Ask id to pdu ∷ es) =
-    host-asks-on (host_item_next a (hosts.Ask id to pdu)) es
+host-asks-on a (hosts.Ask id route pdu ∷ es) =
+    host-asks-on (host_item_next a (hosts.Ask id route pdu)) es
     ∙ (ap (λ (l : List Asked). l ++ flat_map asks_in (map ByHost es))
     (filter_map-append net_ask a.calls _)
-    ∙ append_assoc (filter_map net_ask a.calls) (record { id = id; to = to; pdu = pdu } ∷ [])
+    ∙ append_assoc (filter_map net_ask a.calls) (record { id = id; route = route; pdu = pdu } ∷ [])
     (flat_map asks_in (map ByHost es)))
 host-asks-on a (hosts.Served id request reply ∷ es) =
     host-asks-on (host_item_next a (hosts.Served id request reply)) es
@@ -213,11 +213,11 @@ host-asks-on a (hosts.Answer id result ∷ es) =
 host-answers-on : (a : Items) (es : List HostEntry)
     → (host_items_after a es).answers ≡ a.answers ++ flat_map answers_in (map ByHost es)
 host-answers-on a [] = sym (append-nil a.answers)
-host-answers-on a (hosts.Ask id to pdu ∷ es) =
-    host-answers-on (host_item_next a (hosts.Ask id to pdu)) es
+host-answers-on a (hosts.Ask id route pdu ∷ es) =
+    host-answers-on (host_item_next a (hosts.Ask id route pdu)) es
 host-answers-on a (hosts.Served id request reply ∷ es) =
     host-answers-on (host_item_next a (hosts.Served id request reply)) es
-    ∙ append_assoc a.answers (record { id = id; request = Some request; reply = Some reply } ∷ [])
+    ∙ append_assoc a.answers (answered_here id request (Some reply) ∷ [])
     (flat_map answers_in (map ByHost es))
 host-answers-on a (hosts.Answer id result ∷ es) =
     host-answers-on (host_item_next a (hosts.Answer id result)) es
@@ -226,8 +226,8 @@ host-ends-on : (a : Items) (es : List HostEntry)
     → map end_id (host_items_after a es).ends ≡ map end_id a.ends
     ++ flat_map ends_in (map ByHost es)
 host-ends-on a [] = sym (append-nil (map end_id a.ends))
-host-ends-on a (hosts.Ask id to pdu ∷ es) =
-    host-ends-on (host_item_next a (hosts.Ask id to pdu)) es
+host-ends-on a (hosts.Ask id route pdu ∷ es) =
+    host-ends-on (host_item_next a (hosts.Ask id route pdu)) es
 host-ends-on a (hosts.Served id request reply ∷ es) =
     host-ends-on (host_item_next a (hosts.Served id request reply)) es
 host-ends-on a (hosts.Answer id result ∷ es) =

@@ -8,6 +8,7 @@ use Rattle.ring_core.specs.declared.frame.Frame.{Frame}
 use Rattle.ring_core.specs.declared.frame.FrameKind.TheVariants.{Request, Reply}
 use Rattle.ring_core.specs.declared.entry.RingEntry.TheVariants.{Post, Take}
 use Rattle.tied_lists.specs.Items.{Answered}
+use Rattle.joint_history.specs.Reading.{answered_here}
 use Rattle.one_order.specs.Orders.{AtStation, AtRing, at_station}
 use Rattle.entry_causes.specs.Causes.{ByController}
 use Rattle.call_order.specs.Named.{Order, own_in, answers_in, port_answers_in, Carries}
@@ -23,10 +24,10 @@ abbrev tells : List ℕ
 tells = 3 ∷ 4 ∷ 0 ∷ 42 ∷ 0 ∷ 43 ∷ []
 
 abbrev request : Frame
-request = record { kind = Request; to = 5; id = call; pdu = reads }
+request = record { kind = Request; to = 5; rest = []; id = call; pdu = reads }
 
 abbrev reply : Frame
-reply = record { kind = Reply; to = 2; id = call; pdu = tells }
+reply = record { kind = Reply; to = 2; rest = []; id = call; pdu = tells }
 
 abbrev taken : Order
 taken = AtRing (Take 5 request) ∷ []
@@ -35,7 +36,7 @@ abbrev answered : Order
 answered = AtRing (Take 5 request) ∷ AtStation 5 (ByController (Peer call reads tells)) ∷ []
 
 abbrev answer : Answered
-answer = record { id = call; request = Some reads; reply = Some tells }
+answer = answered_here call reads (Some tells)
 
 -- behind it the Reply has its answer
 is-told : Carries reply (flat_map answers_in (at_station 5 answered))

@@ -10,17 +10,18 @@ use Rattle.controller_core.specs.declared.entry.Entry.TheVariants as entries
 use Rattle.host_port.specs.declared.entry.HostEntry.{HostEntry}
 use Rattle.host_port.specs.declared.entry.HostEntry.TheVariants as hosts
 use Rattle.mstr_block.specs.declared.call.CallId.{CallId}
-use Rattle.ring_core.specs.Words.{maker}
+use Rattle.ring_core.specs.Words.{frame_route, maker}
 use Rattle.ring_core.specs.declared.frame.Frame.{Frame}
 use Rattle.ring_core.specs.declared.frame.FrameKind.TheVariants.{Request, Reply}
 use Rattle.ring_core.specs.declared.entry.RingEntry.{RingEntry}
 use Rattle.ring_core.specs.declared.entry.RingEntry.TheVariants.{Post, Take}
 use Rattle.ring_laws.specs.Once.{IsRingHistory, TookCall, AnsweredBy as Replied}
-use Rattle.tied_lists.specs.Items.{Asked, Answered, Item, Ended, AController, net_ask, taken_of}
-use Rattle.tied_lists.specs.Items.{plain_items, stats_items, item_of, answered_of, ended_of}
+use Rattle.tied_lists.specs.Items.{Asked, Answered, RequestItem, Ended, AController, net_ask}
+use Rattle.tied_lists.specs.Items.{taken_of, plain_items, stats_items, item_of, answered_of}
+use Rattle.tied_lists.specs.Items.{ended_of}
 use Rattle.joint_history.specs.declared.joint.Joint.{Joint}
 use Rattle.joint_history.specs.JointLaws.{IsJoint, IsLegalJoint}
-use Rattle.joint_history.specs.Reading.{called_of}
+use Rattle.joint_history.specs.Reading.{called_of, answered_here}
 use Rattle.one_order.specs.Orders.{Event, AtStation, AtRing, Log, on_ring, at_station, own_of}
 use Rattle.entry_causes.specs.Causes.{StationEntry, ByController, ByHost}
 use Rattle.entry_causes.specs.Joint.{logs_of, IsInOneOrder}
@@ -31,7 +32,7 @@ entry_asks (entries.Collect calls) = filter_map net_ask (map called_of calls)
 entry_asks _ = []
 
 abbrev pub host_asks : HostEntry → List Asked
-host_asks (hosts.Ask id to pdu) = record { id = id; to = to; pdu = pdu } ∷ []
+host_asks (hosts.Ask id route pdu) = record { id = id; route = route; pdu = pdu } ∷ []
 host_asks _ = []
 
 abbrev pub asks_in : StationEntry → List Asked
@@ -40,15 +41,12 @@ asks_in (ByHost e) = host_asks e
 
 -- The request that it answers, with the reply, or with none where it came without power.
 abbrev pub entry_answers : Entry → List Answered
-entry_answers (entries.Peer id request reply) =
-    record { id = id; request = Some request; reply = Some reply } ∷ []
-entry_answers (entries.Off id request) =
-    record { id = id; request = Some request; reply = None } ∷ []
+entry_answers (entries.Peer id request reply) = answered_here id request (Some reply) ∷ []
+entry_answers (entries.Off id request) = answered_here id request None ∷ []
 entry_answers _ = []
 
 abbrev pub host_answers : HostEntry → List Answered
-host_answers (hosts.Served id request reply) =
-    record { id = id; request = Some request; reply = Some reply } ∷ []
+host_answers (hosts.Served id request reply) = answered_here id request (Some reply) ∷ []
 host_answers _ = []
 
 abbrev pub answers_in : StationEntry → List Answered
@@ -69,11 +67,11 @@ ends_in (ByController e) = entry_ends e
 ends_in (ByHost e) = host_ends e
 
 -- The Request for its station that a node takes by an entry.
-abbrev pub takes_in : RingEntry → List Item
+abbrev pub takes_in : RingEntry → List RequestItem
 takes_in r = plain_items (cons_option (taken_of r) [])
 
 -- The request for statistics that it takes.
-abbrev pub port_takes_in : RingEntry → List Item
+abbrev pub port_takes_in : RingEntry → List RequestItem
 port_takes_in r = stats_items (cons_option (taken_of r) [])
 
 -- The request for statistics that its port answers, with the reply.
@@ -94,15 +92,16 @@ Order = List (Event StationEntry RingEntry)
 abbrev pub own_in : ℕ → Order → List RingEntry
 own_in n front = own_of maker n (on_ring front)
 
--- Each Request that the node posted stands behind the entry that asked it, of its name, for its
--- target and with its bytes.
+-- Each Request that the node posted stands behind the entry that asked it, of its name, by its
+-- route and with its bytes.
 abbrev pub PostsFollowAsks : ℕ → Order → Type 0
 PostsFollowAsks n order = (before after : Order) (f : Frame)
     → order ≡ before ++ AtRing (Post n f) ∷ after → f.kind ≡ Request
     → Contains (flat_map asks_in (at_station n before))
-    (record { id = f.id; to = f.to; pdu = f.pdu })
+    (record { id = f.id; route = frame_route f; pdu = f.pdu })
 
--- Each answer of the station stands behind the Take of its request, of its name and bytes.
+-- Each answer of the station stands behind the Take of its request, of its name, addresses and
+-- bytes.
 abbrev pub AnswersFollowTakes : ℕ → Order → Type 0
 AnswersFollowTakes n order = (before after : Order) (e : StationEntry) (answer : Answered)
     → order ≡ before ++ AtStation n e ∷ after → answers_in e ≡ answer ∷ []

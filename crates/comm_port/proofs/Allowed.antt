@@ -141,11 +141,11 @@ leave-short alone n cause side ring ring' why legal went t h out box late refuse
     ⊎_elim (λ (short : why ≡ NoMemory). short)
     (λ (said : leave_no side.net r n cause ≡ Some why).
     let needed = needed_of side.net r n cause in
-    let early : due_no (cause_held r n cause) needed ≡ Some why = sym
-    (ap (λ x. or_no x (due_no (cause_held r n cause) needed)) none) ∙ said
+    let early : due_no (cause_held side.net r n cause) needed ≡ Some why = sym
+    (ap (λ x. or_no x (due_no (cause_held side.net r n cause) needed)) none) ∙ said
     in
-    absurd (late (cause_held r n cause) needed
-    (sym (due-early (cause_held r n cause) needed why early))))
+    absurd (late (cause_held side.net r n cause) needed
+    (sym (due-early (cause_held side.net r n cause) needed why early))))
     refused
 
 -- a Send can find nothing, no more

@@ -14,42 +14,6 @@ use Rattle.comm_port.specs.Sides.{RamSideIs}
 
 -- ---- how it is asked
 
--- nothing was asked behind scans that have not ended
-pub not-ended : (alone : Bool) (fixed : Fixed) (noticed : ℕ) (Idle : Type 0) (old at : List Entry)
-    → WentOn alone is_ours old [] at → has_ended_at fixed at ≡ false
-    → AsksIfDone alone fixed noticed Idle old at false
-not-ended alone fixed noticed Idle old at went off = record {
-  all_yes = false;
-  asked = record {
-    at = at;
-    went = went;
-    yes = λ is. absurd (clash is off);
-    no = λ is. (refl, refl);
-  };
-  done_is = (λ is. absurd (let wrong : false ≡ true = is in cc), λ both. both.0);
-}
-
--- nor behind a failure that is unnoticed
-pub one-unnoticed : (alone : Bool) (fixed : Fixed) (noticed : ℕ) (Idle : Type 0)
-    (old at next : List Entry) → WentOn alone is_ours old [] at → has_ended_at fixed at ≡ true
-    → WentOn alone is_ours at [] next → nat_le (failures_at fixed next) noticed ≡ false
-    → AsksIfDone alone fixed noticed Idle old next false
-one-unnoticed alone fixed noticed Idle old at next first ended second more = record {
-  all_yes = false;
-  asked = record {
-    at = at;
-    went = first;
-    yes = λ is. record {
-      at = next;
-      went = second;
-      yes = λ few. absurd (clash few more);
-      no = λ some. (refl, refl);
-    };
-    no = λ off. absurd (clash ended off);
-  };
-  done_is = (λ is. absurd (let wrong : false ≡ true = is in cc), λ both. both.0);
-}
-
 -- a call is uncollected
 pub one-uncollected : (alone : Bool) (fixed : Fixed) (noticed : ℕ) (Idle : Type 0)
     (old at next last : List Entry)

@@ -11,21 +11,21 @@ use Rattle.controller_core.specs.declared.call.CallKind.TheVariants as kinds
 use Rattle.controller_core.specs.declared.entry.Entry.{Entry}
 use Rattle.controller_core.specs.declared.entry.Entry.TheVariants.{Collect, Finish}
 use Rattle.ring_core.specs.declared.entry.LocalOp.{LocalOp}
+use Rattle.ring_core.specs.Words.{request_along}
 use Rattle.ring_core.specs.declared.entry.RingEntry.{RingEntry}
 use Rattle.ring_core.specs.declared.entry.RingEntry.TheVariants.{Post, Local}
 use Rattle.tied_lists.specs.Own.{is_of, WentOn}
 use Rattle.tied_lists.proofs.Growth.{grew-one}
 use Rattle.comm_port.specs.HoldTurn.{MadeAs, IsMade, CollectsIf, Collects}
 use Rattle.comm_port.specs.Calling.{IsDueAt}
-use Rattle.comm_port.specs.Making.{request_frame}
 use Rattle.comm_port.specs.Parts.{InOrder, PartOf}
 use Rattle.joint_history.specs.Reading.{is_ours, has_started_at}
 use Rattle.comm_port.proofs.Parts.{grew-none, in-order-last, part-both, part-none}
 
-pub made-net : (n : ℕ) (c : Call) (to : ℕ) (pdu : List ℕ) → c.kind ≡ kinds.Net to pdu
-    → IsMade n c [] (Post n (request_frame c.id to pdu) ∷ [])
-made-net n c to pdu is = subst (λ (k : CallKind). MadeAs k n c.id []
-    (Post n (request_frame c.id to pdu) ∷ [])) (sym is) (refl, refl)
+pub made-net : (n : ℕ) (c : Call) (route pdu : List ℕ) → c.kind ≡ kinds.Net route pdu
+    → IsMade n c [] (Post n (request_along c.id route pdu) ∷ [])
+made-net n c route pdu is = subst (λ (k : CallKind). MadeAs k n c.id []
+    (Post n (request_along c.id route pdu) ∷ [])) (sym is) (refl, refl)
 
 pub made-local : (n : ℕ) (c : Call) (op : LocalOp) (r : MstrResult) → c.kind ≡ kinds.Local op
     → IsMade n c (Finish c.id r ∷ []) (Local n c.id op r ∷ [])

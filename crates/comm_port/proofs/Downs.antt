@@ -14,8 +14,10 @@ use Rattle.tied_lists.specs.Words.{LeaveCause, Ended, Spent, Down, RingEntry, Po
 use Rattle.tied_lists.specs.Words.{Local, GiveUp, Pass, Leave, Join}
 use Rattle.ring_core.specs.Machine.{NodeIs, RingIs, part_of, ring_node, fresh, after}
 use Rattle.ring_core.specs.Machine.{ring_after, arrival, arrived, with_frame, heard_by, heard_of}
-use Rattle.ring_core.specs.Machine.{fate_at, sent_head, sent_off, failed, silence_word, is_here}
-use Rattle.ring_core.specs.Machine.{is_held, admitted, after_pass, left_with, addresses}
+use Rattle.ring_core.specs.Machine.{fate_at, sent_head, sent_off, failed, silence_word}
+use Rattle.ring_core.specs.Machine.{hears}
+use Rattle.ring_core.specs.Words.{is_onward}
+use Rattle.ring_core.specs.Machine.{is_held, admitted, after_pass, gone_by, addresses}
 use Rattle.ring_core.specs.Machine.{with_members, fell, is_repeat, is_full, waits_for, path_of}
 use Rattle.ring_core.proofs.Stability.{admitted-part}
 use Rattle.tied_lists.specs.Own.{is_of, own, Adds, Grew}
@@ -61,10 +63,10 @@ down-came c f Request = cond_both (is_repeat c f.id) _ _ (λ x. (with_frame c x 
 down-came c f Reply = cond_both (waits_for (path_of c f.id.path).awaits f.id.seq) _ _
     (λ x. (with_frame c x f).down ≡ c.down) (λ _. refl) (λ _. refl)
 
-down-arrived : (nodes : List NodeIs) (f : Frame) (fate : Fate) (k : ℕ)
-    → (part_of (arrived nodes f (arrival nodes fate f)) k).down ≡ (part_of nodes k).down
-down-arrived nodes f fate k =
-    arrived-part nodes f fate (λ m c. c.down ≡ (part_of nodes m).down) (λ m. refl)
+down-arrived : (net : NetPlan) (nodes : List NodeIs) (f : Frame) (fate : Fate) (k : ℕ)
+    → (part_of (arrived nodes f (arrival net nodes fate f)) k).down ≡ (part_of nodes k).down
+down-arrived net nodes f fate k =
+    arrived-part net nodes f fate (λ m c. c.down ≡ (part_of nodes m).down) (λ m. refl)
     (λ here. down-came (part_of nodes f.to) f f.kind) k
 
 down-heard : (c : NodeIs) (kind : FrameKind) (id : CallId) (there : Bool) (h : Heard)
@@ -79,11 +81,11 @@ down-sent : (net : NetPlan) (r : RingIs) (m : ℕ) (box : List Frame) (k : ℕ)
     → (ring_node (sent_head net r m box) k).down ≡ (ring_node r k).down
 down-sent net r m [] k = refl
 down-sent net r m (f ∷ fs) k =
-    let fall = arrival r.nodes (fate_at net.fates r.sent) f in
+    let fall = arrival net r.nodes (fate_at net.fates r.sent) f in
     let nodes = arrived r.nodes f fall in
-    down-set nodes m k _ (down-heard (part_of nodes m) f.kind f.id (is_here (ring_node r f.to))
-    (heard_of (fate_at net.fates r.sent) fall))
-    ∙ down-arrived r.nodes f (fate_at net.fates r.sent) k
+    down-set nodes m k _ (down-heard (part_of nodes m) f.kind f.id
+    (hears net r.nodes f.to (is_onward f)) (heard_of (fate_at net.fates r.sent) fall))
+    ∙ down-arrived net r.nodes f (fate_at net.fates r.sent) k
 
 down-admitted : (nodes : List NodeIs) (n : ℕ)
     → (part_of (map admitted nodes) n).down ≡ (part_of nodes n).down
@@ -98,7 +100,7 @@ kept-either true x = refl
 kept-either false x = refl
 
 left-down : (cause : LeaveCause) (c : NodeIs)
-    → (left_with cause c).down ≡ last_from c.down (filter_map down_of (Leave 0 cause ∷ []))
+    → (gone_by cause c).down ≡ last_from c.down (filter_map down_of (Leave 0 cause ∷ []))
 left-down Ended c = refl
 left-down Spent c = refl
 left-down (Down number) c = refl
@@ -130,13 +132,13 @@ down-step net r n (Pass m done words) size low =
     down-admitted (set r.nodes m (after_pass (ring_node r m) done)) n
     ∙ (down-set r.nodes m n _ refl ∙ kept-either (m == n) _)
 down-step net r n (Leave m cause) size low =
-    let to = left_with cause (ring_node r m) in
+    let to = gone_by cause (ring_node r m) in
     down-admitted (set r.nodes m to) n ∙ ⊎_elim
     (λ (is : (m == n) ≡ true).
     let same : m ≡ n = eqb-true m n is in
     leave-own n m cause (ring_node r n).down _ same
-    (ap (λ (k : ℕ). (part_of (set r.nodes k (left_with cause (ring_node r k))) n).down) same
-    ∙ (ap (λ (c : NodeIs). c.down) (at-same r.nodes n (left_with cause (ring_node r n)) size low)
+    (ap (λ (k : ℕ). (part_of (set r.nodes k (gone_by cause (ring_node r k))) n).down) same
+    ∙ (ap (λ (c : NodeIs). c.down) (at-same r.nodes n (gone_by cause (ring_node r n)) size low)
     ∙ left-down cause (ring_node r n))))
     (λ (other : (m == n) ≡ false).
     ap (λ (c : NodeIs). c.down) (get_or-set_other r.nodes m n to (fresh false)
@@ -326,7 +328,7 @@ latest-back alone n joined ring ring' g =
 -- a visit
 ended-downs : (kind : CallKind) (n : ℕ) (id : CallId) (noted : List Entry) (done : List RingEntry)
     → EndedAs kind n id noted done → Each (λ (e : RingEntry). down_of e ≡ None) done
-ended-downs (kinds.Net to pdu) n id noted done k =
+ended-downs (kinds.Net route pdu) n id noted done k =
     subst (Each (λ (e : RingEntry). down_of e ≡ None)) (sym k.2) (refl, (refl, tt))
 ended-downs (kinds.Local op) n id noted done k =
     subst (Each (λ (e : RingEntry). down_of e ≡ None)) (sym k.2) (refl, tt)

@@ -26,7 +26,8 @@ use Rattle.ring_core.specs.declared.refusal.RingNo.TheVariants.{Untaken}
 use Rattle.ring_core.specs.declared.entry.RingEntry.{RingEntry}
 use Rattle.ring_core.specs.declared.entry.RingEntry.TheVariants.{GiveUp}
 use Rattle.ring_core.specs.Words.{asks_for}
-use Rattle.ring_core.specs.Machine.{is_here, NodeIs, no_path, path_of, gave_up, ring_node, ring_after}
+use Rattle.ring_core.specs.Machine.{is_here, NodeIs, no_path, path_of}
+use Rattle.ring_core.specs.Machine.{gave_up, ring_node, ring_after}
 use Rattle.ring_core.specs.Refusals.{or_no, free_no, awaited_no, other_no, answer_after}
 use Rattle.tied_lists.specs.Waits.{AwaitsThis, IsFree, Holds, HasLeft}
 use Rattle.tied_lists.proofs.Boxes.{each-filter}
@@ -45,10 +46,12 @@ pub free-none : (net : NetPlan) (ring : List RingEntry) (n : ℕ) → IsFree net
 free-none net ring n free =
     let r = ring_after net ring in
     ⊎_elim
-    (λ (h : Holds net ring n). cond-true (is_here (ring_node r n)) _ _ h.here ∙ cond-true (r.holder == n)
+    (λ (h : Holds net ring n). cond-true (is_here (ring_node r n)) _ _ h.here
+    ∙ cond-true (r.holder == n)
     None (Some (NotHolder r.holder))
     (eq-eqb r.holder n h.holder))
-    (λ (l : HasLeft net ring n). cond-false (is_here (ring_node r n)) _ _ (not-in net n ring l)) free
+    (λ (l : HasLeft net ring n). cond-false (is_here (ring_node r n)) _ _ (not-in net n ring l))
+    free
 
 pub record Judged (due : Option CallId) (no : Option RingNo) (id : CallId) : Type 0 where
   pub may : no ≡ None → due ≡ Some id
@@ -87,10 +90,10 @@ judge-by : (answer : ℕ) (here : Bool) (n p : ℕ) (a : Await) (f : Frame) (id 
     → ((seq : ℕ) → seq ≡ f.id.seq → (record { node = n; path = p; seq = seq }) ≡ id)
     → Judged (due_by answer here n p a) (cond here (answer_after answer a) None) id
 judge-by answer here n p Nothing f id awaits same = absurd awaits
-judge-by answer true n p (Out seq to passes) f id awaits same =
+judge-by answer true n p (Out seq to onward passes) f id awaits same =
     judge-held answer passes (record { node = n; path = p; seq = seq }) id (nat_lt passes answer)
     refl (same seq awaits)
-judge-by answer false n p (Out seq to passes) f id awaits same = judge-yes
+judge-by answer false n p (Out seq to onward passes) f id awaits same = judge-yes
     (record { node = n; path = p; seq = seq }) id (same seq awaits)
 judge-by answer true n p (Arrived seq) f id awaits same = judge-no (Untaken 1) id
 judge-by answer false n p (Arrived seq) f id awaits same = judge-yes
@@ -105,7 +108,7 @@ same-number out seq e = cond-true (out == seq) None (Some (NotAwaited out)) (eq-
 
 awaited : (a : Await) (f : Frame) → AwaitsThis a (Some f) → awaited_no a f.id.seq ≡ None
 awaited Nothing f w = absurd w
-awaited (Out seq to passes) f w = same-number seq f.id.seq w
+awaited (Out seq to onward passes) f w = same-number seq f.id.seq w
 awaited (Arrived seq) f w = same-number seq f.id.seq w
 awaited (Failed seq word) f w = same-number seq f.id.seq w
 
@@ -135,7 +138,7 @@ judged net n p c f id awaits named own' path' =
 -- a path that waits for nothing
 pub nothing-waits : (a : Await) → AwaitsThis a None → a ≡ Nothing
 nothing-waits Nothing w = refl
-nothing-waits (Out seq to passes) w = absurd w
+nothing-waits (Out seq to onward passes) w = absurd w
 nothing-waits (Arrived seq) w = absurd w
 nothing-waits (Failed seq word) w = absurd w
 
@@ -165,8 +168,9 @@ named-if n p seq false id e = absurd (let bad : None ≡ Some id = e in cc)
 due-named : (answer : ℕ) (here : Bool) (n p : ℕ) (a : Await) (id : CallId)
     → due_by answer here n p a ≡ Some id → NamedBy n p id
 due-named answer here n p Nothing id e = absurd (let bad : None ≡ Some id = e in cc)
-due-named answer true n p (Out seq to passes) id e = named-if n p seq (nat_le answer passes) id e
-due-named answer false n p (Out seq to passes) id e = named-if n p seq true id e
+due-named answer true n p (Out seq to onward passes) id e =
+    named-if n p seq (nat_le answer passes) id e
+due-named answer false n p (Out seq to onward passes) id e = named-if n p seq true id e
 due-named answer true n p (Arrived seq) id e = absurd (let bad : None ≡ Some id = e in cc)
 due-named answer false n p (Arrived seq) id e = named-if n p seq true id e
 due-named answer true n p (Failed seq word) id e = named-if n p seq true id e

@@ -1,5 +1,5 @@
 -- A node that leaves because power failed, and comes back.
-use Rattle.std.proofs.Common.{◌≡◌, ◌⊎◌, ℕ, ◌<◌, Bool, true, false, not, List, [], ◌∷◌, ◌++◌}
+use Rattle.std.proofs.Common.{◌≡◌, ◌⊎◌, ℕ, ◌<◌, Bool, true, false, List, [], ◌∷◌, ◌++◌}
 use Rattle.std.proofs.Common.{filter_map, Option, Some, None, refl, sym, ap, ◌∙◌, subst, inr}
 use Rattle.std.proofs.Common.{append-nil}
 use Rattle.std.specs.List.{AllByRecursion as Each}
@@ -203,7 +203,8 @@ pub back-ends : (alone : Bool) (net : NetPlan) (n : ℕ) (joined : Bool) (ring r
 back-ends alone net n joined ring ring' g =
     adds-grew alone (is_of n) IsEnding ring (join_entries n joined) ring' (join-ends n joined) g
 
-pub back-lead : {P Q : Type 0} (alone alone' : Bool) (n : ℕ) (joined : Bool) (ram ram' : RamSideIs P)
+pub back-lead : {P Q : Type 0} (alone alone' : Bool) (n : ℕ) (joined : Bool)
+    (ram ram' : RamSideIs P)
     (known known' : List Entry) (side side' : RingSideIs Q) (ring ring' : List RingEntry)
     (w : List (Option Frame)) → ram' ≡ ram → side' ≡ side → IsLegalRing side.net ring'
     → ComesBack alone alone' ram.fixed n known known' ring ring' joined

@@ -272,7 +272,7 @@ given-more alone alone' net n chosen p known known' known'' ring ring' ring'' fr
 gone-some : (answer n p : ℕ) (a : Await) (f : Frame) → AwaitsThis a (Some f)
     → due_by answer false n p a ≡ None → ⊥
 gone-some answer n p Nothing f w e = w
-gone-some answer n p (Out seq to passes) f w e = let bad : Some
+gone-some answer n p (Out seq to onward passes) f w e = let bad : Some
     (record { node = n; path = p; seq = seq }) ≡ None = e in cc
 gone-some answer n p (Arrived seq) f w e = let bad : Some (record { node = n; path = p; seq = seq })
     ≡ None = e in cc

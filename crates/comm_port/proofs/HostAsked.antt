@@ -14,6 +14,7 @@ use Rattle.plant_types.specs.declared.net.HostPlan.{HostPlan}
 use Rattle.ring_core.specs.Legal.{IsLegalRing, IsPath}
 use Rattle.ring_core.specs.Machine.{asked, NodeIs, no_path, path_of, path_places, ring_after}
 use Rattle.ring_core.specs.Machine.{ring_node}
+use Rattle.ring_core.specs.Words.{is_onward}
 use Rattle.ring_core.specs.declared.frame.FrameKind.{FrameKind}
 use Rattle.ring_core.specs.declared.frame.FrameKind.TheVariants.{Request}
 use Rattle.ring_core.specs.declared.frame.Frame.{Frame}
@@ -42,7 +43,7 @@ use Rattle.comm_port.proofs.RingTurns.{own-moved}
 pub record PathIsOut (net : NetPlan) (n : ℕ) (f : Frame) (ring ring' : List RingEntry) : Type 0
   where
     pub out : path_of (ring_node (ring_after net ring') n) f.id.path
-        ≡ record { awaits = Out f.id.seq f.to 0; posted = f.id.seq }
+        ≡ record { awaits = Out f.id.seq f.to (is_onward f) 0; posted = f.id.seq }
     pub others : (p : ℕ) → p ≢ f.id.path
         → path_of (ring_node (ring_after net ring') n) p
         ≡ path_of (ring_node (ring_after net ring) n)
@@ -58,9 +59,9 @@ path-out alone n f side ring ring' turn kind is_path went legal =
     let w = after-post side.net n ring f ring' m in
     let c = part side.net ring n in
     let size = (legal-follows side.net ring n turn.on).node.part.size in
-    let v : Path = record { awaits = Out f.id.seq f.to 0; posted = f.id.seq } in
+    let v : Path = record { awaits = Out f.id.seq f.to (is_onward f) 0; posted = f.id.seq } in
     let paths : (part side.net ring' n).paths ≡ set c.paths f.id.path v =
-    ap (λ (x : NodeIs). x.paths) w.part_is ∙ ap (λ (k : FrameKind). asked c k f.id f.to) kind in
+    ap (λ (x : NodeIs). x.paths) w.part_is ∙ ap (λ (k : FrameKind). asked c k f) kind in
     let high = is_path.1 in
     let range : f.id.path < length c.paths = omega (arith, size, high) in
     record {
@@ -156,10 +157,10 @@ chosen-next fresh asks ask path is range paths p = ⊎_elim
     or-false false = refl
 
 new-next : (net : NetPlan) (n : ℕ) (fresh : List Bool) (path : ℕ) (old new : NodeIs) (seq to : ℕ)
-    → path_of new path ≡ record { awaits = Out seq to 0; posted = seq }
+    (onward : Bool) → path_of new path ≡ record { awaits = Out seq to onward 0; posted = seq }
     → ((p : ℕ) → p ≢ path → path_of new p ≡ path_of old p)
     → AreRecent (is_chosen fresh) old → AreRecent (is_chosen (set fresh path true)) new
-new-next net n fresh path old new seq to out others are p is on = ⊎_elim
+new-next net n fresh path old new seq to onward out others are p is on = ⊎_elim
     (λ (e : p ≡ path). subst (λ (q : ℕ). IsRecent (path_of new q).awaits) (sym e)
     (subst (λ (x : Path). IsRecent x.awaits) (sym out) refl))
     (λ (o : p ≡ path → ⊥). subst (λ (x : Path). IsRecent x.awaits) (sym (others p o))
@@ -195,7 +196,8 @@ asked-next alone net n plan hold path list old new r0 r r' fresh at at_is plan_i
       size = length-set fresh path true ∙ a.size;
       paths = chosen-next fresh a.asks o.ask path o.path_is range a.paths;
       new_calls = new-next net n fresh path (ring_node (ring_after net r) n)
-          (ring_node (ring_after net r') n) o.ask.id.seq o.ask.to o.out o.others a.new_calls;
+          (ring_node (ring_after net r') n) o.ask.id.seq o.ask.to (is_onward o.ask)
+          o.out o.others a.new_calls;
     })
 
 pub asked-end : (alone : Bool) (net : NetPlan) (n : ℕ) (plan : HostPlan) (hold : ℕ)

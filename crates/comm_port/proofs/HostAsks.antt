@@ -18,6 +18,7 @@ use Rattle.ring_core.specs.declared.entry.RingEntry.TheVariants.{Post, Send, Giv
 use Rattle.ring_core.specs.declared.entry.Heard.{Heard}
 use Rattle.ring_core.specs.declared.entry.LeaveCause.{LeaveCause}
 use Rattle.ring_core.specs.Legal.{IsFrom, IsLegalRing, IsNextNumber}
+use Rattle.ring_core.specs.Words.{frame_route, request_along}
 use Rattle.ring_core.specs.Machine.{NodeIs, awaited_number, path_of, ring_after, ring_node}
 use Rattle.host_port.specs.declared.entry.HostEntry.{HostEntry}
 use Rattle.host_port.specs.declared.entry.HostEntry.TheVariants.{Ask, Answer}
@@ -72,7 +73,7 @@ due-of v hold None None f is due = absurd cc
 due-of v hold None (Some ask) f is due = absurd cc
 due-of v hold (Some id) None f is due = absurd cc
 due-of v hold (Some id) (Some ask) f is due =
-    let same : f ≡ record { kind = Request; to = ask.to; id = id; pdu = ask.pdu } = cc in
+    let same : f ≡ request_along id ask.route ask.pdu = cc in
     record {
       kind = ap (λ (g : Frame). g.kind) same;
       within = due-ask v hold (next_ask v) ask refl
@@ -86,18 +87,19 @@ pub due-kind : (v : HostIs) (hold : ℕ) (f : Frame) → Some f ≡ due_request 
 due-kind v hold f is = (due-frame v hold f is).kind
 
 -- the host's list behind it
-pub ask-legal : (old new : HostIs) (f : Frame) → HostWentOn (Ask f.id f.to f.pdu ∷ []) old new
-    → IsHostHistory old.plan
-    (old.history ++ Ask f.id f.to f.pdu ∷ [])
-ask-legal old new f w = legal-with old new (Ask f.id f.to f.pdu) w
+pub ask-legal : (old new : HostIs) (f : Frame)
+    → HostWentOn (Ask f.id (frame_route f) f.pdu ∷ []) old new → IsHostHistory old.plan
+    (old.history ++ Ask f.id (frame_route f) f.pdu ∷ [])
+ask-legal old new f w = legal-with old new (Ask f.id (frame_route f) f.pdu) w
 
 pub ask-next : {Q : Type 0} (n : ℕ) (f : Frame) (old new : HostIs) (side : RingSideIs Q)
     (ring : List RingEntry) → HostTurning n
     old side ring → f.kind ≡ Request
-    → HostWentOn (Ask f.id f.to f.pdu ∷ []) old new
+    → HostWentOn (Ask f.id (frame_route f) f.pdu ∷ []) old new
     → IsNextNumber (ring_node (ring_after side.net ring) n) f.kind f.id
 ask-next n f old new side ring t kind w =
-    let call = open_requests.new old.plan old.history f.id f.to f.pdu (ask-legal old new f w) in
+    let call = open_requests.new old.plan old.history f.id (frame_route f) f.pdu
+    (ask-legal old new f w) in
     let part = (legal-follows side.net ring n t.own_turn.on).node.part in
     let range = call.is_path in
     let low = range.1 in
@@ -110,12 +112,12 @@ ask-next n f old new side ring t kind w =
 pub turning-asked : {Q : Type 0} (alone : Bool) (n : ℕ) (f : Frame) (old new : HostIs)
     (side : RingSideIs Q) (ring ring' : List
     RingEntry) → HostTurning n old side ring → f.kind ≡ Request
-    → HostWentOn (Ask f.id f.to f.pdu ∷ []) old new
+    → HostWentOn (Ask f.id (frame_route f) f.pdu ∷ []) old new
     → WentOn alone (is_of n) ring (Post n f ∷ []) ring' → IsLegalRing side.net ring' →
     HostTurning n new side ring' × KeepsInbox side.net n ring ring'
 turning-asked alone n f old new side ring ring' t kind w went legal =
-    let e : HostEntry = Ask f.id f.to f.pdu in
-    let call : Called = record { id = f.id; sort = OverNet f.to f.pdu } in
+    let e : HostEntry = Ask f.id (frame_route f) f.pdu in
+    let call : Called = record { id = f.id; sort = OverNet (frame_route f) f.pdu } in
     let m = own-moved side alone n ring (Post n f) ring' refl t.own_turn legal went in
     let on = own-on side alone n ring (Post n f) ring' t.own_turn legal went in
     let kept = kept-post side.net n ring ring' f on m in
@@ -138,13 +140,14 @@ turning-asked alone n f old new side ring ring' t kind w went legal =
     )
 
 pub fewer-asks : (old new : HostIs) (f : Frame) (hold : ℕ) → Some f ≡ due_request old hold
-    → HostWentOn (Ask f.id f.to f.pdu ∷ [])
+    → HostWentOn (Ask f.id (frame_route f) f.pdu ∷ [])
     old new → asks_left new < asks_left old
 fewer-asks old new f hold is w =
     let d = (due-frame old hold f is).within in
     let more : length (requests_in new.history) ≡ length (requests_in old.history) + 1 =
     ap (λ h. length (requests_in h)) w.history ∙ ap length
-    (requests_ask old.history f.id f.to f.pdu) ∙ length_push (requests_in old.history) _ in
+    (requests_ask old.history f.id (frame_route f) f.pdu)
+    ∙ length_push (requests_in old.history) _ in
     let plan : length new.plan.requests ≡ length old.plan.requests = ap
     (λ (p : HostPlan). length p.requests) w.plan in
     omega arith
@@ -154,10 +157,10 @@ fewer-asks old new f hold is w =
 awaited : (seq : ℕ) (a : Await) (w : Option Frame) → awaited_number a ≡ seq → (seq ≡ 0 → ⊥)
     → AwaitsThis a w → (f : Frame) × (w ≡ Some f) × (f.id.seq ≡ seq)
 awaited seq Nothing w is some this = absurd (some (sym is))
-awaited seq (Out s to passes) None is some this = absurd this
+awaited seq (Out s to onward passes) None is some this = absurd this
 awaited seq (Arrived s) None is some this = absurd this
 awaited seq (Failed s word) None is some this = absurd this
-awaited seq (Out s to passes) (Some f) is some this = (f, refl, sym this ∙ is)
+awaited seq (Out s to onward passes) (Some f) is some this = (f, refl, sym this ∙ is)
 awaited seq (Arrived s) (Some f) is some this = (f, refl, sym this ∙ is)
 awaited seq (Failed s word) (Some f) is some this = (f, refl, sym this ∙ is)
 
@@ -293,7 +296,7 @@ gave-some {Q} alone id o word old new side side' a b c l same gave is legal' out
 
 pub went-some : (o : Option Frame) (f : Frame) (old new : HostIs) → o ≡ Some f
     → HostWentOn (entry_asked {E = ℕ} (Ok o)) old new →
-    HostWentOn (Ask f.id f.to f.pdu ∷ []) old new
+    HostWentOn (Ask f.id (frame_route f) f.pdu ∷ []) old new
 went-some o f old new is w = subst
     (λ (x : Option Frame). HostWentOn (entry_asked {E = ℕ} (Ok x)) old new) is w
 
@@ -328,7 +331,8 @@ turning-sent alone n heard host side ring ring' t sent legal =
 last-quiet : (n : ℕ) (done : Bool) (words : List ℕ) (cause : Option LeaveCause) (a : Items)
     (b : List RingEntry) → IsQuietCause cause → TiedBut AHost
     [] a b → TiedBut AHost [] a (b ++ last_entry n done words cause ∷ [])
-last-quiet n done words None a b quiet t = tied-quiet AHost [] a b (Pass n done words) refl refl refl
+last-quiet n done words None a b quiet t =
+    tied-quiet AHost [] a b (Pass n done words) refl refl refl
     refl refl refl t
 last-quiet n done words (Some cause) a b quiet t = tied-quiet AHost [] a b (Leave n cause) refl refl
     refl refl refl (quiet cause refl) t
@@ -345,7 +349,8 @@ pub ties-handed : {Q : Type 0} (alone : Bool) (n : ℕ) (done : Bool) (words : L
     (cause : Option LeaveCause) (host : HostIs)
     (side : RingSideIs Q) (ring ring' : List RingEntry) → HostTurning n host side ring
     → HandedOn alone side.net n done words cause ring ring' → IsQuietCause cause
-    → IsLegalRing side.net ring' → 0 < side.net.answer → IsAtRest side.net n ring → HostTies n host side ring'
+    → IsLegalRing side.net ring' → 0 < side.net.answer → IsAtRest side.net n ring
+    → HostTies n host side ring'
 ties-handed alone n done words cause host side ring ring' t handed quiet legal wait rest =
     let own_is = grew-ours alone (is_of n) ring (last_entry n done words cause ∷ []) ring'
     handed.grew in

@@ -58,10 +58,10 @@ gives-none alone net n p list a b on free grew none = record {
 nothing-of : (a : Await) (w : Option Frame) → awaited_number a ≡ 0 → AwaitsThis a w
     → ((f : Frame) → w ≡ Some f → 0 < f.id.seq) → a ≡ Nothing
 nothing-of Nothing w is this some = refl
-nothing-of (Out s to passes) None is this some = absurd this
+nothing-of (Out s to onward passes) None is this some = absurd this
 nothing-of (Arrived s) None is this some = absurd this
 nothing-of (Failed s word) None is this some = absurd this
-nothing-of (Out s to passes) (Some f) is this some = absurd
+nothing-of (Out s to onward passes) (Some f) is this some = absurd
     (let pos = some f refl in let zero' : f.id.seq ≡ 0 = sym this ∙ is in omega arith)
 nothing-of (Arrived s) (Some f) is this some = absurd
     (let pos = some f refl in let zero' : f.id.seq ≡ 0 = sym this ∙ is in omega arith)
@@ -120,7 +120,8 @@ gives-kept alone n p seq host side list a b c t legal went is gave legal' kept =
     is ∙ ap (λ (x : NodeIs). awaited_number (path_of x p).awaits) l.found.part_is ∙ ap
     (λ (x : Path). awaited_number x.awaits) (sym path) in
     let why = kept-why net c n p seq left.free in
-    let no' : is_none (kept_for net.answer (is_here (part net c n)) (path_of (part net c n) p).awaits
+    let no' : is_none (kept_for net.answer (is_here (part net c n))
+    (path_of (part net c n) p).awaits
     seq) ≡ false = ap is_none (sym why) ∙ kept in
     let here = (is_here (part net c n)) in
     let awaits = (path_of (part net c n) p).awaits in

@@ -19,7 +19,7 @@ use Rattle.ring_core.specs.Legal.{IsPath}
 use Rattle.ring_core.specs.Machine.{awaited_number, path_of, ring_after}
 use Rattle.ring_core.specs.Refusals.{or_no, other_no}
 use Rattle.ring_core.specs.Scratch.{words_put}
-use Rattle.ring_core.specs.Statistics.{is_stats}
+use Rattle.ring_core.specs.Statistics.{is_for_stats}
 use Rattle.ring_core.specs.declared.refusal.RingNo.{RingNo}
 use Rattle.ring_core.specs.declared.refusal.RingNo.TheVariants.{NotAwaited}
 use Rattle.ring_core.specs.declared.frame.FrameKind.{FrameKind}
@@ -77,8 +77,8 @@ goes-left answer n p seq a number why none =
 
 nothing-left : (answer n p : ℕ) (a : Await) → goes_by answer false n p a ≡ [] → a ≡ Nothing
 nothing-left answer n p Nothing none = refl
-nothing-left answer n p (Out s to passes) none = absurd
-    (goes-left answer n p s (Out s to passes) refl refl none)
+nothing-left answer n p (Out s to onward passes) none = absurd
+    (goes-left answer n p s (Out s to onward passes) refl refl none)
 nothing-left answer n p (Arrived s) none = absurd
     (goes-left answer n p s (Arrived s) refl refl none)
 nothing-left answer n p (Failed s word) none = absurd
@@ -87,7 +87,7 @@ nothing-left answer n p (Failed s word) none = absurd
 nothing-waits : (a : Await) (w : Option Frame) → a ≡ Nothing → AwaitsThis a w → w ≡ None
 nothing-waits Nothing None is this = refl
 nothing-waits Nothing (Some f) is this = absurd this
-nothing-waits (Out s to passes) w is this = absurd (cc)
+nothing-waits (Out s to onward passes) w is this = absurd (cc)
 nothing-waits (Arrived s) w is this = absurd (cc)
 nothing-waits (Failed s word) w is this = absurd (cc)
 
@@ -186,9 +186,9 @@ low-due : (plan : HostPlan) (v : HostIs) (h : ℕ) (o : Option HostAsk) → IsHo
     → v.plan ≡ plan → next_ask v ≡ o → if_due (min h most) o ≡ if_due h o
 low-due plan v h None sound is next = refl
 low-due plan v h (Some ask) sound is next =
-    let all : All (IsAskOf plan.node) v.plan.requests = subst
-    (λ (p : HostPlan). All (IsAskOf plan.node) p.requests) (sym is) sound.requests in
-    let ok = all_at (IsAskOf plan.node) v.plan.requests (length (requests_in v.history)) ask all
+    let all : All (IsAskOf plan) v.plan.requests = subst
+    (λ (p : HostPlan). All (IsAskOf plan) p.requests) (sym is) sound.requests in
+    let ok = all_at (IsAskOf plan) v.plan.requests (length (requests_in v.history)) ask all
     next in
     ap (λ (b : Bool). if b then Some ask else None) (low-min h ask ok.hold.to)
 
@@ -228,7 +228,7 @@ passes-both : (xs ys : List RingEntry) → passes_in (xs ++ ys) ≡ passes_in xs
 passes-both xs ys = sum_by-append (λ (e : RingEntry). cond (is_pass e) 1 0) xs ys
 
 served-none : (n : ℕ) (f : Frame) (entries : List RingEntry) (k : FrameKind) (stats : Bool)
-    → is_stats f.pdu ≡ stats → ServesKind k n f entries → passes_in entries ≡ 0
+    → is_for_stats f ≡ stats → ServesKind k n f entries → passes_in entries ≡ 0
 served-none n f entries Reply stats is s = ap passes_in s
 served-none n f entries Request true is s =
     let t : ServesRequest true n f entries = subst (λ (b : Bool). ServesRequest b n f entries) is s
@@ -243,7 +243,7 @@ served-passes n [] [] all = refl
 served-passes n [] (p ∷ parts) all = absurd all
 served-passes n (f ∷ fs) [] all = absurd all
 served-passes n (f ∷ fs) (p ∷ parts) all =
-    let one = served-none n f p f.kind (is_stats f.pdu) refl all.0 in
+    let one = served-none n f p f.kind (is_for_stats f) refl all.0 in
     let rest = served-passes n fs parts all.1 in
     passes-both p (flat_map (λ q. q) parts) ∙ (λ i. one i + rest i)
 

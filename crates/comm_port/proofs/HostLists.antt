@@ -1,9 +1,9 @@
 -- A host's list and the list of its node, as both go on.
 use Rattle.std.proofs.Common.{◌≡◌, ◌+◌, ◌==◌, ◌||◌, ℕ, Bool, true, false, not, cond}
-use Rattle.std.proofs.Common.{List, [], ◌∷◌, ◌++◌, Option, Some, None, map, refl, sym, ap}
+use Rattle.std.proofs.Common.{List, [], ◌∷◌, ◌++◌, Option, Some, None, refl, sym, ap}
 use Rattle.std.proofs.Common.{◌∙◌, inl, inr, append_assoc, append-nil, arith}
 use Rattle.std.specs.Prelude.{if◌then◌else◌}
-use Rattle.std.specs.List.{filter, list_any}
+use Rattle.std.specs.List.{filter, filter_map, list_any}
 use Rattle.std.proofs.lemmas.Bool.{cases_Bool, eqb-true}
 use Rattle.plant_types.specs.declared.net.HostPlan.{HostPlan}
 use Rattle.mstr_block.specs.declared.call.CallId.{CallId}
@@ -12,6 +12,7 @@ use Rattle.ring_core.specs.declared.frame.FrameKind.{FrameKind}
 use Rattle.ring_core.specs.declared.frame.FrameKind.TheVariants.{Request, Reply}
 use Rattle.ring_core.specs.declared.frame.Frame.{Frame}
 use Rattle.ring_core.specs.declared.entry.RingEntry.{RingEntry}
+use Rattle.ring_core.specs.Words.{frame_route}
 use Rattle.ring_core.specs.declared.entry.RingEntry.TheVariants.{Post, Take, GiveUp}
 use Rattle.host_port.specs.declared.entry.HostEntry.{HostEntry}
 use Rattle.host_port.specs.declared.entry.HostEntry.TheVariants.{Ask, Answer, Served}
@@ -38,29 +39,34 @@ pub items_with : (h : List HostEntry) (e : HostEntry)
 items_with h e = items_push no_items h e
 
 -- each call of a host asks another node
-abbrev called : Frame → Called
-called f = record { id = f.id; sort = OverNet f.to f.pdu }
+abbrev called_by : HostEntry → Option Called
+called_by (Ask id route pdu) = Some (record { id = id; sort = OverNet route pdu })
+called_by (Answer id result) = None
+called_by (Served id request reply) = None
 
 calls_after : (a : Items) (h : List HostEntry)
-    → (host_items_after a h).calls ≡ a.calls ++ map called (requests_in h)
+    → (host_items_after a h).calls ≡ a.calls ++ filter_map called_by h
 calls_after a [] = sym (append-nil a.calls)
-calls_after a (Ask id to pdu ∷ h) =
-    let c : Called = record { id = id; sort = OverNet to pdu } in
-    calls_after (host_item_next a (Ask id to pdu)) h ∙ append_assoc a.calls (c ∷ [])
-    (map called (requests_in h))
+calls_after a (Ask id route pdu ∷ h) =
+    let c : Called = record { id = id; sort = OverNet route pdu } in
+    calls_after (host_item_next a (Ask id route pdu)) h ∙ append_assoc a.calls (c ∷ [])
+    (filter_map called_by h)
 calls_after a (Answer id result ∷ h) = calls_after (host_item_next a (Answer id result)) h
 calls_after a (Served id request reply ∷ h) = calls_after
     (host_item_next a (Served id request reply)) h
 
-kind_found : (id : CallId) (fs : List Frame) → list_any (is_request_of id) fs ≡ true
-    → kind_in (map called fs) id ≡ Some NetCall
+kind_found : (id : CallId) (h : List HostEntry) → list_any (is_request_of id) (requests_in h) ≡ true
+    → kind_in (filter_map called_by h) id ≡ Some NetCall
 kind_found id [] any = absurd cc
-kind_found id (f ∷ fs) any = elim (cases_Bool (is_same_call f.id id)) [
-  | inl same ↦ ap (λ b. if b then Some NetCall else kind_in (map called fs) id) same
+kind_found id (Ask made route pdu ∷ h) any = elim (cases_Bool (is_same_call made id)) [
+  | inl same ↦ ap (λ b. if b then Some NetCall else kind_in (filter_map called_by h) id) same
   | inr other ↦
-      ap (λ b. if b then Some NetCall else kind_in (map called fs) id) other
-      ∙ kind_found id fs (ap (λ b. b || list_any (is_request_of id) fs) (sym other) ∙ any)
+      ap (λ b. if b then Some NetCall else kind_in (filter_map called_by h) id) other
+      ∙ kind_found id h
+      (ap (λ b. b || list_any (is_request_of id) (requests_in h)) (sym other) ∙ any)
 ]
+kind_found id (Answer ended result ∷ h) any = kind_found id h any
+kind_found id (Served asked request reply ∷ h) any = kind_found id h any
 
 any_kept : (test keeps : Frame → Bool) (xs : List Frame) → list_any test (filter keeps xs) ≡ true
     → list_any test xs ≡ true
@@ -81,7 +87,7 @@ pub made_net : (h : List HostEntry) (id : CallId) → is_unanswered h id ≡ tru
     → kind_in (host_items_of h).calls id ≡ Some NetCall
 made_net h id out =
     ap (λ l. kind_in l id) (calls_after no_items h)
-    ∙ kind_found id (requests_in h)
+    ∙ kind_found id h
     (any_kept (is_request_of id) (λ r. not (has_answer h r.id)) (requests_in h) out)
 
 -- ---- the paths
@@ -94,29 +100,27 @@ number_asked false seq now k n is here same = omega arith
 
 pub agree_asked : (plan : HostPlan) (h : List HostEntry) (b : List RingEntry) (n : ℕ) (f : Frame)
     → f.kind ≡ Request
-    → IsHostHistory plan (h ++ Ask f.id f.to f.pdu ∷ []) → PathsAgree h b
-    → PathsAgree (h ++ Ask f.id f.to f.pdu ∷ []) (b ++ Post n f ∷ [])
+    → IsHostHistory plan (h ++ Ask f.id (frame_route f) f.pdu ∷ []) → PathsAgree h b
+    → PathsAgree (h ++ Ask f.id (frame_route f) f.pdu ∷ []) (b ++ Post n f ∷ [])
 agree_asked plan h b n f kind legal agree =
-    let new = open_requests.new plan h f.id f.to f.pdu legal in
-    let whole : f ≡ record { kind = Request; to = f.to; id = f.id; pdu = f.pdu } = λ i. record
-    { kind = kind i; to = f.to; id = f.id; pdu = f.pdu } in
+    let new = open_requests.new plan h f.id (frame_route f) f.pdu legal in
     let seq : f.id.seq ≡ asked_on h f.id.path + 1 = ap (λ (i : CallId). i.seq) new.name in
     record {
       waits = λ p.
           waiting-push p b (Post n f) ∙ ap (λ (k : FrameKind). waits_next p (waiting p b) (Post n
-          (record { kind = k; to = f.to; id = f.id; pdu = f.pdu }))) kind
+          (record { kind = k; to = f.to; rest = f.rest; id = f.id; pdu = f.pdu }))) kind
           ∙ ap (λ (now : Option Frame). if f.id.path == p then Some
-          (record { kind = Request; to = f.to; id = f.id; pdu = f.pdu }) else now)
+          (record { kind = Request; to = f.to; rest = f.rest; id = f.id; pdu = f.pdu }) else now)
           (agree.waits p)
-          ∙ sym (open_requests.asks plan h f.id f.to f.pdu p legal);
+          ∙ sym (open_requests.asks plan h f.id (frame_route f) f.pdu p legal);
       numbers = λ p.
           number-push p b (Post n f) ∙ ap
           (λ (k : FrameKind). number_next p (last_number p b) (Post n
-          (record { kind = k; to = f.to; id = f.id; pdu = f.pdu }))) kind
+          (record { kind = k; to = f.to; rest = f.rest; id = f.id; pdu = f.pdu }))) kind
           ∙ number_asked (f.id.path == p) f.id.seq (last_number p b) (asked_on h f.id.path)
           (asked_on h p) seq
           (λ is. ap (asked_on h) (eqb-true f.id.path p is)) (agree.numbers p)
-          ∙ sym (open_requests.counts.asks h f.id f.to f.pdu p);
+          ∙ sym (open_requests.counts.asks h f.id (frame_route f) f.pdu p);
     }
 
 -- a call that ended
@@ -141,7 +145,8 @@ pub agree_got : (plan : HostPlan) (h : List HostEntry) (b : List RingEntry) (n :
 agree_got plan h b n f result kind =
     ended_by_entry plan h b (Take n f) f.id result
     (λ p now. ap (λ (k : FrameKind). waits_next p now
-    (Take n (record { kind = k; to = f.to; id = f.id; pdu = f.pdu }))) kind) (λ p now. refl)
+    (Take n (record { kind = k; to = f.to; rest = f.rest; id = f.id; pdu = f.pdu }))) kind)
+    (λ p now. refl)
 
 pub agree_given_up : (plan : HostPlan) (h : List HostEntry) (b : List RingEntry) (id : CallId)
     (word : ℕ) (result : HostResult)
@@ -164,16 +169,17 @@ pub agree_taken : (h : List HostEntry) (b : List RingEntry) (n : ℕ) (f : Frame
     → PathsAgree h b → PathsAgree h (b ++ Take n f ∷ [])
 agree_taken h b n f kind =
     agree_still h b (Take n f) (λ p now. ap (λ (k : FrameKind). waits_next p now
-    (Take n (record { kind = k; to = f.to; id = f.id; pdu = f.pdu }))) kind) (λ p now. refl)
+    (Take n (record { kind = k; to = f.to; rest = f.rest; id = f.id; pdu = f.pdu }))) kind)
+    (λ p now. refl)
 
 pub agree_replied : (h : List HostEntry) (b : List RingEntry) (n : ℕ) (f : Frame) → f.kind ≡ Reply
     → PathsAgree h b → PathsAgree h (b ++ Post n f ∷ [])
 agree_replied h b n f kind =
     agree_still h b (Post n f) (λ p now. ap
     (λ (k : FrameKind). waits_next p now
-    (Post n (record { kind = k; to = f.to; id = f.id; pdu = f.pdu }))) kind)
+    (Post n (record { kind = k; to = f.to; rest = f.rest; id = f.id; pdu = f.pdu }))) kind)
     (λ p now. ap (λ (k : FrameKind). number_next p now
-    (Post n (record { kind = k; to = f.to; id = f.id; pdu = f.pdu }))) kind)
+    (Post n (record { kind = k; to = f.to; rest = f.rest; id = f.id; pdu = f.pdu }))) kind)
 
 pub agree_served : (h : List HostEntry) (b : List RingEntry) (id : CallId) (request reply : List ℕ)
     → PathsAgree h b → PathsAgree

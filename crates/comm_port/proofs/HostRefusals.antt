@@ -4,6 +4,7 @@ use Rattle.std.proofs.Common.{None}
 use Rattle.std.proofs.Common.{refl, sym, ap, ◌∙◌, ⊎_elim, eq-eqb}
 use Rattle.std.specs.Prelude.{if◌then◌else◌}
 use Rattle.ring_core.specs.Legal.{IsLegalRing}
+use Rattle.ring_core.specs.Words.{frame_route}
 use Rattle.ring_core.specs.Machine.{is_here, NodeIs, path_of, ring_after, ring_node, RingIs}
 use Rattle.ring_core.specs.Refusals.{or_no, path_no, post_no, taken_no, turn_no}
 use Rattle.ring_core.specs.declared.refusal.RingNo.{RingNo}
@@ -57,26 +58,29 @@ take-short alone n side ring ring' why t holds legal went refused =
 
 none-awaits : (a : Await) (w : Option Frame) → w ≡ None → AwaitsThis a w → a ≡ Nothing
 none-awaits Nothing w is this = refl
-none-awaits (Out s to passes) None is this = absurd this
+none-awaits (Out s to onward passes) None is this = absurd this
 none-awaits (Arrived s) None is this = absurd this
 none-awaits (Failed s word) None is this = absurd this
-none-awaits (Out s to passes) (Some f) is this = absurd (cc)
+none-awaits (Out s to onward passes) (Some f) is this = absurd (cc)
 none-awaits (Arrived s) (Some f) is this = absurd (cc)
 none-awaits (Failed s word) (Some f) is this = absurd (cc)
 
 -- a Post of the next request of a host
 pub post-short : {Q : Type 0} (alone : Bool) (n : ℕ) (f : Frame) (old new : HostIs)
     (side : RingSideIs Q) (ring ring' : List RingEntry) (why : RingNo)
-    → HostTurning n old side ring → f.kind ≡ Request → HostWentOn (Ask f.id f.to f.pdu ∷ []) old new
+    → HostTurning n old side ring → f.kind ≡ Request
+    → HostWentOn (Ask f.id (frame_route f) f.pdu ∷ []) old new
     → IsLegalRing side.net ring'
     → WentOn alone (is_of n) ring [] ring' → (post_no (ring_after side.net ring') n f ≡ Some why)
     ⊎ ((why ≡ NoMemory) × (post_no (ring_after side.net ring') n f ≡ None)) → why ≡ NoMemory
 post-short alone n f old new side ring ring' why t kind w legal went refused =
     let net = side.net in
     let p = f.id.path in
-    let found = unmoved net n alone ring ring' (on-still side alone ring ring' n t.own_turn legal went)
+    let found = unmoved net n alone ring ring'
+    (on-still side alone ring ring' n t.own_turn legal went)
     went t.own_turn.free in
-    let call = open_requests.new old.plan old.history f.id f.to f.pdu (ask-legal old new f w) in
+    let call = open_requests.new old.plan old.history f.id (frame_route f) f.pdu
+    (ask-legal old new f w) in
     let follows = (legal-follows net ring n t.own_turn.on).node.part in
     let awaits : (path_of (part net ring n) p).awaits ≡ Nothing =
     none-awaits (path_of (part net ring n) p).awaits (waiting p (own n ring))

@@ -359,10 +359,10 @@ waited n p answer seq passes = elim (cases_Bool (nat_le answer passes)) [
 goes-due : (answer : ℕ) (here : Bool) (n p : ℕ) (a : Await)
     → cons_option (due_by answer here n p a) [] ≡ goes_by answer here n p a
 goes-due answer here n p Nothing = refl
-goes-due answer true n p (Out s to passes) = waited n p answer s passes
+goes-due answer true n p (Out s to onward passes) = waited n p answer s passes
     ∙ sym (ap (λ (o : Option RingNo). cond (is_none (or_no o (due_no passes answer)))
     (record { node = n; path = p; seq = s } ∷ []) []) (other-none s))
-goes-due answer false n p (Out s to passes) =
+goes-due answer false n p (Out s to onward passes) =
     sym (ap (λ (o : Option RingNo). cond (is_none (or_no o None))
     (record { node = n; path = p; seq = s } ∷ []) []) (other-none s))
 goes-due answer true n p (Arrived s) =
@@ -399,7 +399,8 @@ due-same net a b n p here path =
 pub due-nothing : (net : NetPlan) (b : List RingEntry) (n p : ℕ)
     → (path_of (part net b n) p).awaits ≡ Nothing
     → due_calls net n b (p ∷ []) ≡ []
-due-nothing net b n p is = due-one net b n p ∙ ap (goes_by net.answer (is_here (part net b n)) n p) is
+due-nothing net b n p is = due-one net b n p
+    ∙ ap (goes_by net.answer (is_here (part net b n)) n p) is
 
 no-more : (xs ys : List CallId) → xs ++ ys ≡ [] → (xs ≡ []) × (ys ≡ [])
 no-more [] ys is = (refl, is)
@@ -468,7 +469,7 @@ number-same out seq is = cond_both (out == seq) None (Some (NotAwaited out))
 failed-of : (answer : ℕ) (a : Await) (seq : ℕ) → passes_of a ≡ 0 → 0 < answer
     → kept_for answer true a seq ≡ None → HasFailed a × (awaited_number a ≡ seq)
 failed-of answer Nothing seq young pos is = absurd (cc)
-failed-of answer (Out s to passes) seq young pos is =
+failed-of answer (Out s to onward passes) seq young pos is =
     absurd (due-at-none answer pos (ap (λ (k : ℕ). due_no k answer) (sym young) ∙ or-second
     (other_no s seq) (due_no passes answer) is))
 failed-of answer (Arrived s) seq young pos is =
@@ -589,7 +590,8 @@ lets-go net n g past (e ∷ xs) ring free is by =
 pub all-let : (alone : Bool) (net : NetPlan) (n : ℕ) (g : GivenUp) (a b : List RingEntry)
     → IsOnRing net b n → IsFree net a n
     → Grew alone (is_of n) a (give_up_of g ∷ []) b → g.id.node ≡ n
-    → kept_for net.answer (is_here (part net a n)) (path_of (part net a n) g.id.path).awaits g.id.seq ≡
+    → kept_for net.answer (is_here (part net a n)) (path_of (part net a n) g.id.path).awaits
+    g.id.seq ≡
     None
 all-let alone net n g a b on free w by =
     lets-go net n g a w.more (subst (λ (l : List RingEntry). IsOnRing net l n) w.after_is on) free

@@ -238,14 +238,14 @@ send-grew alone net n on heard a b ring holds none g =
 
 new-none : (a : Await) → IsRecent a → HasFailed a → ⊥
 new-none Nothing new is = is
-new-none (Out s to passes) new is = is
+new-none (Out s to onward passes) new is = is
 new-none (Arrived s) new is = is
 new-none (Failed s word) new is = new
 
 waits-failed : (a : Await) (w : Option Frame) → HasFailed a → AwaitsThis a w
     → (f : Frame) × (w ≡ Some f)
 waits-failed Nothing w failed this = absurd failed
-waits-failed (Out s to passes) w failed this = absurd failed
+waits-failed (Out s to onward passes) w failed this = absurd failed
 waits-failed (Arrived s) w failed this = absurd failed
 waits-failed (Failed s word) None failed this = absurd this
 waits-failed (Failed s word) (Some f) failed this = (f, refl)
@@ -266,19 +266,19 @@ none-of-new net ring n on here new p chosen' is = new-none (path_of (part net ri
 
 new-passes : (a : Await) → IsRecent a → passes_of a ≡ 0
 new-passes Nothing new = refl
-new-passes (Out s to passes) new = new
+new-passes (Out s to onward passes) new = new
 new-passes (Arrived s) new = refl
 new-passes (Failed s word) new = absurd new
 
 failed-passes : (a : Await) → HasFailed a → passes_of a ≡ 0
 failed-passes Nothing is = refl
-failed-passes (Out s to passes) is = absurd is
+failed-passes (Out s to onward passes) is = absurd is
 failed-passes (Arrived s) is = refl
 failed-passes (Failed s word) is = refl
 
 is-new : (a : Await) → passes_of a ≡ 0 → (HasFailed a → ⊥) → IsRecent a
 is-new Nothing passes not = tt
-is-new (Out s to p) passes not = passes
+is-new (Out s to onward p) passes not = passes
 is-new (Arrived s) passes not = tt
 is-new (Failed s word) passes not = absurd (not tt)
 
@@ -305,7 +305,7 @@ failed-kept answer false seq word = ap (λ (o : Option RingNo). or_no o None) (o
 failed-goes : (answer : ℕ) (here : Bool) (n p : ℕ) (a : Await) → HasFailed a
     → goes_by answer here n p a ≡ [] → ⊥
 failed-goes answer here n p Nothing is none = is
-failed-goes answer here n p (Out s to passes) is none = is
+failed-goes answer here n p (Out s to onward passes) is none = is
 failed-goes answer here n p (Arrived s) is none = is
 failed-goes answer here n p (Failed s word) is none =
     let id : CallId = record { node = n; path = p; seq = s } in
@@ -319,7 +319,8 @@ pub none-failed-due : (net : NetPlan) (n : ℕ) (ring : List RingEntry) → IsOn
     → HasFailed (path_of (part net ring n) p).awaits → ⊥
 none-failed-due net n ring on none p failed =
     let each = none-due net ring n network_paths none in
-    failed-goes net.answer (is_here (part net ring n)) n p (path_of (part net ring n) p).awaits failed
+    failed-goes net.answer (is_here (part net ring n)) n p (path_of (part net ring n) p).awaits
+    failed
     (sym (due-one net ring n p)
     ∙ at_path (λ (q : ℕ). due_calls net n ring (q ∷ []) ≡ []) p
     (failed-path-is net ring n p on failed) each.0 each.1.0 each.1.1.0 each.1.1.1.0)
@@ -465,7 +466,8 @@ step-failed alone net n heard fresh l l' a b c wait ring g each s new x =
       sends = step-sends alone net n on heard fresh l l' a b c g each s young ring x all wait;
       new_calls = λ p is_path chosen'. is-new (path_of (part net c n) p).awaits
           (young' p is_path chosen')
-          (λ is. failed-goes net.answer (is_here (part net c n)) n p (path_of (part net c n) p).awaits is
+          (λ is. failed-goes net.answer (is_here (part net c n)) n p
+          (path_of (part net c n) p).awaits is
           (sym (due-one net c n p) ∙ none-at net c n fresh x.none_left p is_path chosen'));
     }
 

@@ -7,7 +7,7 @@ use Rattle.std.proofs.lemmas.Grind.{flat_map-append}
 use Rattle.plant_types.specs.declared.net.NetPlan.{NetPlan}
 use Rattle.ring_core.specs.Legal.{IsFirst, IsLegalRing}
 use Rattle.ring_core.specs.Machine.{NodeIs}
-use Rattle.ring_core.specs.Statistics.{is_stats}
+use Rattle.ring_core.specs.Statistics.{is_for_stats}
 use Rattle.ring_core.specs.declared.frame.FrameKind.{FrameKind}
 use Rattle.ring_core.specs.declared.frame.FrameKind.TheVariants.{Request, Reply}
 use Rattle.ring_core.specs.declared.frame.Frame.{Frame}
@@ -53,7 +53,7 @@ served-got alone n f list new ring kind is = record {
 
 pub served-refused : (alone : Bool) (n : ℕ) (f : Frame) (reply : List ℕ) (list new : List HostEntry)
     (ring ring' : List RingEntry)
-    → f.kind ≡ Request → is_stats f.pdu ≡ false → reply ≡ refusal_to f.pdu
+    → f.kind ≡ Request → is_for_stats f ≡ false → reply ≡ refusal_to f.pdu
     → new ≡ list ++ Served f.id f.pdu reply ∷ []
     → Grew alone (is_of n) ring (Post n (reply_frame f.id reply) ∷ []) ring'
     → ServesTaken alone n f list new ring ring'
@@ -74,7 +74,7 @@ served-refused alone n f reply list new ring ring' kind plain reply_is is grew =
 
 pub served-told : (alone : Bool) (n : ℕ) (f : Frame) (list : List HostEntry)
     (ring ring' : List RingEntry) → f.kind ≡ Request
-    → is_stats f.pdu ≡ true → TellsStatistics alone n f.id f.pdu ring ring'
+    → is_for_stats f ≡ true → TellsStatistics alone n f.id f.pdu ring ring'
     → ServesTaken alone n f list list ring ring'
 served-told alone n f list ring ring' kind stats tells =
     let rest : List RingEntry = Local n f.id tells.op tells.result ∷ Post n

@@ -8,7 +8,8 @@ use Rattle.plant_types.specs.declared.net.NetPlan.{NetPlan}
 use Rattle.plant_types.specs.declared.net.HostPlan.{HostPlan}
 use Rattle.ring_core.specs.Words.{maker}
 use Rattle.ring_core.specs.Legal.{IsLegalRing, IsMember}
-use Rattle.ring_core.specs.Machine.{is_here, is_in, addresses, fresh, opening_nodes, ring_after, ring_node}
+use Rattle.ring_core.specs.Machine.{is_here, is_in, addresses, fresh}
+use Rattle.ring_core.specs.Machine.{opening_nodes, ring_after, ring_node}
 use Rattle.ring_core.specs.declared.entry.RingEntry.{RingEntry}
 use Rattle.host_port.specs.declared.entry.HostEntry.{HostEntry}
 use Rattle.host_port.specs.Host.{HostIs}
@@ -18,6 +19,7 @@ use Rattle.comm_port.specs.HostStands.{own_side, HostIsReady}
 use Rattle.comm_port.specs.HostTurns.{HoldsHostTurn, HostTies, HostWorkerIs, host_at}
 use Rattle.comm_port.proofs.HostTurnLaws.{counts-others, host-ties-new, host-ties-others}
 use Rattle.comm_port.proofs.HostTurnLaws.{host-turn-grew}
+use Rattle.comm_port.proofs.Onward.{none-bridges}
 
 -- ---- entries of one node alone
 
@@ -73,7 +75,9 @@ stands-on m n host w left net plan budget l l' a b gone' apart legal turn t =
       counts = counts-others w a g.more (ap (λ (k : ℕ). own k g.more) t.worker_node ∙ none)
           t.counts;
       here = λ stays. ap is_in (membership-kept net m a g.more none
-          (λ asks. let no' : false ≡ true = sym (ap is_in asks) ∙ t.here stays in cc)) ∙ t.here stays;
+          (λ asks. let no' : false ≡ true = sym (ap is_in asks) ∙ t.here stays in cc))
+          ∙ t.here stays;
+      no_bridge = t.no_bridge;
     })
 
 -- ---- at the start, on a ring of nodes 1 and 2
@@ -84,11 +88,11 @@ low-two (suc zero) d range = omega arith
 low-two (suc (suc k)) d range = absurd (omega (arith, range))
 
 pub stands-first : (n : ℕ) (host : HostIs) (w : HostWorkerIs) (left : Bool) (net : NetPlan)
-    → net.members ≡ 1 ∷ 2 ∷ [] → 0 < net.answer → IsMember net n
+    → net.members ≡ 1 ∷ 2 ∷ [] → net.bridges ≡ [] → 0 < net.answer → IsMember net n
     → (is_here (ring_node (ring_after net []) n)) ≡ true → host.plan.node ≡ n → host.history ≡ []
     → w ≡ record { node = n; budget = true; passes = 0 }
     → HostIsReady n host w left net []
-stands-first n host w left net members wait member here node empty is = record {
+stands-first n host w left net members none wait member here node empty is = record {
   worker_node = ap (λ (x : HostWorkerIs). x.node) is;
   ties = subst (λ (h : List HostEntry). HostTies n (host_at host.plan h) (own_side net) [])
       (sym empty)
@@ -108,6 +112,7 @@ stands-first n host w left net members wait member here node empty is = record {
       wait));
   counts = ap (λ (x : HostWorkerIs). x.passes) is;
   here = λ stays. here;
+  no_bridge = none-bridges net n none;
 }
   where
     not-there : (before after' : List HostEntry) (entry : HostEntry) → [] ≡ before ++ entry ∷ after'
@@ -116,19 +121,21 @@ stands-first n host w left net members wait member here node empty is = record {
     not-there (x ∷ before) after' entry k = cc
 
 pub stands-one : (host : HostIs) (w : HostWorkerIs) (left : Bool) (net : NetPlan)
-    → net.members ≡ 1 ∷ 2 ∷ [] → 0 < net.answer → host.plan.node ≡ 1
+    → net.members ≡ 1 ∷ 2 ∷ [] → net.bridges ≡ [] → 0 < net.answer → host.plan.node ≡ 1
     → host.history ≡ [] → w ≡ record { node = 1; budget = true; passes = 0 }
     → HostIsReady 1 host w left net []
-stands-one host w left net members wait node empty is =
-    stands-first 1 host w left net members wait
+stands-one host w left net members none wait node empty is =
+    stands-first 1 host w left net members none wait
     (subst (λ (l : List ℕ). Contains l 1) (sym members) (0, omega arith, refl))
-    (ap (λ (l : List ℕ). (is_here (get_or (opening_nodes l) 1 (fresh false)))) members) node empty is
+    (ap (λ (l : List ℕ). (is_here (get_or (opening_nodes l) 1 (fresh false)))) members)
+    node empty is
 
 pub stands-two : (host : HostIs) (w : HostWorkerIs) (left : Bool) (net : NetPlan)
-    → net.members ≡ 1 ∷ 2 ∷ [] → 0 < net.answer → host.plan.node ≡ 2
+    → net.members ≡ 1 ∷ 2 ∷ [] → net.bridges ≡ [] → 0 < net.answer → host.plan.node ≡ 2
     → host.history ≡ [] → w ≡ record { node = 2; budget = true; passes = 0 }
     → HostIsReady 2 host w left net []
-stands-two host w left net members wait node empty is =
-    stands-first 2 host w left net members wait
+stands-two host w left net members none wait node empty is =
+    stands-first 2 host w left net members none wait
     (subst (λ (l : List ℕ). Contains l 2) (sym members) (1, omega arith, refl))
-    (ap (λ (l : List ℕ). (is_here (get_or (opening_nodes l) 2 (fresh false)))) members) node empty is
+    (ap (λ (l : List ℕ). (is_here (get_or (opening_nodes l) 2 (fresh false)))) members)
+    node empty is

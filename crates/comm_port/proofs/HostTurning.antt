@@ -8,7 +8,7 @@ use Rattle.ring_core.specs.declared.frame.Frame.{Frame}
 use Rattle.ring_core.specs.declared.entry.RingEntry.{RingEntry}
 use Rattle.ring_core.specs.declared.entry.RingEntry.TheVariants.{Post, Take, Local}
 use Rattle.ring_core.specs.Legal.{IsLegalRing}
-use Rattle.ring_core.specs.Statistics.{is_stats}
+use Rattle.ring_core.specs.Statistics.{is_for_stats}
 use Rattle.host_port.specs.declared.entry.HostEntry.{HostEntry}
 use Rattle.host_port.specs.declared.entry.HostEntry.TheVariants.{Answer, Served}
 use Rattle.host_port.specs.declared.entry.HostResult.TheVariants as results
@@ -24,9 +24,9 @@ use Rattle.tied_lists.proofs.Growth.{grew-ours}
 use Rattle.tied_lists.proofs.Steps.{tied-all, tied-got, tied-none}
 use Rattle.tied_lists.proofs.Steps.{tied-served, tied-told}
 use Rattle.comm_port.specs.Sides.{RingSideIs}
-use Rattle.joint_history.specs.Reading.{host_item_next, host_items_of}
+use Rattle.joint_history.specs.Reading.{answered_here, host_item_next, host_items_of}
 use Rattle.comm_port.specs.Replies.{reply_frame, TellsStatistics}
-use Rattle.comm_port.specs.Turns.{IsOwnTurn, KeepsInbox}
+use Rattle.comm_port.specs.Turns.{IsNoBridge, IsOwnTurn, KeepsInbox}
 use Rattle.comm_port.specs.HostTurns.{HostTaking, HostTurning, PathsAgree}
 use Rattle.comm_port.proofs.HostLists.{agree_got, agree_replied}
 use Rattle.comm_port.proofs.HostLists.{agree_served, agree_still, agree_taken, items_with}
@@ -34,6 +34,7 @@ use Rattle.comm_port.proofs.HostLists.{made_net}
 use Rattle.tied_lists.proofs.Turns.{after-take, reply-awaited, request-of-other, unmoved}
 use Rattle.host_port.proofs.OpenRequests.{open_requests}
 use Rattle.comm_port.proofs.RingTurns.{on-still, own-moved, own-on}
+use Rattle.comm_port.proofs.Onward.{answered-last, taken-last}
 use Rattle.comm_port.proofs.Sends.{kept-found}
 
 -- a turn goes on
@@ -81,7 +82,7 @@ turning-got n f old new side ring t kind w =
 pub turning-served : {Q : Type 0} (n : ℕ) (f : Frame) (reply : List ℕ) (old new : HostIs)
     (side : RingSideIs Q) (alone : Bool)
     (ring ring' : List RingEntry) → HostTaking n f old side ring → f.kind ≡ Request
-    → is_stats f.pdu ≡ false → HostWentOn (Served f.id f.pdu reply ∷ []) old new
+    → is_for_stats f ≡ false → HostWentOn (Served f.id f.pdu reply ∷ []) old new
     → Grew alone (is_of n) ring (Post n (reply_frame f.id reply) ∷ []) ring'
     → IsLegalRing side.net ring' → KeepsInbox side.net n ring ring' → HostTurning n new side ring'
 turning-served n f reply old new side alone ring ring' t kind plain w grew legal kept =
@@ -91,9 +92,9 @@ turning-served n f reply old new side alone ring ring' t kind plain w grew legal
     let own_is : own n ring' ≡ all = grew-ours alone (is_of n) ring (Post n g ∷ []) ring' grew ∙ ap
     (λ l. l ++ Post n g ∷ []) t.own_is
     ∙ append_assoc t.before (Take n f ∷ []) (Post n g ∷ []) in
-    let tied = tied-all AHost _ _ (tied-served AHost [] (host_items_of old.history) t.before n f g
-    reply kind plain refl refl refl
-    (tied-none AHost _ _ t.tied)) in
+    let tied = tied-all AHost _ _ (answered-last AHost [] (host_items_of old.history) _ f
+    (Some reply) t.rest (tied-served AHost [] (host_items_of old.history) t.before n f g
+    reply kind plain refl refl refl (tied-none AHost _ _ t.tied))) in
     let before = agree_taken old.history t.before n f kind t.paths in
     let paths = agree_served old.history ((t.before ++ Take n f ∷ []) ++ Post n g ∷ []) f.id f.pdu
     reply (agree_replied
@@ -105,7 +106,7 @@ turning-served n f reply old new side alone ring ring' t kind plain w grew legal
       own_turn = own-turn side ring ring' n t.own_turn legal kept;
       tied = subst (λ a. Tied AHost a (own n ring')) (sym (items-now old new e w))
           (subst (Tied AHost (with_answer (host_items_of old.history)
-          (record { id = f.id; request = Some f.pdu; reply = Some reply }))) (sym own_is) tied);
+          (answered_here f.id f.pdu (Some reply)))) (sym own_is) tied);
       paths = subst (λ h. PathsAgree h (own n ring')) (sym w.history)
           (subst (PathsAgree (old.history ++ e ∷ [])) (joined ∙ sym own_is) paths);
     }
@@ -115,7 +116,7 @@ turning-served n f reply old new side alone ring ring' t kind plain w grew legal
 pub turning-told : {Q : Type 0} (n : ℕ) (f : Frame) (host : HostIs) (side : RingSideIs Q)
     (alone : Bool) (ring ring' : List
     RingEntry) → HostTaking n f host side ring → f.kind ≡ Request
-    → is_stats f.pdu ≡ true → TellsStatistics alone n f.id f.pdu ring ring'
+    → is_for_stats f ≡ true → TellsStatistics alone n f.id f.pdu ring ring'
     → IsLegalRing side.net ring'
     → KeepsInbox side.net n ring ring' → HostTurning n host side ring'
 turning-told n f host side alone ring ring' t kind stats tells legal kept =
@@ -150,10 +151,10 @@ turning-told n f host side alone ring ring' t kind stats tells legal kept =
 -- a Take, of a frame of another node or of a Reply that is awaited
 pub taking-now : {Q : Type 0} (alone : Bool) (n : ℕ) (f : Frame) (host : HostIs)
     (side side' : RingSideIs Q) (ring ring' : List
-    RingEntry) → side' ≡ side → IsLegalRing side.net ring'
+    RingEntry) → side' ≡ side → IsNoBridge side.net n → IsLegalRing side.net ring'
     → WentOn alone (is_of n) ring (Take n f ∷ []) ring' → HostTurning n host side ring
     → HostTaking n f host side' ring'
-taking-now {Q} alone n f host side side' ring ring' same legal went t =
+taking-now {Q} alone n f host side side' ring ring' same none legal went t =
     let m = own-moved side alone n ring (Take n f) ring' refl t.own_turn legal went in
     subst (λ (s : RingSideIs Q). HostTaking n f host s ring') (sym same) (record {
       before = own n ring;
@@ -167,6 +168,7 @@ taking-now {Q} alone n f host side side' ring ring' same legal went t =
       };
       tied = t.tied;
       paths = t.paths;
+      rest = taken-last alone side.net n f ring ring' none legal went;
       request = λ kind. request-of-other side.net n ring f ring' kind m;
       reply = λ kind.
           let a = reply-awaited side.net n ring f ring' kind m in

@@ -1,5 +1,6 @@
 -- Which calls of a node wait, and what is due of them.
-use Rattle.std.proofs.Common.{◌≡◌, ◌⊎◌, ℕ, zero, suc, ◌<◌, ◌≤◌, Bool, true, false, nat_le, ◌&&◌, List, []}
+use Rattle.std.proofs.Common.{◌≡◌, ◌⊎◌, ℕ, zero, suc, ◌<◌, ◌≤◌, Bool}
+use Rattle.std.proofs.Common.{true, false, nat_le, ◌&&◌, List, []}
 use Rattle.std.proofs.Common.{◌∷◌, ◌++◌, get_or, filter_map}
 use Rattle.std.proofs.Common.{Option, Some, None, refl, sym, ap, ◌∙◌, subst, inl, inr, ⊎_elim}
 use Rattle.std.proofs.Common.{arith}
@@ -131,8 +132,8 @@ gone-due : (answer n p : ℕ) (a : Await) (o : Option Frame) → AwaitsThis a o
     → ((f : Frame) → o ≡ Some f → IsAsk n p f) → due_by answer false n p a ≡ id_of o
 gone-due answer n p Nothing None awaits ask = refl
 gone-due answer n p Nothing (Some f) awaits ask = absurd awaits
-gone-due answer n p (Out seq to passes) None awaits ask = absurd awaits
-gone-due answer n p (Out seq to passes) (Some f) awaits ask = let k = ask f refl in
+gone-due answer n p (Out seq to onward passes) None awaits ask = absurd awaits
+gone-due answer n p (Out seq to onward passes) (Some f) awaits ask = let k = ask f refl in
     (λ i. Some (record { node = sym k.node i; path = sym k.path i; seq = awaits i }))
 gone-due answer n p (Arrived seq) None awaits ask = absurd awaits
 gone-due answer n p (Arrived seq) (Some f) awaits ask = let k = ask f refl in
@@ -162,7 +163,7 @@ due-waits n rest ram known side ring w gone t = four-same (due_on side.net n c)
 -- after all of it was given up none waits
 none-gone : (answer n p : ℕ) (a : Await) → due_by answer false n p a ≡ None → a ≡ Nothing
 none-gone answer n p Nothing e = refl
-none-gone answer n p (Out seq to passes) e = absurd
+none-gone answer n p (Out seq to onward passes) e = absurd
     (let bad : Some (record { node = n; path = p; seq = seq }) ≡ None = e in cc)
 none-gone answer n p (Arrived seq) e = absurd
     (let bad : Some (record { node = n; path = p; seq = seq }) ≡ None = e in cc)
@@ -209,11 +210,12 @@ none-left n rest chosen ram known side ring ring' w all gone g t =
 due-over : (answer n p : ℕ) (a : Await) → (HasFailed a → ⊥)
     → due_by answer true n p a ≡ overdue_by answer n p a
 due-over answer n p Nothing none = refl
-due-over answer n p (Out seq to passes) none = refl
+due-over answer n p (Out seq to onward passes) none = refl
 due-over answer n p (Arrived seq) none = refl
 due-over answer n p (Failed seq word) none = absurd (none tt)
 
-pub overdue-is : (net : NetPlan) (n : ℕ) (ring : List RingEntry) → (is_here (part_at net n ring)) ≡ true
+pub overdue-is : (net : NetPlan) (n : ℕ) (ring : List RingEntry)
+    → (is_here (part_at net n ring)) ≡ true
     → NoneFailed each_path (part_at net n ring) → due_calls net n ring
     network_paths ≡ overdue net n ring
 overdue-is net n ring here none = four-same (due_on net n c) (overdue_on net n c) (at 1) (at 2)

@@ -1,4 +1,5 @@
 pub mod RingTurns
+pub mod Onward
 pub mod Statistics
 pub mod Served
 pub mod Made
@@ -30,7 +31,6 @@ pub mod Through
 pub mod Leaves
 pub mod Turned
 pub mod Visits
-pub mod TurnLaws
 pub mod Standings
 pub mod Stands
 pub mod Allowed

@@ -1,5 +1,5 @@
 -- What calls that are made leave.
-use Rattle.std.proofs.Common.{◌≡◌, ◌≢◌, ℕ, ◌+◌, ◌<◌, ◌==◌, Bool, true, false, cond}
+use Rattle.std.proofs.Common.{◌≡◌, ℕ, ◌+◌, ◌<◌, ◌==◌, Bool, true, false, cond}
 use Rattle.std.proofs.Common.{List, [], ◌∷◌, ◌++◌, filter_map, map, drop, get_or, set, length}
 use Rattle.std.proofs.Common.{Option, Some, None, refl, sym, ap, ◌∙◌, subst, ⊎_elim, arith}
 use Rattle.std.proofs.Common.{append_assoc, get_or-set_same, get_or-set_other, eq-eqb}
@@ -21,7 +21,7 @@ use Rattle.ring_core.specs.declared.entry.LocalOp.{LocalOp}
 use Rattle.ring_core.specs.declared.entry.RingEntry.{RingEntry}
 use Rattle.ring_core.specs.declared.entry.RingEntry.TheVariants.{Post, Send, Take, Local, GiveUp}
 use Rattle.ring_core.specs.declared.entry.RingEntry.TheVariants.{Pass, Leave, Join}
-use Rattle.ring_core.specs.Words.{is_same_call}
+use Rattle.ring_core.specs.Words.{is_same_call, frame_route, request_along}
 use Rattle.ring_core.specs.Machine.{path_places, path_of}
 use Rattle.ring_core.specs.Legal.{IsLegalRing, IsPath, HasRoom}
 use Rattle.tied_lists.specs.Own.{is_of, own, WentOn, Grew}
@@ -32,18 +32,20 @@ use Rattle.tied_lists.specs.Items.{last_asked}
 use Rattle.tied_lists.specs.Items.{or_some}
 use Rattle.tied_lists.specs.Tied.{TiedBut}
 use Rattle.tied_lists.specs.Calls.{IsOutAs, IsOutOn, IsAbove, FitsSort, AreNewCalls, NoEnd}
+use Rattle.tied_lists.specs.Calls.{LeadsAway}
 use Rattle.tied_lists.specs.Waits.{waiting as waits_on, waits_posted, number_posted}
 use Rattle.tied_lists.specs.Waits.{number_after, IsAsk}
 use Rattle.tied_lists.proofs.Paths.{waiting-push}
 use Rattle.tied_lists.proofs.Histories.{legal-follows}
 use Rattle.tied_lists.proofs.Asked.{other-path, no-end-push, kind-more, kind-new, waiting-last}
+use Rattle.tied_lists.proofs.Routes.{along-route, goes-away}
 use Rattle.tied_lists.proofs.Growth.{grew-ours}
 use Rattle.tied_lists.proofs.Steps.{tied-all, tied-called, tied-posted, tied-done}
 use Rattle.tied_lists.proofs.Turns.{part}
 use Rattle.comm_port.specs.Sides.{RingSideIs, RamSideIs}
 use Rattle.joint_history.specs.Reading.{is_ours, called_of, items_of}
 use Rattle.comm_port.specs.Turns.{IsOwnTurn, KeepsInbox, AreWaiting, Turning}
-use Rattle.comm_port.specs.Making.{request_frame, DoesAtHome, Owing, calls_from}
+use Rattle.comm_port.specs.Making.{DoesAtHome, Owing, calls_from}
 use Rattle.comm_port.proofs.RingTurns.{turn-on}
 use Rattle.comm_port.proofs.Later.{later-one, later-same, tied-later, waits-later}
 use Rattle.comm_port.proofs.Served.{waiting-as}
@@ -92,7 +94,7 @@ nets-above id (c ∷ calls) all = by-sort c.sort refl (nets-above id calls all.1
         → Each (λ (a : Asked). a.id.path ≡ id.path → a.id.seq < id.seq) (filter_map net_ask
         calls) → Each (λ (a : Asked). a.id.path ≡ id.path → a.id.seq < id.seq)
         (filter_map net_ask (c ∷ calls))
-    by-sort (OverNet to pdu) is more = subst
+    by-sort (OverNet route pdu) is more = subst
         (λ (k : CallSort). Each (λ (a : Asked). a.id.path ≡ id.path → a.id.seq < id.seq)
         (filter_map net_ask (record { id = c.id; sort = k } ∷ calls))) (sym is) (all.0, more)
     by-sort (AtHome op) is more = subst
@@ -131,7 +133,7 @@ later-sort : (c : Called) (cs : List Called) (id : CallId) (x : List ℕ) (k : C
     → is_same_call c.id id ≡ false
     → last_asked id (filter_map net_ask (c ∷ cs)) ≡ Some x
     → last_asked id (filter_map net_ask cs) ≡ Some x
-later-sort c cs id x (OverNet to pdu) is no' e =
+later-sort c cs id x (OverNet route pdu) is no' e =
     later-or (last_asked id (filter_map net_ask cs)) (is_same_call c.id id) pdu x no'
     (subst (λ (k : CallSort). last_asked id
     (filter_map net_ask (record { id = c.id; sort = k } ∷ cs)) ≡ Some x) is e)
@@ -177,27 +179,28 @@ free-path n c rest ram known side ring w net o (Some f) is =
     (record { path_is = ask.path; kind = made.0; made = made.1; unended = out.unended }))
 
 -- a network call may be posted
-pub record MayPost (net : NetPlan) (n : ℕ) (ring : List RingEntry) (id : CallId) (to : ℕ) : Type 0
+pub record MayPost (net : NetPlan) (n : ℕ) (ring : List RingEntry) (id : CallId)
+    (route : List ℕ) : Type 0
   where
     pub own_is : id.node ≡ n
-    pub other : to ≢ n
+    pub away : LeadsAway n route
     pub path : IsPath id.path
     pub next : (path_of (part net ring n) id.path).posted < id.seq
     pub free : waits_on id.path (own n ring) ≡ None
 
-fits-net : (n : ℕ) (earlier : List Called) (id : CallId) (k : CallSort) (to : ℕ) (pdu : List ℕ)
-    → k ≡ OverNet to pdu → FitsSort n
-    earlier id k → FitsSort n earlier id (OverNet to pdu)
-fits-net n earlier id k to pdu is f = subst (FitsSort n earlier id) is f
+fits-net : (n : ℕ) (earlier : List Called) (id : CallId) (k : CallSort) (route pdu : List ℕ)
+    → k ≡ OverNet route pdu → FitsSort n
+    earlier id k → FitsSort n earlier id (OverNet route pdu)
+fits-net n earlier id k route pdu is f = subst (FitsSort n earlier id) is f
 
-pub may-post : {P Q : Type 0} (n : ℕ) (c : Called) (rest : List Called) (to : ℕ) (pdu : List ℕ)
+pub may-post : {P Q : Type 0} (n : ℕ) (c : Called) (rest : List Called) (route pdu : List ℕ)
     (ram : RamSideIs P) (known : List
     Entry) (side : RingSideIs Q) (ring : List RingEntry) (w : List (Option Frame))
-    → c.sort ≡ OverNet to pdu → Owing n (c ∷ rest)
+    → c.sort ≡ OverNet route pdu → Owing n (c ∷ rest)
     ram known side ring w
-    → MayPost side.net n ring c.id to
-may-post n c rest to pdu ram known side ring w is o =
-    let f = fits-net n o.earlier c.id c.sort to pdu is o.fresh.0.fits in
+    → MayPost side.net n ring c.id route
+may-post n c rest route pdu ram known side ring w is o =
+    let f = fits-net n o.earlier c.id c.sort route pdu is o.fresh.0.fits in
     let follows = (legal-follows side.net ring n o.turning.own_turn.on).node.part in
     let low : c.id.path < path_places = let p = f.1.1 in omega (arith, p) in
     let all = subst (Each (λ (a : Asked). a.id.path ≡ c.id.path → a.id.seq < c.id.seq))
@@ -205,7 +208,7 @@ may-post n c rest to pdu ram known side ring w is o =
     ring w o)) (nets-above c.id o.earlier f.3) in
     record {
       own_is = o.fresh.0.own;
-      other = f.0;
+      away = f.0;
       path = f.1;
       next = subst (λ (m : ℕ). m < c.id.seq) (sym (follows.numbers c.id.path low))
           (number-below c.id.path c.id.seq 0 (own n ring) f.2 all);
@@ -254,23 +257,24 @@ waiting-more n a b w f kind ask low out k =
     some : {x y : Frame} → Some x ≡ Some y → x ≡ y
     some e = cc
 
-pub posted-lead : {P Q : Type 0} (alone : Bool) (n : ℕ) (c : Called) (rest : List Called) (to : ℕ)
-    (pdu : List ℕ) (ram : RamSideIs
-    P) (known : List Entry) (side side' : RingSideIs Q) (ring ring' : List RingEntry)
-    (w : List (Option Frame)) → side' ≡ side →
-    c.sort ≡ OverNet to pdu
+pub posted-lead : {P Q : Type 0} (alone : Bool) (n : ℕ) (c : Called) (rest : List Called)
+    (route pdu : List ℕ) (ram : RamSideIs P) (known : List Entry) (side side' : RingSideIs Q)
+    (ring ring' : List RingEntry) (w : List (Option Frame)) → side' ≡ side →
+    c.sort ≡ OverNet route pdu
     → IsLegalRing side.net ring' → KeepsInbox side.net n ring ring'
-    → Grew alone (is_of n) ring (Post n (request_frame c.id to pdu) ∷
+    → Grew alone (is_of n) ring (Post n (request_along c.id route pdu) ∷
     []) ring' → Owing n (c ∷ rest) ram known side ring w
     → Owing n rest ram known side' ring' (set w c.id.path (Some
-    (request_frame c.id to pdu)))
-posted-lead {P} {Q} alone n c rest to pdu ram known side side' ring ring' w same is legal kept grew
-    o =
-    let f = request_frame c.id to pdu in
-    let fits = fits-net n o.earlier c.id c.sort to pdu is o.fresh.0.fits in
+    (request_along c.id route pdu)))
+posted-lead {P} {Q} alone n c rest route pdu ram known side side' ring ring' w same is legal kept
+    grew o =
+    let f = request_along c.id route pdu in
+    let fits = fits-net n o.earlier c.id c.sort route pdu is o.fresh.0.fits in
     let own_is = grew-ours alone (is_of n) ring (Post n f ∷ []) ring' grew in
-    let net : net_ask c ≡ Some (record { id = f.id; to = f.to; pdu = f.pdu }) = ap
-    (λ (k : CallSort). net_ask (record { id = c.id; sort = k })) is in
+    let net : net_ask c ≡ Some (record { id = f.id; route = frame_route f; pdu = f.pdu }) =
+    ap (λ (k : CallSort). net_ask (record { id = c.id; sort = k })) is
+    ∙ ap (λ (r : List ℕ). Some (record { id = c.id; route = r; pdu = pdu }))
+    (sym (along-route n c.id route pdu fits.0)) in
     let made : kind_in (items_of known).calls c.id ≡ Some NetCall = ap (λ l. kind_in l c.id)
     o.calls_are ∙ (kind-new o.earlier c
     rest o.fresh.0.first ∙ ap (λ (k : CallSort). Some (kind_of_sort k)) is) in
@@ -290,7 +294,7 @@ posted-lead {P} {Q} alone n c rest to pdu ram known side side' ring ring' w same
               path = refl;
               is_path = fits.1;
               number = fits.2;
-              to = fits.0;
+              to = goes-away n c.id route pdu fits.0;
             }) low
             (record { made = made; unended = o.fresh.0.unended }) o.turning.waits);
       };

@@ -38,7 +38,8 @@ quiet-patient status n (Pass m done words) quiet = tt
 quiet-patient status n (Leave m cause) quiet = tt
 quiet-patient status n (Join m) quiet = tt
 
-first-own : (b : Bool) (e : RingEntry) (rest : List RingEntry) → Each NotPost (cond b (e ∷ rest) rest)
+first-own : (b : Bool) (e : RingEntry) (rest : List RingEntry)
+    → Each NotPost (cond b (e ∷ rest) rest)
     → (b ≡ true → NotPost e) × Each NotPost rest
 first-own true e rest all = (λ _. all.0, all.1)
 first-own false e rest all = (λ is. absurd (let no' : false ≡ true = is in cc), all)
@@ -104,7 +105,8 @@ own-moved side alone n ring e ring' is t legal w = moved side.net n alone ring e
 
 pub kept-by : (net : NetPlan) (n : ℕ) (ring ring' : List RingEntry) (c : NodeIs)
     → c.inbox ≡ (Rattle.tied_lists.proofs.Turns.part
-    net ring n).inbox → IsOnRing net ring' n → Wrote net n ring ring' c → KeepsInbox net n ring ring'
+    net ring n).inbox → IsOnRing net ring' n → Wrote net n ring ring' c
+    → KeepsInbox net n ring ring'
 kept-by net n ring ring' c same on w = record {
   on = λ _. on;
   free = w.free;

@@ -16,8 +16,9 @@ use Rattle.ring_core.specs.declared.entry.Heard.{Heard}
 use Rattle.ring_core.specs.declared.entry.Heard.TheVariants.{Acked, Silent, Busy}
 use Rattle.ring_core.specs.declared.entry.RingEntry.{RingEntry}
 use Rattle.ring_core.specs.declared.entry.RingEntry.TheVariants.{Send, GiveUp}
-use Rattle.ring_core.specs.Words.{asks_for}
-use Rattle.ring_core.specs.Machine.{is_here, is_in, NodeIs, RingIs, addresses, part_of, ring_after, ring_node}
+use Rattle.ring_core.specs.Words.{asks_for, is_onward}
+use Rattle.ring_core.specs.Machine.{is_here, is_in, hears, NodeIs, RingIs}
+use Rattle.ring_core.specs.Machine.{addresses, part_of, ring_after, ring_node}
 use Rattle.ring_core.specs.Machine.{fate_at, arrival, arrived, heard_of, heard_by, sent_head}
 use Rattle.ring_core.specs.Machine.{is_head, sent_off, failed, silence_word}
 use Rattle.ring_core.specs.Refusals.{or_no, empty_no, send_no}
@@ -115,15 +116,15 @@ sent-part : (net : NetPlan) (h : List RingEntry) (n : ℕ) (heard : Heard) (box 
 sent-part net h n heard [] r s range follows is told after_is = absurd told
 sent-part net h n heard (f ∷ fs) r s range follows is told after_is =
     let fate = fate_at net.fates r.sent in
-    let nodes = arrived r.nodes f (arrival r.nodes fate f) in
-    let there = (is_here (ring_node r f.to)) in
+    let nodes = arrived r.nodes f (arrival net r.nodes fate f) in
+    let there = hears net r.nodes f.to (is_onward f) in
     let from : IsOwn n f = (subst (λ (l : List Frame). Each (IsOwn n) l) is (follows.frames n)).0 in
-    let same : part_of nodes n ≡ ring_node r n = arrived-part r.nodes f fate
+    let same : part_of nodes n ≡ ring_node r n = arrived-part net r.nodes f fate
     (λ k c. k ≡ n → c ≡ ring_node r n)
     (λ k e. ap (part_of r.nodes) e) (λ here e. absurd (to-other n f f.kind from e)) n refl in
-    let size : length nodes ≡ addresses = length-arrived r.nodes fate f ∙ follows.size in
-    let c' = heard_by (part_of nodes n) f.kind f.id there (heard_of fate (arrival r.nodes fate f))
-    in
+    let size : length nodes ≡ addresses = length-arrived net r.nodes fate f ∙ follows.size in
+    let c' = heard_by (part_of nodes n) f.kind f.id there
+    (heard_of fate (arrival net r.nodes fate f)) in
     record {
       f = f;
       fs = fs;
@@ -149,7 +150,8 @@ sent-one net n before heard after' holding m =
     let there = m.found.holds holding in
     let now : Holds net after' n = record {
       holder = p.holder ∙ there.holder;
-      here = ap (λ (c : NodeIs). is_here c) p.part_is ∙ ap is_in (heard-status (ring_node r n) p.f.kind p.f.id
+      here = ap (λ (c : NodeIs). is_here c) p.part_is
+          ∙ ap is_in (heard-status (ring_node r n) p.f.kind p.f.id
           p.there heard) ∙ there.here;
     } in
     record {
@@ -240,7 +242,8 @@ all-sent side alone n ring ring' why t legal w refused is =
       grew = grew-one alone (is_of n) ring [] ring' refl w;
       kept = kept-found side.net n ring ring' on found;
       empty = elim refused [
-        | inl no' ↦ empty-box (is_here (ring_node r n)) (r.holder == n) r.holder (ring_node r n).outbox
+        | inl no' ↦ empty-box (is_here (ring_node r n)) (r.holder == n) r.holder
+            (ring_node r n).outbox
             (no' ∙ ap Some is)
         | inr short ↦ let wrong : NothingToSend ≡ NoMemory = sym is ∙ short.0 in absurd cc
       ];

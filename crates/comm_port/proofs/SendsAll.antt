@@ -22,7 +22,8 @@ use Rattle.ring_core.specs.declared.entry.RingEntry.{RingEntry}
 use Rattle.ring_core.specs.declared.entry.RingEntry.TheVariants.{Post, Send, Take, Local, GiveUp}
 use Rattle.ring_core.specs.declared.entry.RingEntry.TheVariants.{Pass, Leave, Join}
 use Rattle.ring_core.specs.Legal.{IsPath, IsFrom}
-use Rattle.ring_core.specs.Machine.{is_here, NodeIs, no_path, path_of, passes_of, failed, sent_off, heard_by}
+use Rattle.ring_core.specs.Machine.{is_here, NodeIs, no_path, path_of}
+use Rattle.ring_core.specs.Machine.{passes_of, failed, sent_off, heard_by}
 use Rattle.ring_core.specs.Machine.{awaited_number, busy_word, silence_word}
 use Rattle.tied_lists.specs.Own.{is_of, Grew}
 use Rattle.tied_lists.specs.Waits.{IsOnRing}
@@ -44,7 +45,7 @@ use Rattle.comm_port.proofs.Dues.{noted-of}
 -- a path that failed
 pub failed-is : (a : Await) → HasFailed a → (seq word : ℕ) × (a ≡ Failed seq word)
 failed-is Nothing f = absurd f
-failed-is (Out seq to passes) f = absurd f
+failed-is (Out seq to onward passes) f = absurd f
 failed-is (Arrived seq) f = absurd f
 failed-is (Failed seq word) f = (seq, word, refl)
 
@@ -171,7 +172,7 @@ may-go-on alone net n chosen heard ring ring' is s m =
 failed-by : (answer n p : ℕ) (a : Await) (id : CallId) → passes_of a < answer
     → due_by answer true n p a ≡ Some id → (word : ℕ) × (a ≡ Failed id.seq word)
 failed-by answer n p Nothing id young due = absurd (let bad : None ≡ Some id = due in cc)
-failed-by answer n p (Out seq to passes) id young due =
+failed-by answer n p (Out seq to onward passes) id young due =
     absurd (let none = cond-false (nat_le answer passes)
     (Some (record { node = n; path = p; seq = seq })) None (lt-leb answer passes young) in
     let bad : None ≡ Some id = sym none ∙ due in cc)

@@ -1,7 +1,7 @@
 -- What is taken, answered and ended leaves the lists tied.
-use Rattle.std.proofs.Common.{◌≡◌, ◌≢◌, ℕ, ◌<◌, ◌==◌, Bool, true, false, cond, List, [], ◌∷◌, ◌++◌}
+use Rattle.std.proofs.Common.{◌≡◌, ℕ, ◌<◌, ◌==◌, Bool, true, false, cond, List, [], ◌∷◌, ◌++◌}
 use Rattle.std.proofs.Common.{filter, get_or, set, length, Option, Some, None, refl, sym, ap, ◌∙◌}
-use Rattle.std.proofs.Common.{subst, ◌⊎◌, ⊎_elim, arith, append_assoc}
+use Rattle.std.proofs.Common.{subst, ⊎_elim, arith, append_assoc}
 use Rattle.std.proofs.Common.{get_or-set_same, get_or-set_other, eq-eqb, ne_eqb}
 use Rattle.std.proofs.lemmas.Bool.{cases_eq, cond-true, cond-false}
 use Rattle.std.proofs.lemmas.List.{length-set}
@@ -16,7 +16,7 @@ use Rattle.ring_core.specs.declared.frame.Frame.{Frame}
 use Rattle.ring_core.specs.declared.entry.RingEntry.{RingEntry}
 use Rattle.ring_core.specs.declared.entry.RingEntry.TheVariants.{Post, Take, Local}
 use Rattle.ring_core.specs.Words.{is_same_call}
-use Rattle.ring_core.specs.Statistics.{is_stats}
+use Rattle.ring_core.specs.Statistics.{is_for_stats}
 use Rattle.ring_core.specs.Machine.{path_places, NodeIs}
 use Rattle.ring_core.specs.Legal.{IsLegalRing, IsFirst}
 use Rattle.reply_laws.specs.Result.{result_of}
@@ -34,10 +34,11 @@ use Rattle.tied_lists.proofs.Steps.{tied-off, tied-served, tied-told, tied-got}
 use Rattle.tied_lists.proofs.Turns.{part, unmoved, after-take, reply-awaited}
 use Rattle.tied_lists.proofs.Turns.{request-of-other}
 use Rattle.comm_port.specs.Sides.{RingSideIs, RamSideIs}
-use Rattle.joint_history.specs.Reading.{is_ours, items_of}
+use Rattle.joint_history.specs.Reading.{answered_here, is_ours, items_of}
 use Rattle.comm_port.specs.Replies.{reply_frame, TellsStatistics}
-use Rattle.comm_port.specs.Turns.{IsOwnTurn, KeepsInbox, AreWaiting, Turning, Taking}
+use Rattle.comm_port.specs.Turns.{IsNoBridge, IsOwnTurn, KeepsInbox, AreWaiting, Turning, Taking}
 use Rattle.comm_port.proofs.RingTurns.{own-moved, on-still, own-on, turn-on}
+use Rattle.comm_port.proofs.Onward.{answered-last, taken-last}
 use Rattle.comm_port.proofs.Later.{later-one, tied-later, waits-later}
 
 -- other items that have made as much and ended as little of what waits
@@ -90,10 +91,10 @@ waiting-ended n a a' b b' w q low here others out k =
 pub take-lead : {P Q : Type 0} (alone : Bool) (n : ℕ) (f : Frame) (ram : RamSideIs P)
     (known : List Entry) (side side' :
     RingSideIs Q) (ring ring' : List RingEntry) (w : List (Option Frame)) → side' ≡ side
-    → IsLegalRing side.net ring' → WentOn alone
+    → IsNoBridge side.net n → IsLegalRing side.net ring' → WentOn alone
     (is_of n) ring (Take n f ∷ []) ring'
     → Turning n [] ram known side ring w → Taking n f ram known side' ring' w
-take-lead {P} {Q} alone n f ram known side side' ring ring' w same legal went t =
+take-lead {P} {Q} alone n f ram known side side' ring ring' w same none legal went t =
     let m = own-moved side alone n ring (Take n f) ring' refl t.own_turn legal went in
     subst (λ (s : RingSideIs Q). Taking n f ram known s ring' w) (sym same) (record {
       before = own n ring;
@@ -106,6 +107,7 @@ take-lead {P} {Q} alone n f ram known side side' ring ring' w same legal went t 
       };
       tied = t.tied;
       waits = t.waits;
+      rest = taken-last alone side.net n f ring ring' none legal went;
       request = λ kind. request-of-other side.net n ring f ring' kind m;
       reply = λ kind. let a = reply-awaited side.net n ring f ring' kind m in (
         a.ask,
@@ -191,7 +193,7 @@ pub answer-lead : {P Q : Type 0} (alone alone' : Bool) (n : ℕ) (f : Frame) (re
     (ram ram' : RamSideIs P) (known known'
     : List Entry) (side side' : RingSideIs Q) (ring ring' : List RingEntry)
     (w : List (Option Frame))
-    → ram' ≡ ram → side' ≡ side → f.kind ≡ Request → is_stats f.pdu ≡ false
+    → ram' ≡ ram → side' ≡ side → f.kind ≡ Request → is_for_stats f ≡ false
     → IsLegalRing side.net ring'
     → KeepsInbox side.net n ring ring'
     → WentOn alone is_ours known (Peer f.id f.pdu reply ∷ []) known'
@@ -205,15 +207,15 @@ answer-lead {P} {Q} alone alone' n f reply ram ram' known known' side side' ring
     ∙ (ap (λ l. l ++ Post n g ∷ []) t.own_is ∙ append_assoc t.before (Take n f ∷ [])
     (Post n g ∷ [])) in
     let later = later-one alone known (Peer f.id f.pdu reply) known' went refl in
-    let a' = with_answer (items_of known)
-    (record { id = f.id; request = Some f.pdu; reply = Some reply }) in
+    let a' = with_answer (items_of known) (answered_here f.id f.pdu (Some reply)) in
     subst (λ (s : RamSideIs P). Turning n [] s known' side' ring' w) (sym same) (record {
       node = t.node;
       own_turn = turn-on side side' ring ring' n same' t.own_turn legal kept;
       tied = tied-later AController [] (own n ring') later
           (subst (TiedBut AController [] a') (sym own_is)
+          (answered-last AController [] (items_of known) _ f (Some reply) t.rest
           (tied-served AController [] (items_of known) t.before n f g reply kind plain refl refl
-          refl t.tied));
+          refl t.tied)));
       waits = waits-later n (own n ring') w later
           (subst (λ (l : List RingEntry). AreWaiting n a' l w) (sym own_is)
           (waiting-as n (items_of known) a' t.before (t.before ++ (Take n f ∷ Post n g ∷ [])) w
@@ -226,19 +228,19 @@ answer-lead {P} {Q} alone alone' n f reply ram ram' known known' side side' ring
 -- a Request that came without power
 pub off-lead : {P Q : Type 0} (alone : Bool) (n : ℕ) (f : Frame) (ram ram' : RamSideIs P)
     (known known' : List Entry) (side : RingSideIs Q) (ring : List RingEntry)
-    (w : List (Option Frame)) → ram' ≡ ram → f.kind ≡ Request → is_stats f.pdu ≡ false
+    (w : List (Option Frame)) → ram' ≡ ram → f.kind ≡ Request → is_for_stats f ≡ false
     → WentOn alone is_ours known (Off f.id f.pdu ∷ []) known'
     → Taking n f ram known side ring w → Turning n [] ram' known' side ring w
 off-lead {P} {Q} alone n f ram ram' known known' side ring w same kind plain went t =
     let later = later-one alone known (Off f.id f.pdu) known' went refl in
-    let a' = with_answer (items_of known)
-    (record { id = f.id; request = Some f.pdu; reply = None }) in
+    let a' = with_answer (items_of known) (answered_here f.id f.pdu None) in
     subst (λ (s : RamSideIs P). Turning n [] s known' side ring w) (sym same) (record {
       node = t.node;
       own_turn = t.own_turn;
       tied = tied-later AController [] (own n ring) later
           (subst (TiedBut AController [] a') (sym t.own_is)
-          (tied-off AController [] (items_of known) t.before n f kind plain t.tied));
+          (answered-last AController [] (items_of known) _ f None t.rest
+          (tied-off AController [] (items_of known) t.before n f kind plain t.tied)));
       waits = waits-later n (own n ring) w later
           (subst (λ (l : List RingEntry). AreWaiting n a' l w) (sym t.own_is)
           (waiting-as n (items_of known) a' t.before (t.before ++ Take n f ∷ []) w
@@ -249,7 +251,7 @@ off-lead {P} {Q} alone n f ram ram' known known' side ring w same kind plain wen
 pub port-lead : {P Q : Type 0} (alone' : Bool) (n : ℕ) (f : Frame) (ram : RamSideIs P)
     (known : List Entry) (side side' :
     RingSideIs Q) (ring ring' : List RingEntry) (w : List (Option Frame))
-    → side' ≡ side → f.kind ≡ Request → is_stats f.pdu ≡ true → IsLegalRing side.net ring'
+    → side' ≡ side → f.kind ≡ Request → is_for_stats f ≡ true → IsLegalRing side.net ring'
     → KeepsInbox side.net n ring ring' → TellsStatistics
     alone' n f.id f.pdu ring ring' → Taking n f ram known side ring w
     → Turning n [] ram known side' ring' w
@@ -378,5 +380,6 @@ pub went-reply : (alone : Bool) (id : CallId) (request : List ℕ) (one other : 
     → WentOn alone is_ours known (peer_entry id request one ∷ []) known'
     → WentOn alone is_ours known (peer_entry id request other ∷ []) known'
 went-reply alone id request one other known known' is w =
-    subst (λ (o : Option (List ℕ)). WentOn alone is_ours known (peer_entry id request o ∷ []) known')
+    subst (λ (o : Option (List ℕ)). WentOn alone is_ours known (peer_entry id request o ∷ [])
+    known')
     is w

@@ -11,7 +11,7 @@ use Rattle.ring_core.specs.declared.frame.FrameKind.TheVariants.{Request, Reply}
 use Rattle.ring_core.specs.declared.frame.Frame.{Frame}
 use Rattle.ring_core.specs.declared.entry.RingEntry.{RingEntry}
 use Rattle.ring_core.specs.declared.entry.RingEntry.TheVariants.{Post, Take, Local}
-use Rattle.ring_core.specs.Statistics.{is_stats}
+use Rattle.ring_core.specs.Statistics.{is_for_stats}
 use Rattle.ring_core.specs.Legal.{IsLegalRing, IsFirst}
 use Rattle.ring_core.specs.Machine.{NodeIs}
 use Rattle.tied_lists.specs.Items.{reply_of}
@@ -30,27 +30,27 @@ use Rattle.comm_port.proofs.RingTurns.{mine, own-moved, on-still}
 
 pub reply-due : (n : ℕ) (f : Frame) (r : MstrResult) → f.kind ≡ Reply
     → IsAnswered n f (Finish f.id r ∷ []) []
-reply-due n f r kind = subst (λ (k : FrameKind). ServedAs k (is_stats f.pdu) n f
+reply-due n f r kind = subst (λ (k : FrameKind). ServedAs k (is_for_stats f) n f
     (Finish f.id r ∷ []) (Take n f ∷ [])) (sym kind) (r, refl, refl)
 
 pub request-due : (n : ℕ) (f : Frame) (reply : Option (List ℕ)) → f.kind ≡ Request
-    → is_stats f.pdu ≡ false
+    → is_for_stats f ≡ false
     → IsAnswered n f (peer_entry f.id f.pdu reply ∷ []) (reply_entries n f.id reply)
 request-due n f reply kind plain =
     let noted = peer_entry f.id f.pdu reply ∷ [] in
     let done = Take n f ∷ reply_entries n f.id reply in
-    subst (λ (k : FrameKind). ServedAs k (is_stats f.pdu) n f noted done) (sym kind)
+    subst (λ (k : FrameKind). ServedAs k (is_for_stats f) n f noted done) (sym kind)
     (subst (λ (b : Bool). ServedAs Request b n f noted done) (sym plain) (reply, refl, refl))
 
 pub port-due : (alone : Bool) (n : ℕ) (f : Frame) (ring ring' : List RingEntry) → f.kind ≡ Request
-    → is_stats f.pdu ≡ true
+    → is_for_stats f ≡ true
     → (t : TellsStatistics alone n f.id f.pdu ring ring')
     → IsAnswered n f [] (Local n f.id t.op t.result ∷ Post n
     (reply_frame f.id (reply_of t.result)) ∷ [])
 port-due alone n f ring ring' kind stats t =
     let done = Take n f ∷ Local n f.id t.op t.result ∷ Post n (reply_frame f.id (reply_of t.result))
     ∷ [] in
-    subst (λ (k : FrameKind). ServedAs k (is_stats f.pdu) n f [] done) (sym kind)
+    subst (λ (k : FrameKind). ServedAs k (is_for_stats f) n f [] done) (sym kind)
     (subst (λ (b : Bool). ServedAs Request b n f [] done) (sym stats)
     (t.op, t.result, t.answers, refl, refl))
 

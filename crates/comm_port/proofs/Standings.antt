@@ -9,7 +9,8 @@ use Rattle.controller_core.specs.declared.entry.Entry.{Entry}
 use Rattle.ring_core.specs.declared.frame.Frame.{Frame}
 use Rattle.ring_core.specs.declared.path.Path.{Path}
 use Rattle.ring_core.specs.declared.entry.RingEntry.{RingEntry}
-use Rattle.ring_core.specs.Machine.{is_here, NodeIs, addresses, path_places, no_path, fresh, part_of}
+use Rattle.ring_core.specs.Machine.{is_here, NodeIs, addresses}
+use Rattle.ring_core.specs.Machine.{path_places, no_path, fresh, part_of}
 use Rattle.ring_core.specs.Machine.{with_members}
 use Rattle.tied_lists.specs.Own.{own, WentOn}
 use Rattle.tied_lists.specs.Items.{AController, Items, latest_down, no_items}
@@ -164,7 +165,12 @@ standing-others w ram known side ring more on none s =
       waits = subst (λ (b : List RingEntry). AreWaiting w.node (items_of known) b w.waiting)
           (sym is) s.waits;
       rest = rest-others side.net w.node ring more
-          (record { members = on.members; legal = s.legal; member = on.member; patient = s.patient })
+          (record {
+            members = on.members;
+            legal = s.legal;
+            member = on.member;
+            patient = s.patient;
+          })
           on.legal none
           s.rest;
     }
@@ -180,5 +186,6 @@ pub first-here : (n : ℕ) (members : List ℕ) → n < addresses
     → (is_here (part_of (with_members (replicate addresses (fresh false)) (n ∷ members)) n)) ≡ true
 first-here n members low = keep-here (set (replicate addresses (fresh false)) n (fresh true))
     members n
-    (ap (λ (c : NodeIs). is_here c) (get_or-set_same (replicate addresses (fresh false)) n (fresh true)
+    (ap (λ (c : NodeIs). is_here c)
+    (get_or-set_same (replicate addresses (fresh false)) n (fresh true)
     (fresh false) (let s = length-replicate addresses (fresh false) in omega (arith, s, low))))

@@ -18,10 +18,10 @@ use Rattle.ring_core.specs.declared.entry.RingEntry.TheVariants.{Post, Send, Tak
 use Rattle.ring_core.specs.declared.entry.RingEntry.TheVariants.{Pass, Leave, Join}
 use Rattle.ring_core.specs.declared.entry.LeaveCause.{LeaveCause}
 use Rattle.ring_core.specs.declared.entry.LeaveCause.TheVariants.{Ended, Spent, Down}
-use Rattle.ring_core.specs.Words.{maker, asks_for}
+use Rattle.ring_core.specs.Words.{maker, asks_for, is_onward}
 use Rattle.ring_core.specs.Machine.{NodeIs, RingIs, addresses, fresh, no_path, part_of, path_of}
 use Rattle.ring_core.specs.Machine.{took, gave_up, after, aged, aged_await, admitted, is_held}
-use Rattle.ring_core.specs.Machine.{left_with}
+use Rattle.ring_core.specs.Machine.{gone_by}
 use Rattle.ring_core.proofs.Stability.{admitted-part}
 use Rattle.ring_core.specs.Machine.{asked, ring_after, ring_node, with_frame, fell, is_repeat}
 use Rattle.ring_core.specs.Machine.{is_full, waits_for, fate_at, arrival, arrived, sent_head}
@@ -61,8 +61,8 @@ not-failed-put ps p q v new old = paths-put NotFailed ps p q v new old
 pub nothing-not-failed : NotFailed Nothing
 nothing-not-failed f = f
 
-pub out-not-failed : (s to k : ℕ) → NotFailed (Out s to k)
-out-not-failed s to k f = f
+pub out-not-failed : (s to : ℕ) (onward : Bool) (k : ℕ) → NotFailed (Out s to onward k)
+out-not-failed s to onward k f = f
 
 pub arrived-not-failed : (s : ℕ) → NotFailed (Arrived s)
 arrived-not-failed s f = f
@@ -142,7 +142,7 @@ take-none c Reply id q = (
 
 post-none : (c : NodeIs) (f : Frame) (kind : FrameKind) → f.kind ≡ kind → kind ≡ Reply → NoAsks c
     → NoneFailed each_path
-    (record c { paths = asked c kind f.id f.to; outbox = c.outbox ++ f ∷ [] })
+    (record c { paths = asked c kind f; outbox = c.outbox ++ f ∷ [] })
     × Each (λ (f : Frame). f.kind ≡ Reply) (c.outbox ++ f ∷ [])
 post-none c f Request is reply q = absurd (let bad : Request ≡ Reply = reply in cc)
 post-none c f Reply is reply q = (q.0, each-push (λ (g : Frame). g.kind ≡ Reply) c.outbox f q.1 is)
@@ -178,7 +178,7 @@ pub record Asks (chosen : List Bool) (answer : ℕ) (c : NodeIs) : Type 0 where
 
 taken-free : (a : Await) → taken_no a ≡ None → a ≡ Nothing
 taken-free Nothing e = refl
-taken-free (Out seq to passes) e = absurd (cc)
+taken-free (Out seq to onward passes) e = absurd (cc)
 taken-free (Arrived seq) e = absurd (cc)
 taken-free (Failed seq word) e = absurd (cc)
 
@@ -195,7 +195,7 @@ calls-more : (chosen : List Bool) (answer n : ℕ) (c : NodeIs) (f : Frame) (kin
     → 0 < answer → f.kind ≡ kind → kind ≡ Request → IsFrom n kind f
     → path_no c kind f.id.path ≡ None → Asks chosen answer c
     → Asks chosen answer (record c {
-      paths = asked c kind f.id f.to;
+      paths = asked c kind f;
       outbox = c.outbox ++ f
           ∷ [];
     })
@@ -203,15 +203,15 @@ calls-more chosen answer n c f Reply wait is ask from free q = absurd
     (let bad : Reply ≡ Request = ask in cc)
 calls-more chosen answer n c f Request wait is ask from free q =
     let p = f.id.path in
-    let v : Path = record { awaits = Out f.id.seq f.to 0; posted = f.id.seq } in
+    let v : Path = record { awaits = Out f.id.seq f.to (is_onward f) 0; posted = f.id.seq } in
     let none : (path_of c p).awaits ≡ Nothing = taken-free (path_of c p).awaits free in
     let low : p < 5 = let k = from.2.1 in omega (arith, k) in
     let on : is_chosen chosen p ≡ true = ⊎_elim (λ (y : is_chosen chosen p ≡ true). y)
     (λ (off : is_chosen chosen p ≡ false). absurd
     (q.taken p low off none)) (cases_Bool (is_chosen chosen p)) in
     record {
-      none_failed = λ k each. not-failed-put c.paths p k v (out-not-failed f.id.seq f.to 0)
-          (q.none_failed k each);
+      none_failed = λ k each. not-failed-put c.paths p k v
+          (out-not-failed f.id.seq f.to (is_onward f) 0) (q.none_failed k each);
       young = λ k y. young-put answer c.paths p k v wait (q.young k y);
       asks = each-push (λ (g : Frame). g.kind ≡ Request → is_chosen chosen g.id.path ≡ true)
           c.outbox f q.asks (λ _. on);
@@ -280,8 +280,8 @@ rest-sent : (net : NetPlan) (n m : ℕ) (r : RingIs) (box : List Frame) → (m �
 rest-sent net n m r [] other q = q
 rest-sent net n m r (f ∷ fs) other q =
     let fate = fate_at net.fates r.sent in
-    let nodes = arrived r.nodes f (arrival r.nodes fate f) in
-    let mine : If n n (part_of nodes n) = arrived-part r.nodes f fate (If n)
+    let nodes = arrived r.nodes f (arrival net r.nodes fate f) in
+    let mine : If n n (part_of nodes n) = arrived-part net r.nodes f fate (If n)
     (λ k e. subst (λ (x : ℕ). RestsIn (part_of r.nodes x)) (sym e) q)
     (λ here e. rest-came (part_of r.nodes f.to) f f.kind
     (subst (λ (x : ℕ). RestsIn (part_of r.nodes x)) (sym e) q)) n in
@@ -320,7 +320,7 @@ rest-given c id q = (
 
 aged-fails : (a : Await) → NotFailed a → NotFailed (aged_await a)
 aged-fails Nothing q = q
-aged-fails (Out s to k) q = out-not-failed s to (k + 1)
+aged-fails (Out s to onward k) q = out-not-failed s to onward (k + 1)
 aged-fails (Arrived s) q = q
 aged-fails (Failed s w) q = q
 
@@ -343,7 +343,7 @@ put-rest r n m c size low mine q = subst RestsIn
     (sym (subst (λ (k : ℕ). part_of (set r.nodes k c) n ≡ c) (sym mine)
     (at-same r.nodes n c size low))) q
 
-rest-left : (cause : LeaveCause) (c : NodeIs) → RestsIn c → RestsIn (left_with cause c)
+rest-left : (cause : LeaveCause) (c : NodeIs) → RestsIn c → RestsIn (gone_by cause c)
 rest-left Ended c q = q
 rest-left Spent c q = q
 rest-left (Down number) c q = (refl, q.1)

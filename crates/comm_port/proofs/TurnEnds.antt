@@ -41,7 +41,8 @@ use Rattle.comm_port.proofs.RingTurns.{mine, on-grew}
 pub stays-between : (net : NetPlan) (n : ℕ) (alone : Bool) (before added after' : List RingEntry)
     → IsLegalRing net after' → (w :
     WentOn alone (is_of n) before added after')
-    → Holds net before n → Stays (ring_after net before) (ring_after net (before ++ w.between)) n
+    → Holds net before n
+    → Stays net (ring_after net before) (ring_after net (before ++ w.between)) n
 stays-between net n alone before added after' legal w holds =
     let all = subst (IsLegalRing net) w.after_is legal in
     let front = (legal-parts net (before ++ w.between) added all).0 in
@@ -64,16 +65,16 @@ stood-still net n alone before after' legal w holds =
             (λ (c : NodeIs). is_here c) s.part ∙ holds.here;
       };
       part = ap (λ (h : List RingEntry). ring_node (ring_after net h) n) is ∙ s.part;
-      quiet = ap (λ (h : List RingEntry). quiet_for (ring_after net h) n) is ∙ s.quiet;
+      quiet = ap (λ (h : List RingEntry). quiet_for net (ring_after net h) n) is ∙ s.quiet;
     }
 
 -- a cause holds as long as before
-held-as : (r s : RingIs) (n : ℕ) (cause : LeaveCause) → ring_node s n ≡ ring_node r n
-    → quiet_for s n ≡ quiet_for r n → cause_held
-    s n cause ≡ cause_held r n cause
-held-as r s n Ended part quiet = quiet
-held-as r s n Spent part quiet = ap (λ (c : NodeIs). c.passes) part
-held-as r s n (Down number) part quiet = refl
+held-as : (net : NetPlan) (r s : RingIs) (n : ℕ) (cause : LeaveCause)
+    → ring_node s n ≡ ring_node r n → quiet_for net s n ≡ quiet_for net r n
+    → cause_held net s n cause ≡ cause_held net r n cause
+held-as net r s n Ended part quiet = quiet
+held-as net r s n Spent part quiet = ap (λ (c : NodeIs). c.passes) part
+held-as net r s n (Down number) part quiet = refl
 
 needed-as : (net : NetPlan) (r s : RingIs) (n : ℕ) (cause : LeaveCause)
     → ring_node s n ≡ ring_node r n → needed_of net s n cause ≡ needed_of net r n cause
@@ -82,10 +83,10 @@ needed-as net r s n Spent part = refl
 needed-as net r s n (Down number) part = ap (λ (c : NodeIs). 1 + c.down) part
 
 pub due-as : (net : NetPlan) (r s : RingIs) (n : ℕ) (cause : LeaveCause)
-    → ring_node s n ≡ ring_node r n → quiet_for s n ≡
-    quiet_for r n → is_due net s n cause ≡ is_due net r n cause
+    → ring_node s n ≡ ring_node r n → quiet_for net s n ≡ quiet_for net r n
+    → is_due net s n cause ≡ is_due net r n cause
 due-as net r s n cause part quiet =
-    λ i. nat_le (needed-as net r s n cause part i) (held-as r s n cause part quiet i)
+    λ i. nat_le (needed-as net r s n cause part i) (held-as net r s n cause part quiet i)
 
 -- ---- when a Leave is due
 
@@ -105,8 +106,8 @@ not-early held needed is = elim (cases_Bool (nat_lt held needed)) [
 pub leave-due : (net : NetPlan) (r : RingIs) (n : ℕ) (cause : LeaveCause)
     → leave_no net r n cause ≡ None → true ≡ is_due net r n cause
 leave-due net r n cause is =
-    sym (le-leb (needed_of net r n cause) (cause_held r n cause)
-    (not-early (cause_held r n cause) (needed_of net r n cause) (second-none _ _ is)))
+    sym (le-leb (needed_of net r n cause) (cause_held net r n cause)
+    (not-early (cause_held net r n cause) (needed_of net r n cause) (second-none _ _ is)))
 
 -- no other reason is that it's early
 other-reason : (held needed : ℕ) (here holds : Bool) (other : ℕ) (out box : List Frame)
@@ -146,8 +147,9 @@ pub leave-early : (net : NetPlan) (r : RingIs) (n : ℕ) (cause : LeaveCause) (h
     → leave_no net r n cause ≡ Some (NotDue h k)
     → false ≡ is_due net r n cause
 leave-early net r n cause h k is =
-    sym (lt-leb (needed_of net r n cause) (cause_held r n cause)
-    (late-or (cause_held r n cause) (needed_of net r n cause) h k _ (first-reason r n cause h k) is))
+    sym (lt-leb (needed_of net r n cause) (cause_held net r n cause)
+    (late-or (cause_held net r n cause) (needed_of net r n cause) h k _
+    (first-reason r n cause h k) is))
 
 -- ---- the two ends of an attempt
 

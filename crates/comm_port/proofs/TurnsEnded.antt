@@ -49,7 +49,8 @@ pub handed-lead : {P Q : Type 0} (alone : Bool) (n : ℕ) (done : Bool) (words :
     ≡ side → IsLegalRing side.net ring' → IsQuietCause cause
     → HandedOn alone side.net n done words cause ring ring' → Turning n [] ram known side ring w
     → Rested n ram known side' ring' w
-handed-lead {P} {Q} alone n done words cause ram known side side' ring ring' w same legal quiet h t =
+handed-lead {P} {Q} alone n done words cause ram known side side' ring ring' w same
+    legal quiet h t =
     let e = last_entry n done words cause in
     let own_is = grew-ours alone (is_of n) ring (e ∷ []) ring' h.grew in
     subst (λ (s : RingSideIs Q). Rested n ram known s ring' w) (sym same) (record {

@@ -17,16 +17,18 @@ use Rattle.ring_core.specs.declared.frame.FrameKind.TheVariants.{Request}
 use Rattle.ring_core.specs.declared.frame.Frame.{Frame}
 use Rattle.ring_core.specs.declared.path.Await.{Await}
 use Rattle.ring_core.specs.declared.path.Await.TheVariants.{Nothing, Out, Arrived, Failed}
+use Rattle.ring_core.specs.declared.path.Path.{Path}
 use Rattle.ring_core.specs.declared.entry.LocalOp.{LocalOp}
 use Rattle.ring_core.specs.declared.entry.RingEntry.{RingEntry}
 use Rattle.ring_core.specs.declared.entry.RingEntry.TheVariants.{Post, Local, GiveUp}
 use Rattle.ring_core.specs.declared.refusal.RingNo.{RingNo}
-use Rattle.ring_core.specs.Words.{maker, asks_for}
+use Rattle.ring_core.specs.Words.{maker, asks_for, is_onward, request_along}
 use Rattle.ring_core.specs.Machine.{NodeIs, ring_after, path_of, posted, gave_up}
 use Rattle.ring_core.specs.Refusals.{or_no, free_no, path_no, taken_no}
 use Rattle.ring_core.specs.Legal.{IsLegalRing}
 use Rattle.tied_lists.specs.Own.{is_of, own, Grew}
-use Rattle.tied_lists.specs.Waits.{has_left, waiting as waits_on, waits_posted, AwaitsThis, IsOnRing, IsFree}
+use Rattle.tied_lists.specs.Waits.{has_left, waiting as waits_on}
+use Rattle.tied_lists.specs.Waits.{waits_posted, AwaitsThis, IsOnRing, IsFree}
 use Rattle.tied_lists.specs.Waits.{HasLeft}
 use Rattle.tied_lists.proofs.Growth.{grew-ours}
 use Rattle.tied_lists.proofs.Histories.{own-mine, legal-follows}
@@ -36,7 +38,6 @@ use Rattle.tied_lists.proofs.Turns.{after-local, on-others}
 use Rattle.comm_port.specs.Calling.{IsDueAt}
 use Rattle.comm_port.specs.Giving.{part_at, NoneFailed, each_path, IsAtRest}
 use Rattle.comm_port.specs.HoldTurn.{MadeAs, EndedAs, IsMade, IsEnded, IsGivenUp}
-use Rattle.comm_port.specs.Making.{request_frame}
 use Rattle.comm_port.specs.Parts.{PartOf, calls_waiting}
 use Rattle.joint_history.specs.Reading.{is_ours}
 use Rattle.comm_port.specs.Visiting.{WaitsFor, GivesCall}
@@ -178,7 +179,7 @@ waits-posted n f ring ring' kind is = (
 
 taken-free : (a : Await) → taken_no a ≡ None → a ≡ Nothing
 taken-free Nothing e = refl
-taken-free (Out seq to passes) e = absurd (cc)
+taken-free (Out seq to onward passes) e = absurd (cc)
 taken-free (Arrived seq) e = absurd (cc)
 taken-free (Failed seq word) e = absurd (cc)
 
@@ -235,28 +236,28 @@ local-before n id op r ring ring' is =
 
 -- ---- nothing is left to be sent, and nothing failed
 
-rests : (c : NodeIs) (id : CallId) (to : ℕ) (pdu : List ℕ) → RestsIn c
-    → RestsIn (gave_up (posted c (request_frame id to pdu)) id)
-rests c id to pdu q =
-    let f = request_frame id to pdu in
+rests : (c : NodeIs) (id : CallId) (route pdu : List ℕ) → RestsIn c
+    → RestsIn (gave_up (posted c (request_along id route pdu)) id)
+rests c id route pdu q =
+    let f = request_along id route pdu in
+    let out : Path = record { awaits = Out id.seq f.to (is_onward f) 0; posted = id.seq } in
     let drop' : filter (λ g. not (asks_for id g)) (f ∷ []) ≡ [] = cond-false (not (asks_for id f))
     (f ∷ []) [] (ap not (is_itself id)) in (
       ap (λ (l : List Frame). filter (λ g. not (asks_for id g)) (l ++ f ∷ [])) q.0 ∙ drop',
-      λ p on. not-failed-put (set c.paths id.path
-          (record { awaits = Out id.seq to 0; posted = id.seq })) id.path p
+      λ p on. not-failed-put (set c.paths id.path out) id.path p
           (record { awaits = Nothing; posted = (path_of (posted c f) id.path).posted })
           nothing-not-failed
-          (not-failed-put c.paths id.path p (record { awaits = Out id.seq to 0; posted = id.seq })
-          (out-not-failed id.seq to 0) (q.1 p on)),
+          (not-failed-put c.paths id.path p out (out-not-failed id.seq f.to (is_onward f) 0)
+          (q.1 p on)),
     )
 
-pub rests-again : (net : NetPlan) (n : ℕ) (id : CallId) (to : ℕ) (pdu : List ℕ)
+pub rests-again : (net : NetPlan) (n : ℕ) (id : CallId) (route pdu : List ℕ)
     (ring ring' ring'' : List RingEntry) → part_at net n ring' ≡ posted (part_at net n ring)
-    (request_frame id to pdu) → GivesCall net n id ring' ring'' → IsAtRest net n ring
+    (request_along id route pdu) → GivesCall net n id ring' ring'' → IsAtRest net n ring
     → IsAtRest net n ring''
-rests-again net n id to pdu ring ring' ring'' one two q =
+rests-again net n id route pdu ring ring' ring'' one two q =
     let k = subst RestsIn (sym (two ∙ ap (λ (c : NodeIs). gave_up c id) one))
-    (rests (part_at net n ring) id to pdu (q.all_sent, q.none_failed)) in
+    (rests (part_at net n ring) id route pdu (q.all_sent, q.none_failed)) in
     record { all_sent = k.0; none_failed = k.1 }
 
 pub rests-same : (net : NetPlan) (n : ℕ) (ring ring' : List RingEntry)
@@ -273,21 +274,21 @@ same-call : (calls : List Call) (at : ℕ) (c d : Call) → at < length calls �
     → d ≡ get_or calls at d → d ≡ c
 same-call calls at c d low one two = two ∙ (get_or_default calls at d c low ∙ sym one)
 
-net-made : (n : ℕ) (c : Call) (to : ℕ) (pdu : List ℕ) (noted : List Entry) (done : List RingEntry)
-    → c.kind ≡ kinds.Net to pdu → IsMade n c noted done
-    → (noted ≡ []) × (done ≡ Post n (request_frame c.id to pdu) ∷ [])
-net-made n c to pdu noted done is m = subst (λ (k : CallKind). MadeAs k n c.id noted done) is m
+net-made : (n : ℕ) (c : Call) (route pdu : List ℕ) (noted : List Entry) (done : List RingEntry)
+    → c.kind ≡ kinds.Net route pdu → IsMade n c noted done
+    → (noted ≡ []) × (done ≡ Post n (request_along c.id route pdu) ∷ [])
+net-made n c route pdu noted done is m = subst (λ (k : CallKind). MadeAs k n c.id noted done) is m
 
-pub made-net-at : (alone alone' : Bool) (n : ℕ) (calls : List Call) (at : ℕ) (c : Call) (to : ℕ)
-    (pdu : List ℕ) (known known' : List Entry) (ring ring' : List RingEntry)
-    → at < length calls → c ≡ get_or calls at c → c.kind ≡ kinds.Net to pdu
+pub made-net-at : (alone alone' : Bool) (n : ℕ) (calls : List Call) (at : ℕ) (c : Call)
+    (route pdu : List ℕ) (known known' : List Entry) (ring ring' : List RingEntry)
+    → at < length calls → c ≡ get_or calls at c → c.kind ≡ kinds.Net route pdu
     → PartOf alone alone' is_ours n (IsDueAt (IsMade n) calls at) known known' ring ring'
     → Grew alone is_ours known [] known' × Grew alone' (is_of n) ring
-    (Post n (request_frame c.id to pdu) ∷ []) ring'
-made-net-at alone alone' n calls at c to pdu known known' ring ring' low one kind p =
+    (Post n (request_along c.id route pdu) ∷ []) ring'
+made-net-at alone alone' n calls at c route pdu known known' ring ring' low one kind p =
     let m = subst (λ (d : Call). IsMade n d p.noted p.done)
     (same-call calls at c p.due.0 low one p.due.1) p.due.2 in
-    let k = net-made n c to pdu p.noted p.done kind m in (
+    let k = net-made n c route pdu p.noted p.done kind m in (
       subst (λ (l : List Entry). Grew alone is_ours known l known') k.0 p.station,
       subst
           (λ (l : List RingEntry). Grew alone' (is_of n) ring l ring') k.1 p.node,
@@ -304,20 +305,21 @@ made-local-at alone alone' n calls at c op known known' ring ring' low one kind 
     let k = subst (λ (k : CallKind). MadeAs k n c.id p.noted p.done) kind m in
     (k.0, subst (λ (l : List RingEntry). Grew alone' (is_of n) ring l ring') k.2 p.node)
 
-pub ended-net : (alone alone' : Bool) (n : ℕ) (calls : List Call) (at : ℕ) (c : Call) (to : ℕ)
-    (pdu : List ℕ) (known known' known'' : List Entry) (ring ring' ring'' : List
-    RingEntry) → at < length calls → c ≡ get_or calls at c → c.kind ≡ kinds.Net to pdu
+pub ended-net : (alone alone' : Bool) (n : ℕ) (calls : List Call) (at : ℕ) (c : Call)
+    (route pdu : List ℕ) (known known' known'' : List Entry) (ring ring' ring'' : List
+    RingEntry) → at < length calls → c ≡ get_or calls at c → c.kind ≡ kinds.Net route pdu
     → PartOf alone alone' is_ours n (IsDueAt (IsMade n) calls at) known known' ring ring'
     → PartOf alone alone' is_ours n (IsGivenUp c.id) known' known'' ring' ring''
     → PartOf alone alone' is_ours n (IsDueAt (IsEnded n) calls at) known known'' ring ring''
-ended-net alone alone' n calls at c to pdu known known' known'' ring ring' ring'' low one kind a b =
+ended-net alone alone' n calls at c route pdu known known' known'' ring ring' ring'' low one kind a
+    b =
     part-both alone alone' is_ours n (IsDueAt (IsMade n) calls at) (IsGivenUp c.id)
     (IsDueAt (IsEnded n) calls at) known known' known'' ring ring' ring''
     (λ noted noted' done done' x y.
     let m = subst (λ (d : Call). IsMade n d noted done) (same-call calls at c x.0 low one x.1) x.2
     in
-    let k = net-made n c to pdu noted done kind m in
-    let ended : EndedAs (kinds.Net to pdu) n c.id (noted ++ noted') (done ++ done') =
+    let k = net-made n c route pdu noted done kind m in
+    let ended : EndedAs (kinds.Net route pdu) n c.id (noted ++ noted') (done ++ done') =
     (y.0, ap (λ l. l ++ noted') k.0 ∙ y.1, (λ i. k.1 i ++ y.2 i)) in (
       c,
       one,
@@ -343,16 +345,16 @@ ended-local alone alone' n calls at c op known known' ring ring' low one kind p 
 -- ---- the same, of sides that are the same
 
 pub net-posted : {Q : Type 0} (alone alone' : Bool) (n : ℕ) (calls : List Call) (at : ℕ) (c : Call)
-    (to : ℕ) (pdu : List ℕ) (known known' : List Entry) (side side' :
+    (route pdu : List ℕ) (known known' : List Entry) (side side' :
     RingSideIs Q) (ring ring' : List RingEntry) → at < length calls → c ≡ get_or calls at c
-    → c.kind ≡ kinds.Net to pdu → side' ≡ side → IsOwnTurn side ring n → IsLegalRing
+    → c.kind ≡ kinds.Net route pdu → side' ≡ side → IsOwnTurn side ring n → IsLegalRing
     side'.net ring' → PartOf alone alone' is_ours n (IsDueAt (IsMade n) calls at) known known' ring
-    ring' → Posted side.net n ring (request_frame c.id to pdu) ring'
-net-posted alone alone' n calls at c to pdu known known' side side' ring ring' low one kind same t
-    legal p =
-    posted-at alone' side.net n ring (request_frame c.id to pdu) ring' t.on
+    ring' → Posted side.net n ring (request_along c.id route pdu) ring'
+net-posted alone alone' n calls at c route pdu known known' side side' ring ring' low one kind same
+    t legal p =
+    posted-at alone' side.net n ring (request_along c.id route pdu) ring' t.on
     (net-as (λ (m : NetPlan). IsLegalRing m ring') side side' same legal) t.free
-    (made-net-at alone alone' n calls at c to pdu known known' ring ring' low one kind p).1
+    (made-net-at alone alone' n calls at c route pdu known known' ring ring' low one kind p).1
 
 pub record AsItWas (net : NetPlan) (n : ℕ) (ring ring' : List RingEntry) : Type 0 where
   pub part_is : part_at net n ring' ≡ part_at net n ring
@@ -375,13 +377,14 @@ local-done alone alone' n calls at c op known known' side side' ring ring' low o
     }
 
 -- both entries of a Request that is given up at once
-pub ended-before : (alone alone' : Bool) (net : NetPlan) (n : ℕ) (id : CallId) (to : ℕ)
-    (pdu : List ℕ) (known known' : List Entry) (ring ring' ring'' : List RingEntry)
-    → IsOnRing net ring n → Posted net n ring (request_frame id to pdu) ring'
+pub ended-before : (alone alone' : Bool) (net : NetPlan) (n : ℕ) (id : CallId)
+    (route pdu : List ℕ) (known known' : List Entry) (ring ring' ring'' : List RingEntry)
+    → IsOnRing net ring n → Posted net n ring (request_along id route pdu) ring'
     → PartOf alone alone' is_ours n (IsGivenUp id) known known' ring' ring''
     → calls_waiting n ring'' ≡ calls_waiting n ring
-ended-before alone alone' net n id to pdu known known' ring ring' ring'' on a b =
-    as-before net n (request_frame id to pdu) b.due.0 ring ring' ring'' refl on a.free_path a.own_is
+ended-before alone alone' net n id route pdu known known' ring ring' ring'' on a b =
+    as-before net n (request_along id route pdu) b.due.0 ring ring' ring'' refl on a.free_path
+    a.own_is
     (grew-ours alone' (is_of n) ring' b.done ring'' b.node ∙ ap (λ l. own n ring' ++ l) b.due.2)
 
 pub gone-posted : (net : NetPlan) (n : ℕ) (f : Frame) (ring ring' : List RingEntry)

@@ -49,7 +49,8 @@ module _ {M P : Type 0} (m : ram_sides.Ghosts M P) where
   -- A turn asked whether the controller is done, after this number of failures was noticed.
   abbrev pub AsksDoneOver : ℕ → List (Option Frame) → M → M → Bool → Type 0
   AsksDoneOver noticed waiting old new done =
-      AsksIfDone m.alone (m.side old).fixed noticed (IsIdle waiting) (m.known old) (m.known new) done
+      AsksIfDone m.alone (m.side old).fixed noticed (IsIdle waiting) (m.known old)
+      (m.known new) done
 
 -- ---- Both.
 
@@ -100,8 +101,8 @@ module _ {M P R Q : Type 0} (m : ram_sides.Ghosts M P) (r : ring_sides.Ghosts R 
       ram ram' ring ring'
 
   -- The call at a place was made.
-  abbrev pub MakesCallAt : ℕ → List Call → ℕ → M → M → R → R → Type 0
-  MakesCallAt n calls at ram ram' ring ring' =
+  abbrev pub Makes : ℕ → List Call → ℕ → M → M → R → R → Type 0
+  Makes n calls at ram ram' ring ring' =
       PartOver n (IsDueAt (IsMade n) calls at) ram ram' ring ring'
 
   -- The call at a place was made, and ended at once.
@@ -151,13 +152,13 @@ module _ {M P R Q : Type 0} (m : ram_sides.Ghosts M P) (r : ring_sides.Ghosts R 
       (r.side ring).net n budget (m.known ram) (m.known ram') (r.known ring) (r.known ring') left
 
   -- A node that is away asked to come in again, or not.
-  abbrev pub ComesBackOver : ℕ → M → M → R → R → Bool → Type 0
-  ComesBackOver n ram ram' ring ring' joined = ComesBack m.alone r.alone (m.side ram).fixed n
+  abbrev pub Rejoins : ℕ → M → M → R → R → Bool → Type 0
+  Rejoins n ram ram' ring ring' joined = ComesBack m.alone r.alone (m.side ram).fixed n
       (m.known ram) (m.known ram') (r.known ring) (r.known ring') joined
 
   -- A node left because power had failed this number of times, and came back or not.
-  abbrev pub GoesDownOver : ℕ → ℕ → M → M → R → R → Bool → Type 0
-  GoesDownOver n failures ram ram' ring ring' joined = GoesDown m.alone r.alone (m.side ram).fixed
+  abbrev pub LeavesDown : ℕ → ℕ → M → M → R → R → Bool → Type 0
+  LeavesDown n failures ram ram' ring ring' joined = GoesDown m.alone r.alone (m.side ram).fixed
       (r.side ring).net n failures (m.known ram) (m.known ram') (r.known ring) (r.known ring')
       joined
 

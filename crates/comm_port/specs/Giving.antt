@@ -34,7 +34,7 @@ outbox_of net n ring = (part_at net n ring).outbox
 -- has waited for its answer for as many Passes.
 abbrev pub due_by : ℕ → Bool → ℕ → ℕ → Await → Option CallId
 due_by answer here n path Nothing = None
-due_by answer here n path (Out seq to passes) =
+due_by answer here n path (Out seq to onward passes) =
     if here then (if nat_le answer passes then Some (record { node = n; path = path; seq = seq })
     else None) else Some (record { node = n; path = path; seq = seq })
 due_by answer here n path (Arrived seq) =

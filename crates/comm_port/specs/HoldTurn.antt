@@ -14,8 +14,9 @@ use Rattle.controller_core.specs.declared.entry.Entry.{Entry}
 use Rattle.controller_core.specs.declared.entry.Entry.TheVariants.{Collect, Finish}
 use Rattle.controller_core.specs.Event.{peer_entry}
 use Rattle.ring_core.specs.Machine.{NodeIs, ring_node, ring_after, path_of}
+use Rattle.ring_core.specs.Words.{request_along}
 use Rattle.ring_core.specs.Scratch.{words_put}
-use Rattle.ring_core.specs.Statistics.{is_stats}
+use Rattle.ring_core.specs.Statistics.{is_for_stats}
 use Rattle.ring_core.specs.declared.path.Await.{Await}
 use Rattle.ring_core.specs.declared.path.Await.TheVariants.{Out}
 use Rattle.ring_core.specs.declared.frame.FrameKind.{FrameKind}
@@ -30,7 +31,6 @@ pub use Rattle.comm_port.specs.Giving.{inbox_of}
 use Rattle.comm_port.specs.Giving.{due_by, each_path}
 use Rattle.comm_port.specs.Ending.{AsksIfDone}
 use Rattle.comm_port.specs.Leaving.{cause_due, HandedOn}
-use Rattle.comm_port.specs.Making.{request_frame}
 use Rattle.comm_port.specs.Parts.{InOrder, PartOf, calls_waiting}
 use Rattle.joint_history.specs.Reading.{is_ours, has_started_at}
 use Rattle.comm_port.specs.Replies.{reply_frame}
@@ -56,14 +56,14 @@ ServedAs Request false n f noted done = (reply : Option (List ℕ))
     × (noted ≡ peer_entry f.id f.pdu reply ∷ []) × (done ≡ Take n f ∷ reply_entries n f.id reply)
 
 abbrev pub IsServed : ℕ → Frame → List Entry → List RingEntry → Type 0
-IsServed n f noted done = ServedAs f.kind (is_stats f.pdu) n f noted done
+IsServed n f noted done = ServedAs f.kind (is_for_stats f) n f noted done
 
 -- ---- Second: the calls that were started are made.
 
 -- A call is made: its Request is posted; or the port does it at once, which finishes it.
 abbrev pub MadeAs : CallKind → ℕ → CallId → List Entry → List RingEntry → Type 0
-MadeAs (kinds.Net to pdu) n id noted done =
-    (noted ≡ []) × (done ≡ Post n (request_frame id to pdu) ∷ [])
+MadeAs (kinds.Net route pdu) n id noted done =
+    (noted ≡ []) × (done ≡ Post n (request_along id route pdu) ∷ [])
 MadeAs (kinds.Local op) n id noted done = (result : MstrResult)
     × (noted ≡ Finish id result ∷ []) × (done ≡ Local n id op result ∷ [])
 
@@ -103,7 +103,8 @@ pub record SendsAll (alone_ram alone_ring : Bool) (net : NetPlan) (n : ℕ)
 
 -- The call of a path that has waited for an answer for as many Passes of its node.
 abbrev pub overdue_by : ℕ → ℕ → ℕ → Await → Option CallId
-overdue_by answer n path (Out seq to passes) = due_by answer true n path (Out seq to passes)
+overdue_by answer n path (Out seq to onward passes) =
+    due_by answer true n path (Out seq to onward passes)
 overdue_by answer n path _ = None
 
 abbrev pub overdue_on : NetPlan → ℕ → NodeIs → ℕ → Option CallId
@@ -166,8 +167,8 @@ pub record WorksTurn (alone_ram alone_ring : Bool) (fixed : Fixed) (net : NetPla
 
 -- A call is made and ended at once: a Request is posted, given up and finished with that word.
 abbrev pub EndedAs : CallKind → ℕ → CallId → List Entry → List RingEntry → Type 0
-EndedAs (kinds.Net to pdu) n id noted done = (word : ℕ) × (noted ≡ Finish id (Bad word) ∷ [])
-    × (done ≡ Post n (request_frame id to pdu) ∷ GiveUp id word ∷ [])
+EndedAs (kinds.Net route pdu) n id noted done = (word : ℕ) × (noted ≡ Finish id (Bad word) ∷ [])
+    × (done ≡ Post n (request_along id route pdu) ∷ GiveUp id word ∷ [])
 EndedAs (kinds.Local op) n id noted done = MadeAs (kinds.Local op) n id noted done
 
 abbrev pub IsEnded : ℕ → Call → List Entry → List RingEntry → Type 0

@@ -11,7 +11,8 @@ use Rattle.mstr_block.specs.declared.call.MstrResult.{MstrResult}
 use Rattle.ring_core.specs.Machine.{NodeIs, path_of, path_places, ring_after}
 use Rattle.ring_core.specs.Machine.{ring_node}
 use Rattle.ring_core.specs.Scratch.{words_put}
-use Rattle.ring_core.specs.Statistics.{is_stats}
+use Rattle.ring_core.specs.Statistics.{is_for_stats}
+use Rattle.ring_core.specs.Words.{frame_route, is_onward}
 use Rattle.ring_core.specs.declared.frame.FrameKind.{FrameKind}
 use Rattle.ring_core.specs.declared.frame.FrameKind.TheVariants.{Request, Reply}
 use Rattle.ring_core.specs.declared.frame.Frame.{Frame}
@@ -81,7 +82,7 @@ pub record EndsWithPass (n : ℕ) (done : Bool) (b : List RingEntry) : Type 0 wh
   pub is : b ≡ front ++ Pass n done words ∷ []
 
 -- A worker stands between its host and the ring, before the last entry of the node, a Take of this
--- frame.
+-- frame, which goes no further.
 pub record HostTaking {Q : Type 0} (n : ℕ) (f : Frame) (host : HostIs) (side : RingSideIs Q)
     (ring : List RingEntry) : Type 0 where
   pub before : List RingEntry
@@ -91,6 +92,7 @@ pub record HostTaking {Q : Type 0} (n : ℕ) (f : Frame) (host : HostIs) (side :
   pub own_turn : IsOwnTurn side ring n
   pub tied : Tied AHost (host_items_of host.history) before
   pub paths : PathsAgree host.history before
+  pub rest : f.rest ≡ []
   pub request : f.kind ≡ Request → f.id.node ≢ n
   pub reply : f.kind ≡ Reply → is_unanswered host.history f.id ≡ true
 
@@ -134,7 +136,7 @@ host_notes_of_request false f = Served f.id f.pdu (refusal_to f.pdu) ∷ []
 
 abbrev pub host_notes_of_kind : FrameKind → Frame → List HostEntry
 host_notes_of_kind Reply f = Answer f.id (results.Reply f.pdu) ∷ []
-host_notes_of_kind Request f = host_notes_of_request (is_stats f.pdu) f
+host_notes_of_kind Request f = host_notes_of_request (is_for_stats f) f
 
 abbrev pub host_notes_of : Frame → List HostEntry
 host_notes_of f = host_notes_of_kind f.kind f
@@ -155,7 +157,7 @@ ServesRequest false n f entries =
 
 abbrev pub ServesKind : FrameKind → ℕ → Frame → List RingEntry → Type 0
 ServesKind Reply n f entries = entries ≡ Take n f ∷ []
-ServesKind Request n f entries = ServesRequest (is_stats f.pdu) n f entries
+ServesKind Request n f entries = ServesRequest (is_for_stats f) n f entries
 
 abbrev pub ServesFrame : ℕ → Frame → List RingEntry → Type 0
 ServesFrame n f entries = ServesKind f.kind n f entries
@@ -185,7 +187,7 @@ pub record ServesInbox (alone : Bool) (net : NetPlan) (n : ℕ)
 -- ---- Second: requests are made.
 
 abbrev pub ask_entry_of : Frame → HostEntry
-ask_entry_of f = Ask f.id f.to f.pdu
+ask_entry_of f = Ask f.id (frame_route f) f.pdu
 
 -- These Requests were made and posted in their order: each was the one that was due behind those
 -- before it, which is the next of the plan, on the least free path.
@@ -309,7 +311,7 @@ looked_at Busy fresh = fresh
 -- A path's call has not failed, nor waited for a Pass.
 abbrev pub IsRecent : Await → Type 0
 IsRecent Nothing = Unit {0}
-IsRecent (Out seq to passes) = passes ≡ 0
+IsRecent (Out seq to onward passes) = passes ≡ 0
 IsRecent (Arrived seq) = Unit {0}
 IsRecent (Failed seq word) = ⊥
 
@@ -327,7 +329,7 @@ pub record AskedOnce (alone : Bool) (net : NetPlan) (n hold : ℕ) (path : ℕ) 
   pub path_is : ask.id.path ≡ path
   pub is_path : IsPath path
   pub out : path_of (ring_node (ring_after net new_ring) n) path
-      ≡ record { awaits = Out ask.id.seq ask.to 0; posted = ask.id.seq }
+      ≡ record { awaits = Out ask.id.seq ask.to (is_onward ask) 0; posted = ask.id.seq }
   pub others : (p : ℕ) → p ≢ path → path_of (ring_node (ring_after net new_ring) n) p
       ≡ path_of (ring_node (ring_after net ring) n) p
   pub fewer : asks_left new < asks_left old

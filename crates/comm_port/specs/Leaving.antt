@@ -18,7 +18,8 @@ is_due net r n cause =
     nat_le due.needed due.held
 
 -- Why a node leaves at the end of its turn, if it does: its Passes are spent, and it keeps to a
--- budget; or it is done, and all members have been for long enough.
+-- budget; or it is done, and it and all members that are not ends of bridges have been for long
+-- enough.
 abbrev pub cause_due : NetPlan → RingIs → ℕ → Bool → Bool → Option LeaveCause
 cause_due net r n done budget =
     if budget && is_due net r n Spent then Some Spent
@@ -35,7 +36,7 @@ pub record StoodStill (alone : Bool) (net : NetPlan) (n : ℕ) (old new : List R
   pub grew : Grew alone (is_of n) old [] new
   pub holds : Holds net new n
   pub part : ring_node (ring_after net new) n ≡ ring_node (ring_after net old) n
-  pub quiet : quiet_for (ring_after net new) n ≡ quiet_for (ring_after net old) n
+  pub quiet : quiet_for net (ring_after net new) n ≡ quiet_for net (ring_after net old) n
 
 -- A node has not left.
 abbrev pub IsHere : NetPlan → List RingEntry → ℕ → Type 0

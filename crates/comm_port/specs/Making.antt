@@ -5,7 +5,6 @@ use Rattle.mstr_block.specs.declared.call.MstrResult.{MstrResult}
 use Rattle.controller_core.specs.declared.call.Call.{Call}
 use Rattle.controller_core.specs.declared.entry.Entry.{Entry}
 use Rattle.controller_core.specs.declared.entry.Entry.TheVariants.{Finish}
-use Rattle.ring_core.specs.declared.frame.FrameKind.TheVariants.{Request}
 use Rattle.ring_core.specs.declared.frame.Frame.{Frame}
 use Rattle.ring_core.specs.declared.entry.LocalOp.{LocalOp}
 use Rattle.ring_core.specs.declared.entry.RingEntry.{RingEntry}
@@ -16,10 +15,6 @@ use Rattle.tied_lists.specs.Calls.{AreNewCalls}
 use Rattle.comm_port.specs.Sides.{RingSideIs, RamSideIs}
 use Rattle.joint_history.specs.Reading.{is_ours, called_of, items_of}
 use Rattle.comm_port.specs.Turns.{Turning}
-
--- The frame of a Request.
-abbrev pub request_frame : CallId → ℕ → List ℕ → Frame
-request_frame id to pdu = record { kind = Request; to = to; id = id; pdu = pdu }
 
 -- The calls from a place on, as the laws read them.
 abbrev pub calls_from : List Call → ℕ → List Called

@@ -10,9 +10,9 @@ use Rattle.ring_core.specs.declared.entry.RingEntry.TheVariants.{Post, Local}
 use Rattle.tied_lists.specs.Own.{is_of, Grew}
 use Rattle.tied_lists.specs.Items.{request_of, reply_of}
 
--- The frame of a Reply.
+-- The frame of a Reply, which goes no further.
 abbrev pub reply_frame : CallId → List ℕ → Frame
-reply_frame id pdu = record { kind = Reply; to = id.node; id = id; pdu = pdu }
+reply_frame id pdu = record { kind = Reply; to = id.node; rest = []; id = id; pdu = pdu }
 
 -- The port answered a request for statistics: by an operation for it, and a Reply that tells what
 -- that came to.

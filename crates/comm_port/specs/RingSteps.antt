@@ -23,7 +23,7 @@ use Rattle.comm_port.specs.Replies.{TellsStatistics}
 use Rattle.comm_port.specs.Sending.{sends_left, SentOrAll, GaveUp}
 use Rattle.comm_port.specs.Sides.{KeepsForOne}
 use Rattle.comm_port.specs.Stands.{RingStands}
-use Rattle.comm_port.specs.Turns.{IsOwnTurn, KeepsInbox}
+use Rattle.comm_port.specs.Turns.{IsOwnTurn, IsNoBridge, KeepsInbox}
 use Rattle.comm_port.specs.Visiting.{GivesCall}
 
 module _ {R Q : Type 0} (r : ring_sides.Ghosts R Q) where
@@ -65,6 +65,10 @@ module _ {R Q : Type 0} (r : ring_sides.Ghosts R Q) where
   -- The side serves a node of its plan, whose boxes and paths nobody else changes.
   abbrev pub OwnTurnAt : ℕ → R → Type 0
   OwnTurnAt n s = IsOwnTurn (r.side s) (r.known s) n
+
+  -- A node is not the end of a bridge.
+  abbrev pub IsNoBridgeAt : ℕ → R → Type 0
+  IsNoBridgeAt n s = IsNoBridge (r.side s).net n
 
   -- A node holds the token.
   abbrev pub HoldsAt : ℕ → R → Type 0

@@ -1,9 +1,9 @@
 -- What a worker stands on at each part of a turn. This project's own.
-use Rattle.std.specs.Prelude.{◌≡◌, ◌≢◌, ℕ, ◌<◌, List, [], ◌∷◌, ◌++◌, length, get_or, Option}
-use Rattle.std.specs.Prelude.{Some, None}
+use Rattle.std.specs.Prelude.{◌≡◌, ◌≢◌, ℕ, ◌<◌, false, List, [], ◌∷◌, ◌++◌, length, get_or}
+use Rattle.std.specs.Prelude.{Option, Some, None}
 use Rattle.plant_types.specs.declared.net.NetPlan.{NetPlan}
 use Rattle.controller_core.specs.declared.entry.Entry.{Entry}
-use Rattle.ring_core.specs.Machine.{path_places, ring_node, ring_after}
+use Rattle.ring_core.specs.Machine.{path_places, ring_node, ring_after, is_bridge}
 use Rattle.ring_core.specs.declared.frame.FrameKind.TheVariants.{Request, Reply}
 use Rattle.ring_core.specs.declared.frame.Frame.{Frame}
 use Rattle.ring_core.specs.declared.entry.RingEntry.{RingEntry}
@@ -15,6 +15,10 @@ use Rattle.tied_lists.specs.Calls.{IsOutAs}
 use Rattle.tied_lists.specs.Waits.{waiting as waits_on, IsAsk, IsOnRing, Holds, IsFree}
 use Rattle.comm_port.specs.Sides.{RingSideIs, RamSideIs, MayWrite}
 use Rattle.joint_history.specs.Reading.{items_of}
+
+-- A node is not the end of a bridge: it doesn't stand in the plan's list of those.
+abbrev pub IsNoBridge : NetPlan → ℕ → Type 0
+IsNoBridge net n = is_bridge net n ≡ false
 
 -- The ring's side serves a node of its plan, whose boxes and paths nobody else changes.
 pub record IsOwnTurn {Q : Type 0} (side : RingSideIs Q) (ring : List RingEntry) (n : ℕ)
@@ -51,7 +55,7 @@ pub record Turning {P Q : Type 0} (n : ℕ) (rest : List Called) (ram : RamSideI
   pub waits : AreWaiting n (items_of known) (own n ring) waiting
 
 -- A worker stands between its controller and the ring, before the last entry of the node, a Take of
--- this frame.
+-- this frame, which goes no further.
 pub record Taking {P Q : Type 0} (n : ℕ) (f : Frame) (ram : RamSideIs P) (known : List Entry)
     (side : RingSideIs Q) (ring : List RingEntry) (waiting : List (Option Frame)) : Type 0 where
   pub before : List RingEntry
@@ -60,6 +64,7 @@ pub record Taking {P Q : Type 0} (n : ℕ) (f : Frame) (ram : RamSideIs P) (know
   pub own_turn : IsOwnTurn side ring n
   pub tied : TiedBut AController [] (items_of known) before
   pub waits : AreWaiting n (items_of known) before waiting
+  pub rest : f.rest ≡ []
   pub request : f.kind ≡ Request → f.id.node ≢ n
   pub reply : f.kind ≡ Reply
       → (ask : Frame) × (waits_on f.id.path before ≡ Some ask) × (ask.id ≡ f.id) × (f.id.path <

@@ -8,10 +8,9 @@ ghost use Rattle.ring_core.specs.declared.entry.RingEntry.TheVariants.{Post};
 ghost use Rattle.tied_lists.specs.Calls.{IsOut};
 ghost use Rattle.comm_port.specs.Order.{IsCalling};
 ghost use Rattle.joint_history.specs.Reading.{items_of};
-ghost use Rattle.comm_port.specs.Making.{request_frame};
 ghost use Rattle.comm_port.specs.RingSteps.{AddsOver, GrewBy, KeepsInboxOver, OwnTurnAt};
 ghost use Rattle.comm_port.specs.RingSteps.{RingStep, node_at};
-ghost use Rattle.comm_port.specs.BothSteps.{BothStep, DoesOver, MakesCallAt, MakesAll, Owes};
+ghost use Rattle.comm_port.specs.BothSteps.{BothStep, DoesOver, Makes, MakesAll, Owes};
 ghost use Rattle.comm_port.specs.BothSteps.{TurningBetween};
 
 use crate::asking::{do_local, post_frame};
@@ -21,20 +20,9 @@ use crate::short::Short;
 use crate::waiting::Waiting;
 use controller_core::{Call, CallKind};
 use mstr_block::CallId;
-use plant_types::{Copied, Pdu};
-use ring_core::{Frame, FrameKind, LocalOp};
+use plant_types::Copied;
+use ring_core::{Frame, LocalOp};
 use std::alloc::Global;
-
-fn request_frame(id: CallId, to: u8, pdu: Pdu) -> Frame
-    ensures { result ≡ request_frame id to pdu }
-{
-    Frame {
-        kind: FrameKind::Request,
-        to,
-        id,
-        pdu,
-    }
-}
 
 /// Posts a Request, for which its path waits from then on.
 pub(crate) fn post_call<R: RingSide>(
@@ -100,13 +88,13 @@ pub(crate) fn make_call<M: RamSide, R: RingSide>(
     ensures kept { OnOk result (KeepsInboxOver R.RingSide node ring.old ring.new) }
     ensures ring_adds { OnOk result (AddsOver R.RingSide node (IsCalling node) ring.old ring.new) }
     ensures made { OnOk result
-        (MakesCallAt M.RamSide R.RingSide node calls.now at ram.old ram.new ring.old ring.new) }
+        (Makes M.RamSide R.RingSide node calls.now at ram.old ram.new ring.old ring.new) }
     ensures step { BothStep M.RamSide R.RingSide node ram.old ram.new ring.old ring.new }
 {
     let call = &calls[at];
     match &call.kind {
-        CallKind::Net { to, pdu } => {
-            let frame = request_frame(call.id, *to, pdu.copied(alloc)?);
+        CallKind::Net { route, pdu } => {
+            let frame = Frame::request(call.id, *route, pdu.copied(alloc)?);
             post_call(alloc, node, waiting, frame, ring)?;
         }
         CallKind::Local(op) => do_call(node, call.id, op.copied(alloc)?, ram, ring)?,

@@ -1,7 +1,7 @@
 //! Power that failed: the node leaves, gives up its calls, and comes back once there is power.
 ghost use Rattle.std.specs.Prelude.{◌≡◌, ◌<◌, OnOk, IfOk};
 ghost use Rattle.ring_core.specs.declared.entry.LeaveCause.TheVariants.{Down};
-ghost use Rattle.comm_port.specs.BothSteps.{BothStep, ComesBackOver, GoesDownOver};
+ghost use Rattle.comm_port.specs.BothSteps.{BothStep, Rejoins, LeavesDown};
 ghost use Rattle.comm_port.specs.BothSteps.{HaveFailed, RestedBetween, TurningBetween};
 ghost use Rattle.comm_port.specs.RingSteps.{AwayAfter, HoldsAt, IsAwayAt, LeftOver, OwnTurnAt};
 ghost use Rattle.comm_port.specs.RingSteps.{RestsAfter, RestsAt, RingStep, down_at};
@@ -38,7 +38,7 @@ pub(crate) fn come_back<M: RamSide, R: RingSide>(
     requires turn { OwnTurnAt R.RingSide node ring.old }
     requires away { IsAwayAt R.RingSide node ring.old }
     ensures came { IfOk result
-        (ComesBackOver M.RamSide R.RingSide node ram.old ram.new ring.old ring.new) }
+        (Rejoins M.RamSide R.RingSide node ram.old ram.new ring.old ring.new) }
     ensures step { BothStep M.RamSide R.RingSide node ram.old ram.new ring.old ring.new }
 {
     if ram.is_off() {
@@ -69,7 +69,7 @@ pub(crate) fn go_down<M: RamSide, R: RingSide>(
     ensures noticed { OnOk result (failures ≡ down_at R.RingSide node ring.new) }
     ensures rest { OnOk result (RestsAfter R.RingSide node ring.old ring.new) }
     ensures down { IfOk result
-        (GoesDownOver M.RamSide R.RingSide node failures ram.old ram.new ring.old ring.new) }
+        (LeavesDown M.RamSide R.RingSide node failures ram.old ram.new ring.old ring.new) }
     ensures step { BothStep M.RamSide R.RingSide node ram.old ram.new ring.old ring.new }
 {
     leave_down(node, failures, ring)?;

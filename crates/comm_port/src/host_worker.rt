@@ -1,7 +1,7 @@
 //! A host's hold turn.
 ghost use Rattle.std.specs.Prelude.{◌≡◌, ◌<◌, min, true, false, [], ◌∷◌, OnOk, OnErr, IfOk};
 ghost use Rattle.ring_core.specs.Legal.{IsLegalRing, IsPath};
-ghost use Rattle.ring_core.specs.Statistics.{is_stats};
+ghost use Rattle.ring_core.specs.Statistics.{is_for_stats};
 ghost use Rattle.host_port.specs.Legal.{IsHostHistory};
 ghost use Rattle.comm_port.specs.Giving.{is_chosen};
 ghost use Rattle.comm_port.specs.HostTurns.{after_turn, CountsPasses, AreRecent, hold_of};
@@ -12,9 +12,9 @@ ghost use Rattle.comm_port.specs.HostSteps.{HostMeets, HostStep, HostTakingAt, H
 ghost use Rattle.comm_port.specs.HostSteps.{HostTiesAt, HostTurningAfter, HostTurningAt, PassedAt};
 ghost use Rattle.comm_port.specs.HostSteps.{SendsOutOver, SendsOver, ServesInboxOver};
 ghost use Rattle.comm_port.specs.RingSteps.{HasLeftAfter, HasLeftAt, HoldsAfter, HoldsAt};
-ghost use Rattle.comm_port.specs.RingSteps.{IsHereAfter, KeepsInboxOver, SendsFewer, SendsNoMore};
+ghost use Rattle.comm_port.specs.RingSteps.{IsHereAfter, IsNoBridgeAt, KeepsInboxOver, SendsFewer};
 ghost use Rattle.comm_port.specs.RingSteps.{StaysAway, node_after, node_at, outbox_after, IsHereAt};
-ghost use Rattle.comm_port.specs.RingSteps.{RestsAt};
+ghost use Rattle.comm_port.specs.RingSteps.{RestsAt, SendsNoMore};
 
 use crate::leaving::hand_on;
 use crate::paths::ALL_PATHS;
@@ -26,7 +26,7 @@ use crate::taking::take_next;
 use host_port::{Host, HostResult};
 use mstr_block::CallId;
 use plant_types::{NETWORK_PATHS, NetPlan, PATH_PLACES};
-use ring_core::{Frame, FrameKind, Heard, is_stats};
+use ring_core::{Frame, FrameKind, Heard};
 use std::alloc::{AllocError, Global};
 use std::marker::Model;
 
@@ -52,7 +52,7 @@ fn answer_request<R: RingSide>(
 ) -> Result<(), Short>
     requires taking { HostTakingAt R.RingSide node request.now host.old ring.old }
     requires kind { request.now.kind ≡ FrameKind.Request }
-    requires plain { is_stats request.now.pdu ≡ false }
+    requires plain { is_for_stats request.now ≡ false }
     ensures turning { OnOk result (HostTurningAfter R.RingSide node host.new ring.old ring.new) }
     ensures kept { OnOk result (KeepsInboxOver R.RingSide node ring.old ring.new) }
     ensures served { OnOk result
@@ -74,7 +74,7 @@ fn answer_port<R: RingSide>(
 ) -> Result<(), Short>
     requires taking { HostTakingAt R.RingSide node request.now host.now ring.old }
     requires kind { request.now.kind ≡ FrameKind.Request }
-    requires stats { is_stats request.now.pdu ≡ true }
+    requires stats { is_for_stats request.now ≡ true }
     ensures turning { OnOk result (HostTurningAfter R.RingSide node host.now ring.old ring.new) }
     ensures kept { OnOk result (KeepsInboxOver R.RingSide node ring.old ring.new) }
     ensures served { OnOk result
@@ -103,7 +103,7 @@ fn serve<R: RingSide>(
     match frame.kind {
         FrameKind::Reply => end_call(node, frame, host, ring),
         FrameKind::Request => {
-            if is_stats(&frame.pdu) {
+            if frame.is_for_stats() {
                 answer_port(alloc, node, &frame, host, ring)
             } else {
                 answer_request(node, &frame, host, ring)
@@ -121,6 +121,7 @@ fn serve_inbox<R: RingSide>(
 ) -> Result<(), Short>
     requires turning { HostTurningAt R.RingSide node host.old ring.old }
     requires holds { HoldsAt R.RingSide node ring.old }
+    requires no_bridge { IsNoBridgeAt R.RingSide node ring.old }
     ensures turning { OnOk result (HostTurningAfter R.RingSide node host.new ring.old ring.new) }
     ensures holds { OnOk result (HoldsAfter R.RingSide node ring.old ring.new) }
     ensures served { OnOk result
@@ -355,6 +356,7 @@ fn turn<R: RingSide>(
 ) -> Result<bool, Short>
     requires turning { HostTurningAt R.RingSide node host.old ring.old }
     requires holds { HoldsAt R.RingSide node ring.old }
+    requires no_bridge { IsNoBridgeAt R.RingSide node ring.old }
     requires wait { 0 < (R.side ring.old).net.answer }
     requires hold { hold ≡ min (hold_of node (R.known ring.old)) 4294967295 }
     ensures ties { OnOk result (HostTiesAfter R.RingSide node host.new ring.old ring.new) }
@@ -410,8 +412,9 @@ impl HostWorker {
 
     /// One hold of the token: takes what came, makes the requests that are due, sends, gives up the
     /// calls whose time has come, and then leaves the ring or passes the token on. The answer is
-    /// whether the node left. The only error is that memory ran out: then the entries made so far
-    /// stand, both lists are legal and the hold is not counted, but nothing is said of the laws.
+    /// whether the node left. The node is not the end of a bridge. The only error is that memory
+    /// ran out: then the entries made so far stand, both lists are legal and the hold is not
+    /// counted, but nothing is said of the laws.
     pub fn hold_turn<R: RingSide>(
         &mut self,
         host: &mut Host,
@@ -419,6 +422,7 @@ impl HostWorker {
     ) -> Result<bool, AllocError>
         requires ties { HostTiesAt R.RingSide self.old.node host.old ring.old }
         requires holds { HoldsAt R.RingSide self.old.node ring.old }
+        requires no_bridge { IsNoBridgeAt R.RingSide self.old.node ring.old }
         requires counts { CountsPasses self.old (R.known ring.old) }
         ensures ties { OnOk result (HostTiesAt R.RingSide self.new.node host.new ring.new) }
         ensures passed { IfOk result

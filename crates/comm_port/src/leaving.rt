@@ -50,13 +50,9 @@ fn leave_if<R: RingSide>(
 }
 
 /// Ends the turn; whether the node left. It leaves where it keeps to a budget and its Passes are
-/// spent, or where it is done and all members have been for long enough.
-pub(crate) fn hand_on<R: RingSide>(
-    node: u8,
-    done: bool,
-    budget: bool,
-    ring: &mut R,
-) -> Result<bool, Short>
+/// spent, or where it is done, and it and all members that are not ends of bridges have been for
+/// long enough.
+pub fn hand_on<R: RingSide>(node: u8, done: bool, budget: bool, ring: &mut R) -> Result<bool, Short>
     requires turn { OwnTurnAt R.RingSide node ring.old }
     requires holds { HoldsAt R.RingSide node ring.old }
     requires sent { (node_at R.RingSide node ring.old).outbox ≡ [] }

@@ -23,7 +23,13 @@ mod waiting;
 mod worker;
 
 pub use host_worker::HostWorker;
+pub use leaving::hand_on;
+pub use paths::ALL_PATHS;
 pub use ram_side::RamSide;
+pub use replies::{post_reply, tell_statistics};
 pub use ring_side::RingSide;
+pub use sending::{give_up_on, send_next};
+pub use short::Short;
+pub use taking::take_next;
 pub use turn_end::TurnEnd;
 pub use worker::CommWorker;

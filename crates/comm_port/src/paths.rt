@@ -2,4 +2,4 @@
 use plant_types::PATH_PLACES;
 
 /// All paths are chosen.
-pub(crate) const ALL_PATHS: [bool; PATH_PLACES] = [true; PATH_PLACES];
+pub const ALL_PATHS: [bool; PATH_PLACES] = [true; PATH_PLACES];

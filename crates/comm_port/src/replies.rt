@@ -15,7 +15,7 @@ use crate::ring_side::RingSide;
 use crate::short::Short;
 use modbus_pdu::{Reply, encode_reply};
 use mstr_block::CallId;
-use plant_types::{Pdu, Words};
+use plant_types::{Pdu, Route, Words};
 use ring_core::{Frame, FrameKind, GET_STATISTICS, LocalOp};
 use std::alloc::{AllocError, Global};
 
@@ -25,18 +25,14 @@ fn reply_frame(id: CallId, pdu: Pdu) -> Frame
     Frame {
         kind: FrameKind::Reply,
         to: id.node,
+        rest: Route::of(&[]),
         id,
         pdu,
     }
 }
 
 /// Posts a Reply to another node's call.
-pub(crate) fn post_reply<R: RingSide>(
-    node: u8,
-    id: CallId,
-    pdu: Pdu,
-    ring: &mut R,
-) -> Result<(), Short>
+pub fn post_reply<R: RingSide>(node: u8, id: CallId, pdu: Pdu, ring: &mut R) -> Result<(), Short>
     requires turn { OwnTurnAt R.RingSide node ring.old }
     requires other { id.node ≢ node }
     ensures grew { OnOk result
@@ -71,7 +67,7 @@ fn statistics_reply(alloc: Global, words: &[u16]) -> Result<Pdu, AllocError>
 }
 
 /// Answers another node's request for statistics.
-pub(crate) fn tell_statistics<R: RingSide>(
+pub fn tell_statistics<R: RingSide>(
     alloc: Global,
     node: u8,
     request: &Frame,

@@ -1,6 +1,6 @@
 //! The ring as a station's worker has it: by itself, or behind a gate that others pass too.
 ghost use Rattle.std.specs.Prelude.{◌≡◌, ◌∷◌, [], ℕ, List, Bool, true, None, IfOk};
-ghost use Rattle.ring_core.specs.Machine.{ring_after};
+ghost use Rattle.ring_core.specs.Machine.{ring_after, only_bridges};
 ghost use Rattle.ring_core.specs.Refusals.{post_no, send_no, turn_no, free_no, pass_no, quiet_for};
 ghost use Rattle.ring_core.specs.Legal.{IsMember, IsPath, IsFrom, IsNextNumber, HasRoom};
 ghost use Rattle.ring_core.specs.Legal.{IsLegalRing};
@@ -79,7 +79,7 @@ pub trait RingSide {
         requires member { IsMember (side self.old).net node }
         requires room { HasRoom op }
         ensures went { CallAdds alone known room node self.old self.new result
-            (λ given. Local node id op given ∷ []) }
+            (λ got. Local node id op got ∷ []) }
         ensures legal { IsLegalRing (side self.old).net (known self.new) }
         ensures refused { IsRefusedFor
             (free_no (ring_after (side self.old).net (known self.new)) node) result }
@@ -114,11 +114,23 @@ pub trait RingSide {
         ensures legal { IsLegalRing (side self.old).net (known self.new) }
         ensures same { side self.new ≡ side self.old };
 
-    /// For how many Passes in a row every member has been done; 0 where the node has left.
+    /// For how many Passes in a row a node itself, and every member that is not the end of a
+    /// bridge, has been done; 0 where the node has left.
     fn quiet(&mut self, node: u8) -> u64
         requires serves { MayWrite (side self.old).writer node }
         requires member { IsMember (side self.old).net node }
-        ensures answer { result ≡ quiet_for (ring_after (side self.old).net (known self.new)) node }
+        ensures answer { result ≡ quiet_for (side self.old).net
+            (ring_after (side self.old).net (known self.new)) node }
+        ensures went { AddsNothing alone known room node self.old self.new }
+        ensures legal { IsLegalRing (side self.old).net (known self.new) }
+        ensures same { side self.new ≡ side self.old };
+
+    /// Whether every other node that is a member, or asks to be one, is the end of a bridge.
+    fn only_bridges(&mut self, node: u8) -> bool
+        requires serves { MayWrite (side self.old).writer node }
+        requires member { IsMember (side self.old).net node }
+        ensures answer { result ≡ only_bridges (side self.old).net
+            (ring_after (side self.old).net (known self.new)).nodes node }
         ensures went { AddsNothing alone known room node self.old self.new }
         ensures legal { IsLegalRing (side self.old).net (known self.new) }
         ensures same { side self.new ≡ side self.old };
@@ -217,6 +229,11 @@ impl RingSide for Ring {
     fn quiet(&mut self, node: u8) -> u64 {
         let _ = self.history();
         Ring::quiet(self, node)
+    }
+
+    fn only_bridges(&mut self, node: u8) -> bool {
+        let _ = self.history();
+        Ring::only_bridges(self, node)
     }
 
     fn pass(&mut self, node: u8, done: bool) -> Result<(), RingNo> {

@@ -10,7 +10,7 @@ use mstr_block::CallId;
 use ring_core::{Heard, RingNo};
 
 /// Sends the next frame, and answers what was heard; none exactly where nothing is to be sent.
-pub(crate) fn send_next<R: RingSide>(node: u8, ring: &mut R) -> Result<Option<Heard>, Short>
+pub fn send_next<R: RingSide>(node: u8, ring: &mut R) -> Result<Option<Heard>, Short>
     requires turn { OwnTurnAt R.RingSide node ring.old }
     requires holds { HoldsAt R.RingSide node ring.old }
     ensures sent { IfOk result (SentOrAllOver R.RingSide node ring.old ring.new) }
@@ -33,7 +33,7 @@ fn wants_memory(why: RingNo) -> bool
 }
 
 /// Gives a call up, and answers its error word; none where the ring refuses that.
-pub(crate) fn give_up_on<R: RingSide>(id: CallId, ring: &mut R) -> Result<Option<u16>, Short>
+pub fn give_up_on<R: RingSide>(id: CallId, ring: &mut R) -> Result<Option<u16>, Short>
     requires turn { OwnTurnAt R.RingSide id.node ring.old }
     requires path { IsPath id.path }
     ensures given { IfOk result (GaveUpOver R.RingSide id ring.old ring.new) }

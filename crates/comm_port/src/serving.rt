@@ -1,9 +1,9 @@
 //! The first part of a controller's turn: what came is taken and answered.
 ghost use Rattle.std.specs.Prelude.{◌≡◌, [], true, false, OnOk};
-ghost use Rattle.ring_core.specs.Statistics.{is_stats};
+ghost use Rattle.ring_core.specs.Statistics.{is_for_stats};
 ghost use Rattle.comm_port.specs.Order.{IsServing};
-ghost use Rattle.comm_port.specs.RingSteps.{AddsOver, HoldsAt, KeepsInboxOver, RingStep};
-ghost use Rattle.comm_port.specs.RingSteps.{inbox_after};
+ghost use Rattle.comm_port.specs.RingSteps.{AddsOver, HoldsAt, IsNoBridgeAt, KeepsInboxOver};
+ghost use Rattle.comm_port.specs.RingSteps.{RingStep, inbox_after};
 ghost use Rattle.comm_port.specs.BothSteps.{BothStep, Meets, RamStep, ServesAll};
 ghost use Rattle.comm_port.specs.BothSteps.{TakingBetween, TurningBetween};
 
@@ -14,7 +14,7 @@ use crate::short::Short;
 use crate::taking::take_next;
 use crate::waiting::Waiting;
 use reply_laws::result_of;
-use ring_core::{Frame, FrameKind, is_stats};
+use ring_core::{Frame, FrameKind};
 use std::alloc::Global;
 
 /// Ends the call that a Reply is to.
@@ -50,7 +50,7 @@ fn answer_request<M: RamSide, R: RingSide>(
     requires taking { TakingBetween M.RamSide R.RingSide node request.now ram.old ring.old
         waiting.now }
     requires kind { request.now.kind ≡ FrameKind.Request }
-    requires plain { is_stats request.now.pdu ≡ false }
+    requires plain { is_for_stats request.now ≡ false }
     ensures turning { OnOk result
         (TurningBetween M.RamSide R.RingSide node ram.new ring.new waiting.now) }
     ensures kept { OnOk result (KeepsInboxOver R.RingSide node ring.old ring.new) }
@@ -77,7 +77,7 @@ fn answer_port<M: RamSide, R: RingSide>(
     requires taking { TakingBetween M.RamSide R.RingSide node request.now ram.now ring.old
         waiting.now }
     requires kind { request.now.kind ≡ FrameKind.Request }
-    requires stats { is_stats request.now.pdu ≡ true }
+    requires stats { is_for_stats request.now ≡ true }
     ensures turning { OnOk result
         (TurningBetween M.RamSide R.RingSide node ram.now ring.new waiting.now) }
     ensures kept { OnOk result (KeepsInboxOver R.RingSide node ring.old ring.new) }
@@ -113,7 +113,7 @@ fn serve<M: RamSide, R: RingSide>(
     match frame.kind {
         FrameKind::Reply => end_call(node, waiting, frame, ram, ring)?,
         FrameKind::Request => {
-            if is_stats(&frame.pdu) {
+            if frame.is_for_stats() {
                 answer_port(alloc, node, waiting, frame, ram, ring)?;
             } else {
                 answer_request(node, waiting, frame, ram, ring)?;
@@ -133,6 +133,7 @@ pub(crate) fn serve_inbox<M: RamSide, R: RingSide>(
 ) -> Result<(), Short>
     requires turning { TurningBetween M.RamSide R.RingSide node ram.old ring.old waiting.old }
     requires holds { HoldsAt R.RingSide node ring.old }
+    requires no_bridge { IsNoBridgeAt R.RingSide node ring.old }
     ensures turning { OnOk result
         (TurningBetween M.RamSide R.RingSide node ram.new ring.new waiting.new) }
     ensures holds { OnOk result (HoldsAt R.RingSide node ring.new) }

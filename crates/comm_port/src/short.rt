@@ -7,13 +7,13 @@ use std::alloc::AllocError;
 /// Memory is short. A turn's calls on the ring are refused for nothing else. It is made here alone,
 /// from a want of memory.
 #[derive(Debug, Drop)]
-pub(crate) struct Short {
+pub struct Short {
     made: (),
 }
 
 impl Short {
     /// A call on the ring was refused because memory ran out.
-    pub(crate) fn of(why: RingNo) -> Short
+    pub fn of(why: RingNo) -> Short
         requires { why ≡ RingNo.NoMemory }
     {
         let _ = why;

@@ -10,7 +10,7 @@ use crate::short::Short;
 use ring_core::Frame;
 
 /// Takes the next frame of the inbox; none exactly where it is empty.
-pub(crate) fn take_next<R: RingSide>(node: u8, ring: &mut R) -> Result<Option<Frame>, Short>
+pub fn take_next<R: RingSide>(node: u8, ring: &mut R) -> Result<Option<Frame>, Short>
     requires turn { OwnTurnAt R.RingSide node ring.old }
     requires holds { HoldsAt R.RingSide node ring.old }
     ensures went { WentOnBy R.RingSide node (added_if result

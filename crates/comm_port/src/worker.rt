@@ -2,11 +2,11 @@
 ghost use Rattle.std.specs.Prelude.{◌≡◌, ◌<◌, All, OnOk, IfOk};
 ghost use Rattle.ring_core.specs.Machine.{addresses};
 ghost use Rattle.ring_core.specs.Legal.{IsMember};
-ghost use Rattle.comm_port.specs.BothSteps.{BothStep, ComesBackOver, HoldsOver, HoldsTurnBy};
+ghost use Rattle.comm_port.specs.BothSteps.{BothStep, Rejoins, HoldsOver, HoldsTurnBy};
 ghost use Rattle.comm_port.specs.BothSteps.{RestedBetween, StandingBetween, TurningBetween, Visits};
 ghost use Rattle.comm_port.specs.BothSteps.{WorksOver};
-ghost use Rattle.comm_port.specs.RingSteps.{HasLeftAt, HoldsAt, IsAwayAt, RestsAfter, RestsAt};
-ghost use Rattle.comm_port.specs.RingSteps.{down_at};
+ghost use Rattle.comm_port.specs.RingSteps.{HasLeftAt, HoldsAt, IsAwayAt, IsNoBridgeAt, RestsAfter};
+ghost use Rattle.comm_port.specs.RingSteps.{RestsAt, down_at};
 ghost use Rattle.comm_port.specs.WholeTurn.{failing_end, working_end};
 ghost use Rattle.comm_port.specs.Worker.{IsSameWorker, new_worker};
 
@@ -71,6 +71,7 @@ fn work<M: RamSide, R: RingSide>(
 ) -> Result<bool, Short>
     requires turning { TurningBetween M.RamSide R.RingSide node ram.old ring.old waiting.old }
     requires holds { HoldsAt R.RingSide node ring.old }
+    requires no_bridge { IsNoBridgeAt R.RingSide node ring.old }
     requires wait { 0 < (R.side ring.old).net.answer }
     requires rest { RestsAt R.RingSide node ring.old }
     requires noticed { noticed ≡ down_at R.RingSide node ring.old }
@@ -121,6 +122,7 @@ fn turn<M: RamSide, R: RingSide>(
 ) -> Result<TurnEnd, Short>
     requires turning { TurningBetween M.RamSide R.RingSide node ram.old ring.old waiting.old }
     requires holds { HoldsAt R.RingSide node ring.old }
+    requires no_bridge { IsNoBridgeAt R.RingSide node ring.old }
     requires wait { 0 < (R.side ring.old).net.answer }
     requires rest { RestsAt R.RingSide node ring.old }
     requires noticed { noticed.old ≡ down_at R.RingSide node ring.old }
@@ -168,11 +170,12 @@ impl CommWorker {
         })
     }
 
-    /// One hold of the token. Where power failed since the node last left for that, it leaves, gives
-    /// up all its calls, and asks to come in again if there is power. Else it takes and serves, makes
-    /// the calls that the controller started, sends, gives up what waited for too long, and leaves
-    /// or passes on. The only error is that memory ran out: then the entries made so far stand and
-    /// both lists are legal as before, but nothing is said of the laws.
+    /// One hold of the token. Where power failed since the node last left for that, it leaves,
+    /// gives up all its calls, and asks to come in again if there is power. Else it takes and
+    /// serves, makes the calls that the controller started, sends, gives up what waited for too
+    /// long, and leaves or passes on. The node is not the end of a bridge. The only error is that
+    /// memory ran out: then the entries made so far stand and both lists are legal as before, but
+    /// nothing is said of the laws.
     pub fn hold_turn<M: RamSide, R: RingSide>(
         &mut self,
         ram: &mut M,
@@ -180,6 +183,7 @@ impl CommWorker {
     ) -> Result<TurnEnd, AllocError>
         requires standing { StandingBetween M.RamSide R.RingSide self.old ram.old ring.old }
         requires holds { HoldsAt R.RingSide self.old.node ring.old }
+        requires no_bridge { IsNoBridgeAt R.RingSide self.old.node ring.old }
         ensures standing { OnOk result
             (StandingBetween M.RamSide R.RingSide self.new ram.new ring.new) }
         ensures held { IfOk result
@@ -216,7 +220,7 @@ impl CommWorker {
         ensures standing { OnOk result
             (StandingBetween M.RamSide R.RingSide self.new ram.new ring.new) }
         ensures came { IfOk result
-            (ComesBackOver M.RamSide R.RingSide self.old.node ram.old ram.new ring.old ring.new) }
+            (Rejoins M.RamSide R.RingSide self.old.node ram.old ram.new ring.old ring.new) }
         ensures worker { self.new ≡ self.old }
         ensures step { BothStep M.RamSide R.RingSide self.old.node ram.old ram.new ring.old
             ring.new }

@@ -1,13 +1,15 @@
 -- No two answers are due for a command and an input.
-use Rattle.std.proofs.Common.{◌≡◌, ◌≢◌, ℕ, ◌-◌, ◌^◌, ◌<◌, ◌≤◌, Bool, true, false, List, []}
-use Rattle.std.proofs.Common.{◌∷◌, ◌++◌, length, take, drop, All, inl, inr, ⊎_elim}
-use Rattle.std.proofs.Common.{refl, sym, ap, ap₂, subst, ◌∙◌, arith, append_assoc, length-append}
+use Rattle.std.proofs.Common.{◌≡◌, ◌≢◌, ℕ, ◌+◌, ◌-◌, ◌^◌, ◌<◌, ◌≤◌, Bool, true, false, List, []}
+use Rattle.std.proofs.Common.{◌∷◌, ◌++◌, length, take, drop, All, inl, inr, ⊎_elim, Option, Some}
+use Rattle.std.proofs.Common.{None, refl, sym, ap, ap₂, subst, ◌∙◌, arith, append_assoc}
+use Rattle.std.proofs.Common.{length-append}
 use Rattle.std.specs.Prelude.{min, Result, Ok, Err}
 use Rattle.std.specs.List.{flat_map}
 use Rattle.std.proofs.Math.Seq.{drop-append_seam, take-append_seam}
 use Rattle.std.proofs.lemmas.Bool.{cases_eq, cases_lt}
 use Rattle.std.proofs.lemmas.List.Concat.{flat_map-cons}
 use Rattle.std.proofs.lemmas.List.Elements.{All-head, All-tail}
+use Rattle.plant_types.specs.declared.plan.ControllerPlan.{ControllerPlan}
 use Rattle.plant_types.specs.declared.plan.Plant.{Plant}
 use Rattle.plant_types.specs.Plans.{IsPlant}
 use Rattle.plant_loader.specs.Refusals.{Refusal}
@@ -22,68 +24,70 @@ use Rattle.joint_law.specs.Spots.{IsSpot}
 use Rattle.joint_law.specs.declared.verdict.Spot.{Spot}
 use Rattle.joint_law.specs.declared.verdict.Verdict.TheVariants.{Legal, Illegal}
 use Rattle.one_run.specs.OneRun.{IsRunOf, OneSerialRun}
+use Rattle.summary_text.specs.Summary.{summary}
 use Rattle.command_answers.specs.declared.status.Status.{Status}
 use Rattle.command_words.specs.declared.words.Command.{Command}
-use Rattle.command_words.specs.declared.words.Command.TheVariants.{Do, Gen}
-use Rattle.command_answers.specs.Cut.{CanBegin, IsCut}
+use Rattle.command_words.specs.declared.words.Command.TheVariants.{Do, Gen, Session}
+use Rattle.command_words.specs.declared.words.Task.{Task}
+use Rattle.command_answers.specs.Cut.{CanCut, IsCutBefore, journal_mark, port_mark}
 use Rattle.command_answers.specs.Judged.{IsIllegalAt, IsNoRun, IsRunRead, wrong_line_text}
 use Rattle.command_answers.specs.Judged.{spot_text}
-use Rattle.command_answers.specs.Due.{Due, IsDueOf, IsDueWith, IsFile, IsHistory, IsWholeSerialRun}
-use Rattle.command_answers.specs.Due.{IsTaskFile, illegal_text, judges, reads_journal, scans_of}
-use Rattle.command_answers.specs.Due.{text_of}
+use Rattle.command_answers.specs.Due.{Due, IsDueOf, IsDueWith, IsFile, IsHistory, IsIllegal}
+use Rattle.command_answers.specs.Due.{IsSessionDue, IsShown, IsTaskDue, IsTaskFile}
+use Rattle.command_answers.specs.Due.{IsWholeSerialRun, illegal_text, judges, plan_at, task_text}
 use Rattle.command_answers.specs.OneDue.{OneDue}
 
 -- ---- where an input is cut
 
 -- of two cuts of an input neither is before the other
-cut-not_before : (input file journal file' journal' : List ℕ) → IsCut input file journal
-    → IsCut input file' journal'
+cut-not_before : (mark input file back file' back' : List ℕ) → IsCutBefore mark input file back
+    → IsCutBefore mark input file' back'
     → length file < length file' → ⊥
-cut-not_before input file journal file' journal' cut cut' less =
-    ⊎_elim (λ (none : journal ≡ []).
+cut-not_before mark input file back file' back' cut cut' less =
+    ⊎_elim (λ (none : back ≡ []).
     let size = ap length (cut.whole ∙ sym cut'.whole) in
-    let one = length-append file journal in
-    let other = length-append file' journal' in
-    let empty : length journal ≡ 0 = ap length none in
+    let one = length-append file back in
+    let other = length-append file' back' in
+    let empty : length back ≡ 0 = ap length none in
     absurd (omega (arith, less, size, one, other, empty)))
-    (λ (can : CanBegin file journal). cut'.first file journal cut.whole less can) cut.begins
+    (λ (can : CanCut mark file back). cut'.first file back cut.whole less can) cut.begins
 
-cut-size : (input file journal file' journal' : List ℕ) → IsCut input file journal
-    → IsCut input file' journal'
+cut-size : (mark input file back file' back' : List ℕ) → IsCutBefore mark input file back
+    → IsCutBefore mark input file' back'
     → length file ≡ length file'
-cut-size input file journal file' journal' cut cut' =
+cut-size mark input file back file' back' cut cut' =
     ⊎_elim (λ (same : length file ≡ length file'). same)
     (λ (apart : length file ≢ length file'). absurd (⊎_elim
     (λ (less : length file < length file').
-    cut-not_before input file journal file' journal' cut cut' less)
+    cut-not_before mark input file back file' back' cut cut' less)
     (λ (more : length file' ≤ length file).
-    cut-not_before input file' journal' file journal cut' cut (omega (arith, apart, more)))
+    cut-not_before mark input file' back' file back cut' cut (omega (arith, apart, more)))
     (cases_lt (length file) (length file'))))
     (cases_eq (length file) (length file'))
 
 -- so an input is cut in one place
-cut-one : (input file journal file' journal' : List ℕ) → IsCut input file journal
-    → IsCut input file' journal'
-    → (file ≡ file') × (journal ≡ journal')
-cut-one input file journal file' journal' cut cut' =
-    let size = cut-size input file journal file' journal' cut cut' in
+cut-one : (mark input file back file' back' : List ℕ) → IsCutBefore mark input file back
+    → IsCutBefore mark input file' back'
+    → (file ≡ file') × (back ≡ back')
+cut-one mark input file back file' back' cut cut' =
+    let size = cut-size mark input file back file' back' cut cut' in
     let whole = cut.whole ∙ sym cut'.whole in (
-      sym (take-append_seam file journal) ∙ ap (λ n. take n (file ++ journal)) size
+      sym (take-append_seam file back) ∙ ap (λ n. take n (file ++ back)) size
           ∙ ap (take (length file')) whole
-          ∙ take-append_seam file' journal',
-      sym (drop-append_seam file journal) ∙ ap (λ n. drop n (file ++ journal)) size
+          ∙ take-append_seam file' back',
+      sym (drop-append_seam file back) ∙ ap (λ n. drop n (file ++ back)) size
           ∙ ap (drop (length file')) whole
-          ∙ drop-append_seam file' journal',
+          ∙ drop-append_seam file' back',
     )
 
 task_file-one : (cuts : Bool) (input file behind file' behind' : List ℕ)
     → IsTaskFile cuts input file behind → IsTaskFile cuts input file' behind'
     → (file ≡ file') × (behind ≡ behind')
 task_file-one true input file behind file' behind' is is' =
-    cut-one input file behind file' behind' is is'
+    cut-one journal_mark input file behind file' behind' is is'
 task_file-one false input file behind file' behind' is is' = (is.0 ∙ sym is'.0, is.1 ∙ sym is'.1)
 
--- and a command has one plant file, and one journal behind it
+-- and a command has one plant file, and one part of the input behind it
 file-one : (command : Command) (input file behind file' behind' : List ℕ)
     → IsFile command input file behind → IsFile command input file' behind'
     → (file ≡ file') × (behind ≡ behind')
@@ -91,6 +95,11 @@ file-one (Do task scans) input file behind file' behind' is is' =
     task_file-one (judges task) input file behind file' behind' is is'
 file-one (Gen number scans) input file behind file' behind' is is' =
     (is.0 ∙ sym is'.0, is.1 ∙ sym is'.1)
+file-one (Session node scans) input file behind file' behind' is is' =
+    let same = cut-one port_mark input file is.back file' is'.back is.cut is'.cut in (
+      same.0,
+      is.bytes ∙ ap (drop (length port_mark + 1)) same.1 ∙ sym is'.bytes,
+    )
 
 -- ---- the first wrong line
 
@@ -260,28 +269,64 @@ due-of status text = record { status = status; text = text }
 due-is : (one other : Due) → one.status ≡ other.status → one.text ≡ other.text → one ≡ other
 due-is one other status text = ap₂ due-of status text
 
+-- one text of a joint history is due
+shown-one : DueLaws → (reads : Bool) (plant : Plant) (scans : ℕ) (behind : List ℕ)
+    (text_of : Joint → List ℕ) (one other : Due) → IsPlant plant
+    → IsShown reads plant scans behind text_of one
+    → IsShown reads plant scans behind text_of other → one ≡ other
+shown-one laws reads plant scans behind text_of one other sound shown also =
+    let same = history-one laws plant sound scans behind reads shown.joint also.joint
+    shown.history also.history in
+    due-is one other (shown.status ∙ sym also.status)
+    (shown.text ∙ ap text_of same ∙ sym also.text)
+
+-- and none with it that is illegal
+shown-or_illegal : DueLaws → (reads : Bool) (plant : Plant) (scans : ℕ) (behind : List ℕ)
+    (text_of : Joint → List ℕ) (one other : Due) → IsPlant plant
+    → IsShown reads plant scans behind text_of one → IsIllegal reads plant scans behind other → ⊥
+shown-or_illegal laws reads plant scans behind text_of one other sound shown illegal =
+    whole-or_illegal laws plant sound scans behind shown.joint illegal.spot
+    (subst (λ reads. IsHistory reads plant scans behind shown.joint) illegal.reads_it
+    shown.history) illegal.breaks
+
+-- so for a task with a plant one thing is due
+task-one : DueLaws → (task : Task) (scans : ℕ) (plant : Plant) (behind : List ℕ) (one other : Due)
+    → IsPlant plant
+    → IsTaskDue task scans plant behind one → IsTaskDue task scans plant behind other → one ≡ other
+task-one laws task scans plant behind one other sound (inl shown) (inl also) =
+    shown-one laws (judges task) plant scans behind (task_text task plant) one other sound shown
+    also
+task-one laws task scans plant behind one other sound (inl shown) (inr illegal) =
+    absurd (shown-or_illegal laws (judges task) plant scans behind (task_text task plant) one other
+    sound shown illegal)
+task-one laws task scans plant behind one other sound (inr illegal) (inl shown) =
+    absurd (shown-or_illegal laws (judges task) plant scans behind (task_text task plant) other one
+    sound shown illegal)
+task-one laws task scans plant behind one other sound (inr illegal) (inr also) =
+    let same = illegal-one laws plant sound scans behind illegal.spot also.spot
+    illegal.breaks also.breaks in
+    due-is one other (illegal.status ∙ sym also.status)
+    (illegal.text ∙ ap illegal_text same ∙ sym also.text)
+
+-- and for a session
+session-one : (asked : Option ControllerPlan) (scans : ℕ) (plant : Plant) (port : List ℕ)
+    (one other : Due)
+    → IsSessionDue asked scans plant port one → IsSessionDue asked scans plant port other
+    → one ≡ other
+session-one None scans plant port one other is is' = is ∙ sym is'
+session-one (Some plan) scans plant port one other shown also =
+    due-is one other (shown.status ∙ sym also.status) (shown.text ∙ sym also.text)
+
 -- with a plant one thing is due
 with-one : DueLaws → (command : Command) (plant : Plant) (behind : List ℕ) (one other : Due)
     → IsPlant plant
     → IsDueWith command plant behind one → IsDueWith command plant behind other → one ≡ other
-with-one laws command plant behind one other sound (inl shown) (inl also) =
-    let same = history-one laws plant sound (scans_of command) behind
-    (reads_journal command) shown.joint also.joint shown.history also.history in
-    due-is one other (shown.status ∙ sym also.status)
-    (shown.text ∙ ap (text_of command plant) same ∙ sym also.text)
-with-one laws command plant behind one other sound (inl shown) (inr illegal) =
-    absurd (whole-or_illegal laws plant sound (scans_of command) behind shown.joint illegal.spot
-    (subst (λ reads. IsHistory reads plant (scans_of command) behind shown.joint) illegal.reads
-    shown.history) illegal.breaks)
-with-one laws command plant behind one other sound (inr illegal) (inl shown) =
-    absurd (whole-or_illegal laws plant sound (scans_of command) behind shown.joint illegal.spot
-    (subst (λ reads. IsHistory reads plant (scans_of command) behind shown.joint) illegal.reads
-    shown.history) illegal.breaks)
-with-one laws command plant behind one other sound (inr illegal) (inr also) =
-    let same = illegal-one laws plant sound (scans_of command) behind illegal.spot also.spot
-    illegal.breaks also.breaks in
-    due-is one other (illegal.status ∙ sym also.status)
-    (illegal.text ∙ ap illegal_text same ∙ sym also.text)
+with-one laws (Do task scans) plant behind one other sound due due' =
+    task-one laws task scans plant behind one other sound due due'
+with-one laws (Gen number scans) plant behind one other sound due due' =
+    shown-one laws false plant scans [] (summary plant) one other sound due due'
+with-one laws (Session node scans) plant behind one other sound due due' =
+    session-one (plan_at node plant.controllers) scans plant behind one other due due'
 
 -- and so it is with a plant file
 of-one : DueLaws → (command : Command) (file behind : List ℕ) (read : Result Plant Refusal)

@@ -118,7 +118,7 @@ module _ (one : OneDue) (front : OneJournalInFront) (scans : ℕ) (file : List �
       tells-one one front scans file what plant shown.joint loaded
       (record { whole = shown.history.whole; effects = shown.effects; told = shown.told })
       shown.text
-  of-trace behind (Ok plant) loaded (inr illegal) = let reads = illegal.reads in absurd cc
+  of-trace behind (Ok plant) loaded (inr illegal) = let reads = illegal.reads_it in absurd cc
   of-trace behind (Err fault) loaded other = refused-not fault other
 
   of-live : (read : Result Plant Refusal) → plant_of file ≡ read → IsLiveDueOf scans read what

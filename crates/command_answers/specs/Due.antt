@@ -1,15 +1,19 @@
 -- What is due for a command and an input: a status, and the text that goes with it. This project's
 -- own.
-use Rattle.std.specs.Prelude.{◌≡◌, ℕ, codes, Bool, true, false, ◌⊎◌, List, []}
-use Rattle.std.specs.Prelude.{◌++◌, Result, Ok, Err, string_bytes}
+use Rattle.std.specs.Prelude.{◌≡◌, ℕ, codes, Bool, true, false, ◌⊎◌, ◌==◌, List, [], ◌++◌}
+use Rattle.std.specs.Prelude.{find, map, Option, Some, None, Result, Ok, Err, string_bytes}
 use Rattle.plant_types.specs.declared.fault.PlantFault.{PlantFault}
 use Rattle.plant_types.specs.declared.fault.Place.{Place}
+use Rattle.plant_types.specs.declared.plan.ControllerPlan.{ControllerPlan}
 use Rattle.plant_types.specs.declared.plan.Plant.{Plant}
 use Rattle.plant_types.specs.Fault.{fault_text, place_text}
 use Rattle.plant_loader.specs.Refusals.{Refusal}
 use Rattle.plant_loader.specs.Plant.{plant_of}
 use Rattle.plant_gen.specs.Text.{plant_text}
+use Rattle.controller_core.specs.declared.fixed.Fixed.{Fixed}
+use Rattle.controller_core.specs.Controller.{IsLegal}
 use Rattle.joint_history.specs.declared.joint.Joint.{Joint}
+use Rattle.joint_history.specs.JointLaws.{fixed_of}
 use Rattle.joint_history.specs.Noted.{IsNoted}
 use Rattle.effect_laws.specs.Effects.{EffectsAreRight}
 use Rattle.entry_causes.specs.Joint.{IsInOneOrder}
@@ -19,6 +23,8 @@ use Rattle.joint_law.specs.Spots.{IsWholeRun}
 use Rattle.journal_text.specs.Fronts.{IsJournalOf}
 use Rattle.journal_text.specs.Journal.{journal}
 use Rattle.panel_text.specs.Panel.{panel}
+use Rattle.panel_session.specs.Serving.{frame_request, numbered_frames, requests_taken}
+use Rattle.panel_session.specs.Session.{bench_history, bench_text}
 use Rattle.summary_text.specs.Summary.{summary}
 use Rattle.command_answers.specs.declared.answered.Answer.{Answer}
 use Rattle.command_answers.specs.declared.judging.Judged.{Judged}
@@ -26,10 +32,10 @@ use Rattle.command_answers.specs.declared.judging.Judged.TheVariants.{Whole, Ill
 use Rattle.command_answers.specs.declared.status.Status.{Status}
 use Rattle.command_answers.specs.declared.status.Status.TheVariants as ends
 use Rattle.command_words.specs.declared.words.Command.{Command}
-use Rattle.command_words.specs.declared.words.Command.TheVariants.{Do, Gen}
+use Rattle.command_words.specs.declared.words.Command.TheVariants.{Do, Gen, Session}
 use Rattle.command_words.specs.declared.words.Task.{Task}
 use Rattle.command_words.specs.declared.words.Task.TheVariants.{Run, Trace, Check, Replay}
-use Rattle.command_answers.specs.Cut.{IsCut}
+use Rattle.command_answers.specs.Cut.{IsCut, IsCutAtPort}
 use Rattle.command_answers.specs.Judged.{IsIllegalAt, IsRunRead}
 
 -- A status and the text that goes with it.
@@ -41,37 +47,34 @@ pub record Due : Type 0 where
 abbrev pub as_due : Answer → Due
 as_due answer = record { status = answer.status; text = answer.text.items }
 
--- The line that names a fault and its place.
+-- The line that says what is wrong, and where.
+abbrev pub refusal_line : List ℕ → List ℕ → List ℕ
+refusal_line fault place = codes "refused " ++ (fault ++ (codes " " ++ (place ++ codes "\n")))
+
+-- The line that names a fault of a plant file and its place.
 abbrev pub refusal_text : PlantFault → Place → List ℕ
-refusal_text fault place =
-    codes "refused " ++ (fault_text fault ++ (codes " " ++ (place_text place ++ codes "\n")))
+refusal_text fault place = refusal_line (fault_text fault) (place_text place)
 
 -- The line that names a spot of a journal.
 abbrev pub illegal_text : List ℕ → List ℕ
 illegal_text spot = codes "illegal " ++ spot
 
+-- What an answer says of an illegal journal.
+abbrev pub illegal_at : List ℕ → Due
+illegal_at spot = record { status = ends.Illegal; text = illegal_text spot }
+
 -- Whether a command reads the input.
 abbrev pub reads_input : Command → Bool
 reads_input (Do task scans) = true
 reads_input (Gen number scans) = false
+reads_input (Session node scans) = true
 
--- Whether a task takes the joint history of a journal behind the plant file, and not that of a run;
--- so a command, and how many scans it asks for.
+-- Whether a task takes the joint history of a journal behind the plant file, and not that of a run.
 abbrev pub judges : Task → Bool
 judges Run = false
 judges Trace = false
 judges Check = true
 judges Replay = true
-
--- Whether a command takes the joint history of a journal.
-abbrev pub reads_journal : Command → Bool
-reads_journal (Do task scans) = judges task
-reads_journal (Gen number scans) = false
-
--- How many scans a command asks for.
-abbrev pub scans_of : Command → ℕ
-scans_of (Do task scans) = scans
-scans_of (Gen number scans) = scans
 
 -- The plant file of a command and the journal: parts of the input where a journal is read, and
 -- else the whole input, or the text that a number stands for, and no journal.
@@ -79,10 +82,12 @@ abbrev pub IsTaskFile : Bool → List ℕ → List ℕ → List ℕ → Type 0
 IsTaskFile true input file journal = IsCut input file journal
 IsTaskFile false input file journal = (file ≡ input) × (journal ≡ [])
 
--- The plant file of a command, and the journal behind it; for a number the file that it stands for.
+-- The plant file of a command, and what stands behind it: a journal, or the bytes of a port; for a
+-- number the file that it stands for.
 abbrev pub IsFile : Command → List ℕ → List ℕ → List ℕ → Type 0
-IsFile (Do task scans) input file journal = IsTaskFile (judges task) input file journal
-IsFile (Gen number scans) input file journal = (file ≡ plant_text number) × (journal ≡ [])
+IsFile (Do task scans) input file behind = IsTaskFile (judges task) input file behind
+IsFile (Gen number scans) input file behind = (file ≡ plant_text number) × (behind ≡ [])
+IsFile (Session node scans) input file behind = IsCutAtPort input file behind
 
 -- The joint history is that of the plant's serial run, and a complete run: legal, with the laws
 -- between its lists kept, and complete; and all its entries have one order in time, in which each
@@ -112,37 +117,69 @@ task_text Trace plant joint = journal joint ++ panel plant joint
 task_text Check plant joint = codes "legal\n"
 task_text Replay plant joint = panel plant joint
 
--- What a command writes of a joint history: the text of its task, or a summary.
-abbrev pub text_of : Command → Plant → Joint → List ℕ
-text_of (Do task scans) plant joint = task_text task plant joint
-text_of (Gen number scans) plant joint = summary plant joint
-
--- What is due with a plant that is accepted: the text of a joint history that the command is about,
--- in which each call takes effect at its target at most once, and once if it reports success, and
--- whose journal tells all of it.
-pub record IsShown (command : Command) (plant : Plant) (behind : List ℕ) (what : Due)
+-- What is due with a plant that is accepted: this text of a joint history that is that of the
+-- journal or of the run, in which each call takes effect at its target at most once, and once if it
+-- reports success, and whose journal tells all of it.
+pub record IsShown (reads : Bool) (plant : Plant) (scans : ℕ) (behind : List ℕ)
+    (text_of : Joint → List ℕ) (what : Due)
     : Type 0 where
   pub joint : Joint
-  pub history : IsHistory (reads_journal command) plant (scans_of command) behind joint
+  pub history : IsHistory reads plant scans behind joint
   pub effects : EffectsAreRight joint
   pub told : IsJournalOf joint (journal joint)
   pub status : what.status ≡ ends.Ok
-  pub text : what.text ≡ text_of command plant joint
+  pub text : what.text ≡ text_of joint
 
 -- What is due with a plant and a journal that is not that of a complete run: the line of its first
 -- spot.
-pub record IsIllegal (command : Command) (plant : Plant) (behind : List ℕ) (what : Due)
+pub record IsIllegal (reads : Bool) (plant : Plant) (scans : ℕ) (behind : List ℕ) (what : Due)
     : Type 0 where
-  pub reads : reads_journal command ≡ true
+  pub reads_it : reads ≡ true
   pub spot : List ℕ
-  pub breaks : IsIllegalAt plant (scans_of command) behind spot
+  pub breaks : IsIllegalAt plant scans behind spot
   pub status : what.status ≡ ends.Illegal
   pub text : what.text ≡ illegal_text spot
 
--- What is due with a plant that is accepted: the text of a run, or the line of an illegal journal.
+-- What is due for a task with a plant: the text of its joint history, or the line of an illegal
+-- journal.
+abbrev pub IsTaskDue : Task → ℕ → Plant → List ℕ → Due → Type 0
+IsTaskDue task scans plant behind what =
+    IsShown (judges task) plant scans behind (task_text task plant) what
+    ⊎ IsIllegal (judges task) plant scans behind what
+
+-- The plan with this node, if there is one.
+abbrev pub plan_at : ℕ → List ControllerPlan → Option ControllerPlan
+plan_at node plans = find (λ plan. plan.node == node) plans
+
+-- The line of a session that asks for a node without a controller, and the status with it.
+abbrev pub no_controller_text : List ℕ
+no_controller_text = refusal_line (codes "17 NoController") (codes "session")
+
+abbrev pub no_controller : Due
+no_controller = record { status = ends.Refused; text = no_controller_text }
+
+-- What is due for a session of a controller: the text of its bench for the bytes of the port. The
+-- history of that bench is legal, and it has taken each frame for the controller once, in order.
+pub record IsSessionShown (fixed : Fixed) (port : List ℕ) (what : Due) : Type 0 where
+  pub legal : IsLegal fixed (bench_history fixed port)
+  pub served : requests_taken (bench_history fixed port)
+      ≡ map frame_request (numbered_frames fixed.plan.node port)
+  pub status : what.status ≡ ends.Ok
+  pub text : what.text ≡ bench_text fixed port
+
+-- What is due for a session by whether there is a controller with the node.
+abbrev pub IsSessionDue : Option ControllerPlan → ℕ → Plant → List ℕ → Due → Type 0
+IsSessionDue None scans plant port what = what ≡ no_controller
+IsSessionDue (Some plan) scans plant port what =
+    IsSessionShown (fixed_of plant scans plan) port what
+
+-- What is due with a plant that is accepted: for a task, for the summary of a run, or a session.
 abbrev pub IsDueWith : Command → Plant → List ℕ → Due → Type 0
-IsDueWith command plant behind what =
-    IsShown command plant behind what ⊎ IsIllegal command plant behind what
+IsDueWith (Do task scans) plant behind what = IsTaskDue task scans plant behind what
+IsDueWith (Gen number scans) plant behind what =
+    IsShown false plant scans [] (summary plant) what
+IsDueWith (Session node scans) plant behind what =
+    IsSessionDue (plan_at node plant.controllers) scans plant behind what
 
 -- What is due with a plant file that has a fault: its refusal.
 abbrev pub refused : Refusal → Due

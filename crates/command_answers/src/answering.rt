@@ -1,5 +1,5 @@
 //! What is due for a command and an input.
-ghost use Rattle.std.specs.Prelude.{◌≡◌, ℕ, List, IfOk, string_bytes};
+ghost use Rattle.std.specs.Prelude.{◌≡◌, ◌<◌, ◌^◌, [], false, IfOk, length, string_bytes};
 ghost use Rattle.plant_loader.specs.Plant.{plant_of};
 ghost use Rattle.joint_history.specs.JointLaws.{IsLegalJoint, most_scans};
 ghost use Rattle.joint_history.specs.Noted.{IsNoted};
@@ -7,13 +7,16 @@ ghost use Rattle.joint_history.specs.Runnable.{CanRunPlant};
 ghost use Rattle.journal_text.specs.Fronts.{IsJournalOf};
 ghost use Rattle.journal_text.specs.Journal.{journal};
 ghost use Rattle.panel_text.specs.Panel.{panel};
+ghost use Rattle.summary_text.specs.Summary.{summary};
 ghost use Rattle.command_words.specs.Words.{IsCommandInRange, IsNumberOfScans};
-ghost use Rattle.command_answers.specs.Due.{IsDue, IsDueOf, IsDueWith, IsFound, as_due};
-ghost use Rattle.command_answers.specs.Due.{illegal_text, judges, refusal_text, refused, task_text};
+ghost use Rattle.command_answers.specs.Due.{IsDue, IsDueOf, IsDueWith, IsFound, IsShown};
+ghost use Rattle.command_answers.specs.Due.{IsTaskDue, as_due, illegal_at, judges, refusal_text};
+ghost use Rattle.command_answers.specs.Due.{refused, task_text};
 
 use crate::answered::Answer;
-use crate::cutting::cut;
+use crate::cutting::{cut, cut_at_port};
 use crate::judging::{Judged, judge_journal};
+use crate::sessions::answer_session;
 use crate::status::Status;
 use command_words::{Command, Task};
 use effect_laws::effects_are_right;
@@ -45,8 +48,7 @@ pub fn refused(alloc: Global, fault: PlantFault, place: Place) -> Result<Answer,
 }
 
 fn illegal(alloc: Global, spot: &str) -> Result<Answer, AllocError>
-    ensures { IfOk result (λ answer. as_due answer
-        ≡ record { status = Status.Illegal; text = illegal_text spot.now }) }
+    ensures { IfOk result (λ answer. as_due answer ≡ illegal_at spot.now) }
 {
     let text = format!(in alloc; "illegal {spot}")?;
     Ok(Answer {
@@ -162,7 +164,7 @@ fn answer_task(
     requires scans { IsNumberOfScans scans }
     requires plant { CanRunPlant plant.now }
     ensures { IfOk result (λ answer.
-        IsDueWith (Command.Do task scans) plant.now behind.now (as_due answer)) }
+        IsTaskDue task scans plant.now behind.now (as_due answer)) }
 {
     effects_are_right();
     match history_of(alloc, task, scans, plant, behind)? {
@@ -182,8 +184,8 @@ fn answer_task(
 fn answer_summary(alloc: Global, scans: u32, plant: &Plant) -> Result<Answer, AllocError>
     requires scans { IsNumberOfScans scans }
     requires plant { CanRunPlant plant.now }
-    ensures { IfOk result (λ answer. (number : ℕ) (behind : List ℕ)
-        → IsDueWith (Command.Gen number scans) plant.now behind (as_due answer)) }
+    ensures { IfOk result (λ answer.
+        IsShown false plant.now scans [] (summary plant.now) (as_due answer)) }
 {
     let counted = run_counted(alloc, plant, scans)?;
     let joint = &counted.noted.joint;
@@ -204,14 +206,13 @@ fn answer_with(
 ) -> Result<Answer, AllocError>
     requires command { IsCommandInRange command }
     requires plant { CanRunPlant plant.now }
+    requires short { length behind.now < 2 ^ 32 }
     ensures { IfOk result (λ answer. IsDueWith command plant.now behind.now (as_due answer)) }
 {
     match command {
         Command::Do { task, scans } => answer_task(alloc, task, scans, plant, behind),
-        Command::Gen { scans, .. } => {
-            let answer = answer_summary(alloc, scans, plant)?;
-            Ok(answer)
-        }
+        Command::Gen { scans, .. } => answer_summary(alloc, scans, plant),
+        Command::Session { node, scans } => answer_session(alloc, node, scans, plant, behind),
     }
 }
 
@@ -222,7 +223,8 @@ fn answer_over(
     file: &[u8],
     behind: &[u8],
 ) -> Result<Answer, AllocError>
-    requires { IsCommandInRange command }
+    requires command { IsCommandInRange command }
+    requires short { length behind.now < 2 ^ 32 }
     ensures { IfOk result (λ answer.
         IsDueOf command behind.now (plant_of file.now) (as_due answer)) }
 {
@@ -235,7 +237,8 @@ fn answer_over(
 
 /// The answer to a task over an input.
 fn answer_to_task(alloc: Global, task: Task, scans: u32, input: &[u8]) -> Result<Answer, AllocError>
-    requires { IsNumberOfScans scans }
+    requires scans { IsNumberOfScans scans }
+    requires short { length input.now < 2 ^ 32 }
     ensures { IfOk result (λ answer.
         IsDue (Command.Do task scans) input.now (as_due answer)) }
 {
@@ -250,7 +253,8 @@ fn answer_to_task(alloc: Global, task: Task, scans: u32, input: &[u8]) -> Result
 
 /// The answer to a command over an input.
 pub fn answer_to(alloc: Global, command: Command, input: &[u8]) -> Result<Answer, AllocError>
-    requires { IsCommandInRange command }
+    requires command { IsCommandInRange command }
+    requires short { length input.now < 2 ^ 32 }
     ensures { IfOk result (λ answer. IsDue command input.now (as_due answer)) }
 {
     match command {
@@ -258,6 +262,10 @@ pub fn answer_to(alloc: Global, command: Command, input: &[u8]) -> Result<Answer
         Command::Gen { number, .. } => {
             let file = plant_from(alloc, number)?;
             answer_over(alloc, command, file.as_slice(), &[])
+        }
+        Command::Session { .. } => {
+            let (file, port) = cut_at_port(input);
+            answer_over(alloc, command, file, port)
         }
     }
 }

@@ -6,6 +6,7 @@ mod answering;
 mod cutting;
 mod judging;
 mod laws;
+mod sessions;
 mod status;
 
 pub use answered::Answer;

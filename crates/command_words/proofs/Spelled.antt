@@ -1,16 +1,14 @@
 -- Commands and the words that spell them.
-use Rattle.std.proofs.Common.{◌≡◌, ℕ, List, [], ◌∷◌, Option, Some, None, Ok, Err}
-use Rattle.std.proofs.Common.{◌↔◌, ap, sym, refl, ◌∙◌, true≢false}
-use Rattle.std.specs.Prelude.{IfOk, Result}
-use Rattle.std.specs.Prelude.{bytes_eq, codes, false, true}
-use Rattle.std.specs.Fmt.{decimal}
-use Rattle.plant_gen.specs.Text.{IsPlantNumber}
+use Rattle.std.proofs.Common.{◌≡◌, ℕ, List, Option, Some, None, Ok, Err}
+use Rattle.std.proofs.Common.{ap, sym, refl, ◌∙◌, true≢false}
+use Rattle.std.specs.Prelude.{IfOk, Result, bytes_eq, codes, false, true}
+use Rattle.plant_types.specs.Limits.{most_address}
 use Rattle.command_words.specs.declared.words.Command.{Command}
-use Rattle.command_words.specs.declared.words.Command.TheVariants.{Do, Gen}
+use Rattle.command_words.specs.declared.words.Command.TheVariants.{Do, Gen, Session}
 use Rattle.command_words.specs.declared.words.Task.{Task}
 use Rattle.command_words.specs.declared.words.Task.TheVariants.{Run, Trace, Check, Replay}
-use Rattle.command_words.specs.Words.{IsNumberOfScans, SpellsBehind, SpellsLiveBehind, task_name}
-use Rattle.command_words.specs.Words.{without_dashes}
+use Rattle.command_words.specs.Words.{AreNumberAndScans, AreScans, ReadsJust, SpellsBehind}
+use Rattle.command_words.specs.Words.{SpellsLiveBehind, task_name}
 
 -- texts that do not compare are not the same
 differ : (one other : List ℕ) → bytes_eq one one ≡ true → bytes_eq one other ≡ false
@@ -36,24 +34,21 @@ same-task Replay Trace named = absurd (differ (task_name Replay) (task_name Trac
 same-task Replay Check named = absurd (differ (task_name Replay) (task_name Check) refl refl named)
 same-task Replay Replay named = refl
 
--- no task has the name of the summary
+-- no task has the name of another command
 pub gen-no-task : (task : Task) → codes "gen" ≡ task_name task → ⊥
 gen-no-task Run named = differ (codes "gen") (task_name Run) refl refl named
 gen-no-task Trace named = differ (codes "gen") (task_name Trace) refl refl named
 gen-no-task Check named = differ (codes "gen") (task_name Check) refl refl named
 gen-no-task Replay named = differ (codes "gen") (task_name Replay) refl refl named
 
--- what numbers behind a name were read
-abbrev pub ReadsScans : List (List ℕ) → Option ℕ → Type 0
-ReadsScans behind read =
-    (scans : ℕ)
-    → (read ≡ Some scans) ↔ ((without_dashes behind ≡ decimal scans ∷ []) × IsNumberOfScans scans)
+pub session-no-task : (task : Task) → codes "session" ≡ task_name task → ⊥
+session-no-task Run named = differ (codes "session") (task_name Run) refl refl named
+session-no-task Trace named = differ (codes "session") (task_name Trace) refl refl named
+session-no-task Check named = differ (codes "session") (task_name Check) refl refl named
+session-no-task Replay named = differ (codes "session") (task_name Replay) refl refl named
 
-abbrev pub ReadsBoth : List (List ℕ) → Option (ℕ × ℕ) → Type 0
-ReadsBoth behind read =
-    (number scans : ℕ) → (read ≡ Some (number, scans))
-    ↔ ((without_dashes behind ≡ decimal number ∷ decimal scans ∷ []) × IsPlantNumber number
-    × IsNumberOfScans scans)
+gen-no-session : codes "gen" ≡ codes "session" → ⊥
+gen-no-session named = differ (codes "gen") (codes "session") refl refl named
 
 abbrev pub task_made : Task → Option ℕ → Option Command
 task_made task None = None
@@ -63,21 +58,26 @@ abbrev pub gen_made : Option (ℕ × ℕ) → Option Command
 gen_made None = None
 gen_made (Some both) = Some (Gen both.0 both.1)
 
+abbrev pub session_made : Option (ℕ × ℕ) → Option Command
+session_made None = None
+session_made (Some both) = Some (Session both.0 both.1)
+
 task-is : (task other : Task) (read : Option ℕ) (scans : ℕ)
     → task_made task read ≡ Some (Do other scans)
     → (task ≡ other) × (read ≡ Some scans)
 task-is task other None scans e = absurd (cc)
 task-is task other (Some n) scans e = (cc, cc)
 
-no-gen : (task : Task) (read : Option ℕ) (number scans : ℕ)
-    → task_made task read ≡ Some (Gen number scans) → ⊥
-no-gen task None number scans e = absurd (cc)
-no-gen task (Some n) number scans e = absurd (cc)
+only-tasks : (task : Task) (read : Option ℕ) (number scans : ℕ)
+    → ((task_made task read ≡ Some (Gen number scans)) → ⊥)
+    × ((task_made task read ≡ Some (Session number scans)) → ⊥)
+only-tasks task None number scans = (λ e. absurd (cc), λ e. absurd (cc))
+only-tasks task (Some n) number scans = (λ e. absurd (cc), λ e. absurd (cc))
 
 -- a task with the scans that were read behind its name
-pub Spells-task : (task : Task) (behind : List (List ℕ)) (read : Option ℕ) → ReadsScans behind read
-    → (command : Command)
-    → (task_made task read ≡ Some command) ↔ SpellsBehind (task_name task) behind command
+pub Spells-task : (task : Task) (behind : List (List ℕ)) (read : Option ℕ)
+    → ReadsJust (AreScans behind) read
+    → ReadsJust (SpellsBehind (task_name task) behind) (task_made task read)
 Spells-task task behind read reads (Do other scans) = (
   λ e.
       let is = task-is task other read scans e in
@@ -89,8 +89,12 @@ Spells-task task behind read reads (Do other scans) = (
       ∙ ap (λ t. Some (Do t scans)) (sym same),
 )
 Spells-task task behind read reads (Gen number scans) = (
-  λ e. absurd (no-gen task read number scans e),
+  λ e. absurd ((only-tasks task read number scans).0 e),
   λ spells. absurd (gen-no-task task spells.named),
+)
+Spells-task task behind read reads (Session node scans) = (
+  λ e. absurd ((only-tasks task read node scans).1 e),
+  λ spells. absurd (session-no-task task spells.named),
 )
 
 gen-is : (read : Option (ℕ × ℕ)) (number scans : ℕ) → gen_made read ≡ Some (Gen number scans)
@@ -98,32 +102,73 @@ gen-is : (read : Option (ℕ × ℕ)) (number scans : ℕ) → gen_made read ≡
 gen-is None number scans e = absurd (cc)
 gen-is (Some (k, n)) number scans e = cc
 
-no-task : (read : Option (ℕ × ℕ)) (task : Task) (scans : ℕ)
-    → gen_made read ≡ Some (Do task scans) → ⊥
-no-task None task scans e = absurd (cc)
-no-task (Some both) task scans e = absurd (cc)
+only-summaries : (read : Option (ℕ × ℕ)) (task : Task) (node scans : ℕ)
+    → ((gen_made read ≡ Some (Do task scans)) → ⊥)
+    × ((gen_made read ≡ Some (Session node scans)) → ⊥)
+only-summaries None task node scans = (λ e. absurd (cc), λ e. absurd (cc))
+only-summaries (Some both) task node scans = (λ e. absurd (cc), λ e. absurd (cc))
 
 -- a summary with the numbers that were read behind its name
-pub Spells-gen : (behind : List (List ℕ)) (read : Option (ℕ × ℕ)) → ReadsBoth behind read
-    → (command : Command)
-    → (gen_made read ≡ Some command) ↔ SpellsBehind (codes "gen") behind command
+pub Spells-gen : (behind : List (List ℕ)) (read : Option (ℕ × ℕ))
+    → ReadsJust (AreNumberAndScans 9999 behind) read
+    → ReadsJust (SpellsBehind (codes "gen") behind) (gen_made read)
 Spells-gen behind read reads (Do task scans) = (
-  λ e. absurd (no-task read task scans e),
+  λ e. absurd ((only-summaries read task 0 scans).0 e),
   λ spells. absurd (gen-no-task task (sym spells.named)),
 )
 Spells-gen behind read reads (Gen number scans) = (
   λ e.
-      let asked = (reads number scans).0 (gen-is read number scans e) in
-      record { named = refl; numbers = asked.0; in_range = (asked.1, asked.2) },
+      let asked = (reads (number, scans)).0 (gen-is read number scans e) in
+      record { named = refl; numbers = asked.0; in_range = ((asked.1.from, asked.1.to), asked.2) },
   λ spells.
-      ap gen_made ((reads number scans).1 (spells.numbers, spells.in_range.0, spells.in_range.1)),
+      let number_in = spells.in_range.0 in
+      ap gen_made ((reads (number, scans)).1 (
+        spells.numbers,
+        record { from = number_in.0; to = number_in.1 },
+        spells.in_range.1,
+      )),
+)
+Spells-gen behind read reads (Session node scans) = (
+  λ e. absurd ((only-summaries read Run node scans).1 e),
+  λ spells. absurd (gen-no-session (sym spells.named)),
+)
+
+session-is : (read : Option (ℕ × ℕ)) (node scans : ℕ)
+    → session_made read ≡ Some (Session node scans) → read ≡ Some (node, scans)
+session-is None node scans e = absurd (cc)
+session-is (Some (k, n)) node scans e = cc
+
+only-sessions : (read : Option (ℕ × ℕ)) (task : Task) (number scans : ℕ)
+    → ((session_made read ≡ Some (Do task scans)) → ⊥)
+    × ((session_made read ≡ Some (Gen number scans)) → ⊥)
+only-sessions None task number scans = (λ e. absurd (cc), λ e. absurd (cc))
+only-sessions (Some both) task number scans = (λ e. absurd (cc), λ e. absurd (cc))
+
+-- a session with the numbers that were read behind its name
+pub Spells-session : (behind : List (List ℕ)) (read : Option (ℕ × ℕ))
+    → ReadsJust (AreNumberAndScans most_address behind) read
+    → ReadsJust (SpellsBehind (codes "session") behind) (session_made read)
+Spells-session behind read reads (Do task scans) = (
+  λ e. absurd ((only-sessions read task 0 scans).0 e),
+  λ spells. absurd (session-no-task task (sym spells.named)),
+)
+Spells-session behind read reads (Gen number scans) = (
+  λ e. absurd ((only-sessions read Run number scans).1 e),
+  λ spells. absurd (gen-no-session spells.named),
+)
+Spells-session behind read reads (Session node scans) = (
+  λ e.
+      let asked = (reads (node, scans)).0 (session-is read node scans e) in
+      record { named = refl; numbers = asked.0; in_range = (asked.1, asked.2) },
+  λ spells. ap session_made ((reads (node, scans)).1
+      (spells.numbers, spells.in_range.0, spells.in_range.1)),
 )
 
 -- a live run with the scans that were read behind its name
 pub Spells-live : {E : Type 0} (name : List ℕ) (behind : List (List ℕ)) (read : Result (Option ℕ) E)
     → name ≡ codes "live"
-    → IfOk read (ReadsScans behind)
-    → IfOk read (λ asked. (scans : ℕ) → (asked ≡ Some scans) ↔ SpellsLiveBehind name behind scans)
+    → IfOk read (ReadsJust (AreScans behind))
+    → IfOk read (ReadsJust (SpellsLiveBehind name behind))
 Spells-live name behind (Err e) named reads = tt
 Spells-live name behind (Ok asked) named reads = λ scans. (
   λ e. let got = (reads scans).0 e in

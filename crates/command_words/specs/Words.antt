@@ -1,19 +1,42 @@
 -- The words of the command line, as bytes. This project's own.
-use Rattle.std.specs.Prelude.{◌≡◌, ℕ, if◌then◌else◌, List, [], ◌∷◌, bytes_eq, codes}
+use Rattle.std.specs.Prelude.{◌≡◌, ◌↔◌, ℕ, if◌then◌else◌, List, [], ◌∷◌, Option, Some, bytes_eq}
+use Rattle.std.specs.Prelude.{codes}
 use Rattle.std.specs.Fmt.{decimal}
 use Rattle.plant_types.specs.Limits.{most_scans}
-use Rattle.plant_types.specs.Plans.{IsFromTo}
+use Rattle.plant_types.specs.Plans.{IsFromTo, IsNode}
 use Rattle.plant_gen.specs.Text.{IsPlantNumber}
 use Rattle.command_words.specs.declared.words.Command.{Command}
-use Rattle.command_words.specs.declared.words.Command.TheVariants.{Do, Gen}
+use Rattle.command_words.specs.declared.words.Command.TheVariants.{Do, Gen, Session}
 use Rattle.command_words.specs.declared.words.Task.{Task}
 use Rattle.command_words.specs.declared.words.Task.TheVariants.{Run, Trace, Check, Replay}
+
+-- What was read is a value of this kind exactly where it is some value.
+abbrev pub ReadsJust : {X : Type 0} → (X → Type 0) → Option X → Type 0
+ReadsJust {X = X} IsOne read = (value : X) → (read ≡ Some value) ↔ IsOne value
 
 -- The words without the first that is exactly `--`, wherever it stands.
 abbrev pub without_dashes : List (List ℕ) → List (List ℕ)
 without_dashes [] = []
 without_dashes (word ∷ words) =
     if bytes_eq word (codes "--") then words else word ∷ without_dashes words
+
+-- A word is a number from 1 to a largest, in decimal digits with no sign and no leading zero.
+abbrev pub IsNumeralTo : ℕ → List ℕ → ℕ → Type 0
+IsNumeralTo most word number = (word ≡ decimal number) × IsFromTo 1 most number
+
+-- A run has 1 to 2000 scans.
+abbrev pub IsNumberOfScans : ℕ → Type 0
+IsNumberOfScans scans = IsFromTo 1 most_scans scans
+
+-- The words are a number of scans, beside which one `--` may stand.
+abbrev pub AreScans : List (List ℕ) → ℕ → Type 0
+AreScans words scans = (without_dashes words ≡ decimal scans ∷ []) × IsNumberOfScans scans
+
+-- The words are a number from 1 to a largest and a number of scans, among which one `--` may stand.
+abbrev pub AreNumberAndScans : ℕ → List (List ℕ) → ℕ × ℕ → Type 0
+AreNumberAndScans most words both =
+    (without_dashes words ≡ decimal both.0 ∷ decimal both.1 ∷ []) × IsFromTo 1 most both.0
+    × IsNumberOfScans both.1
 
 -- The word that names a task.
 abbrev pub task_name : Task → List ℕ
@@ -26,20 +49,19 @@ task_name Replay = codes "replay"
 abbrev pub command_name : Command → List ℕ
 command_name (Do task scans) = task_name task
 command_name (Gen number scans) = codes "gen"
+command_name (Session node scans) = codes "session"
 
 -- The numbers of a command, in decimal digits with no sign and no leading zero.
 abbrev pub command_numbers : Command → List (List ℕ)
 command_numbers (Do task scans) = decimal scans ∷ []
 command_numbers (Gen number scans) = decimal number ∷ decimal scans ∷ []
-
--- A run has 1 to 2000 scans.
-abbrev pub IsNumberOfScans : ℕ → Type 0
-IsNumberOfScans scans = IsFromTo 1 most_scans scans
+command_numbers (Session node scans) = decimal node ∷ decimal scans ∷ []
 
 -- The numbers of a command are in their ranges.
 abbrev pub IsCommandInRange : Command → Type 0
 IsCommandInRange (Do task scans) = IsNumberOfScans scans
 IsCommandInRange (Gen number scans) = IsPlantNumber number × IsNumberOfScans scans
+IsCommandInRange (Session node scans) = IsNode node × IsNumberOfScans scans
 
 -- A command of this name, and behind the name its numbers, among which one `--` may stand.
 pub record SpellsBehind (name : List ℕ) (behind : List (List ℕ)) (command : Command)

@@ -1,10 +1,17 @@
 //! Commands, and the words that spell them.
-ghost use Rattle.std.specs.Prelude.{◌≡◌, ◌↔◌, ℕ, IfOk, Some, codes, map, string_bytes};
-ghost use Rattle.command_words.specs.Words.{SpellsBehind, SpellsCommand, SpellsLive};
+ghost use Rattle.std.specs.Prelude.{◌≡◌, ◌↔◌, IfOk, Some, codes, map, string_bytes};
+ghost use Rattle.command_words.specs.Words.{ReadsJust, SpellsBehind, SpellsCommand, SpellsLive};
 ghost use Rattle.command_words.specs.Words.{SpellsLiveBehind, task_name};
 
 use crate::arguments::{number_and_scans_of, scans_of};
+use plant_types::NODE_LIMIT;
 use std::alloc::{AllocError, Global};
+
+/// The largest number that stands for a plant.
+const PLANT_LIMIT: u32 = 9999;
+
+/// The highest address of a node.
+const ADDRESS_LIMIT: u32 = NODE_LIMIT as u32;
 
 /// What is done with a plant. This project's own.
 #[derive(Clone, Copy, Debug, PartialEq, Eq)]
@@ -26,11 +33,14 @@ pub enum Command {
     Do { task: Task, scans: u32 },
     /// The summary of so many scans of the plant that a number stands for.
     Gen { number: u32, scans: u32 },
+    /// So many scans of the controller with this node, 1 to 64, alone on a bench, and what the port
+    /// behind the plant's file asks of it.
+    Session { node: u8, scans: u32 },
 }
 
 /// The task of a name.
 fn task_of(name: &str) -> Option<Task>
-    ensures { (task : Task) → (result ≡ Some task) ↔ (task_name task ≡ name.now) }
+    ensures { ReadsJust (λ task. task_name task ≡ name.now) result }
 {
     match name {
         "run" => Some(Task::Run),
@@ -43,8 +53,8 @@ fn task_of(name: &str) -> Option<Task>
 
 /// A task, with the number of scans that the words behind its name ask for.
 fn task_behind(alloc: Global, task: Task, behind: &[String]) -> Result<Option<Command>, AllocError>
-    ensures { IfOk result (λ read. (command : Command) → (read ≡ Some command)
-        ↔ SpellsBehind (task_name task) (map string_bytes behind.now) command) }
+    ensures { IfOk result
+        (ReadsJust (SpellsBehind (task_name task) (map string_bytes behind.now))) }
 {
     match scans_of(alloc, behind)? {
         Some(scans) => Ok(Some(Command::Do { task, scans })),
@@ -54,11 +64,25 @@ fn task_behind(alloc: Global, task: Task, behind: &[String]) -> Result<Option<Co
 
 /// A summary, with the numbers that the words behind its name ask for.
 fn gen_behind(alloc: Global, behind: &[String]) -> Result<Option<Command>, AllocError>
-    ensures { IfOk result (λ read. (command : Command) → (read ≡ Some command)
-        ↔ SpellsBehind (codes "gen") (map string_bytes behind.now) command) }
+    ensures { IfOk result
+        (ReadsJust (SpellsBehind (codes "gen") (map string_bytes behind.now))) }
 {
-    match number_and_scans_of(alloc, behind)? {
+    match number_and_scans_of(alloc, behind, PLANT_LIMIT)? {
         Some((number, scans)) => Ok(Some(Command::Gen { number, scans })),
+        None => Ok(None),
+    }
+}
+
+/// A session, with the numbers that the words behind its name ask for.
+fn session_behind(alloc: Global, behind: &[String]) -> Result<Option<Command>, AllocError>
+    ensures { IfOk result
+        (ReadsJust (SpellsBehind (codes "session") (map string_bytes behind.now))) }
+{
+    match number_and_scans_of(alloc, behind, ADDRESS_LIMIT)? {
+        Some((node, scans)) => Ok(Some(Command::Session {
+            node: node as u8,
+            scans,
+        })),
         None => Ok(None),
     }
 }
@@ -69,22 +93,21 @@ fn command_named(
     name: &str,
     behind: &[String],
 ) -> Result<Option<Command>, AllocError>
-    ensures { IfOk result (λ read. (command : Command) → (read ≡ Some command)
-        ↔ SpellsBehind name.now (map string_bytes behind.now) command) }
+    ensures { IfOk result (ReadsJust (SpellsBehind name.now (map string_bytes behind.now))) }
 {
-    if name == "gen" {
-        return gen_behind(alloc, behind);
-    }
-    match task_of(name) {
-        Some(task) => task_behind(alloc, task, behind),
-        None => Ok(None),
+    match name {
+        "gen" => gen_behind(alloc, behind),
+        "session" => session_behind(alloc, behind),
+        _ => match task_of(name) {
+            Some(task) => task_behind(alloc, task, behind),
+            None => Ok(None),
+        },
     }
 }
 
 /// The command that the words after the program's name spell.
 pub fn command_of(alloc: Global, words: &[String]) -> Result<Option<Command>, AllocError>
-    ensures { IfOk result (λ read. (command : Command)
-        → (read ≡ Some command) ↔ SpellsCommand (map string_bytes words.now) command) }
+    ensures { IfOk result (ReadsJust (SpellsCommand (map string_bytes words.now))) }
 {
     match words {
         [name, behind @ ..] => command_named(alloc, name.as_str(), behind),
@@ -94,8 +117,8 @@ pub fn command_of(alloc: Global, words: &[String]) -> Result<Option<Command>, Al
 
 /// How many scans the words behind the name of a live run ask for.
 fn live_named(alloc: Global, name: &str, behind: &[String]) -> Result<Option<u32>, AllocError>
-    ensures { IfOk result (λ read. (scans : ℕ) → (read ≡ Some scans)
-        ↔ SpellsLiveBehind name.now (map string_bytes behind.now) scans) }
+    ensures { IfOk result
+        (ReadsJust (SpellsLiveBehind name.now (map string_bytes behind.now))) }
 {
     if name == "live" {
         scans_of(alloc, behind)
@@ -106,8 +129,7 @@ fn live_named(alloc: Global, name: &str, behind: &[String]) -> Result<Option<u32
 
 /// How many scans of a live run the words after the program's name ask for.
 pub fn live_scans(alloc: Global, words: &[String]) -> Result<Option<u32>, AllocError>
-    ensures { IfOk result (λ read. (scans : ℕ)
-        → (read ≡ Some scans) ↔ SpellsLive (map string_bytes words.now) scans) }
+    ensures { IfOk result (ReadsJust (SpellsLive (map string_bytes words.now))) }
 {
     match words {
         [name, behind @ ..] => live_named(alloc, name.as_str(), behind),

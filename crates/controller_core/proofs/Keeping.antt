@@ -40,7 +40,7 @@ use Rattle.controller_core.specs.Controller.{ControllerIs, EachFits, Fits, GoesO
 use Rattle.controller_core.specs.Controller.{ControllerWentOn}
 use Rattle.controller_core.specs.Controller.{first_step, grown}
 use Rattle.controller_core.specs.Controller.{state_of}
-use Rattle.controller_core.specs.Controller.{made, store_of}
+use Rattle.controller_core.specs.Controller.{made}
 use Rattle.controller_core.specs.Kept.{IsKept, IsWatched}
 use Rattle.controller_core.proofs.Lengths.{scans_few}
 
@@ -534,11 +534,6 @@ pub state_as : (f : Fixed) (m : Machine) (h : List Entry) (at : ScanPlace) (r : 
     → record { fixed = f; history = h; reserved = r } ≡ v → IsKept f m h at
     → state_is m ≡ state_of v
 state_as f m h at r v is k = k.state ∙ ap state_of is
-
-pub store_is : (f : Fixed) (m : Machine) (h : List Entry) (at : ScanPlace) (r : Bool)
-    (v : ControllerIs)
-    → record { fixed = f; history = h; reserved = r } ≡ v → IsKept f m h at → m.ram ≡ store_of v
-store_is f m h at r v is k = ap (λ (t : ControllerState). t.solving.map) k.state ∙ ap store_of is
 
 -- a controller with one more entry
 pub view_more : (n : Machine) (f : Fixed) (h l : List Entry) (r : Bool) (e given : Entry)

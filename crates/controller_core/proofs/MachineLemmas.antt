@@ -1,27 +1,23 @@
 -- What a machine keeps from event to event.
-use Rattle.std.proofs.Common.{◌≡◌, ◌≤◌, ◌<◌, ℕ, ◌+◌, ◌-◌, List, length, get_or, set, Option, Some}
-use Rattle.std.proofs.Common.{None, inl, inr, refl, sym, ap, subst, ◌∙◌, arith}
+use Rattle.std.proofs.Common.{◌≡◌, ◌≤◌, ◌<◌, ℕ, ◌+◌, ◌-◌, List, length, get_or, set, Some}
+use Rattle.std.proofs.Common.{inl, inr, refl, sym, ap, subst, ◌∙◌, arith}
 use Rattle.std.proofs.lemmas.Bool.{cases_eq}
 use Rattle.std.proofs.lemmas.List.{get_or-set_same, get_or-set_other}
 use Rattle.std.proofs.lemmas.Option.{slice_get_within, slice_get-get_or}
-use Rattle.plant_types.specs.declared.reference.Ref.{Ref}
-use Rattle.plant_types.specs.declared.drops.IoDrop.{IoDrop}
 use Rattle.plant_types.specs.declared.plan.OrderRow.{OrderRow}
 use Rattle.plant_types.specs.declared.plan.ControllerPlan.{ControllerPlan}
 use Rattle.plant_types.specs.Checks.{sizes_of, CheckedPlansFindAll, KeptStoresFindAll}
 use Rattle.plant_types.specs.Checks.{HasSegmentPast}
 use Rattle.plant_types.specs.Sizes.{cleared, discretes, discretes_of, DiscretesFollow}
-use Rattle.plant_types.specs.Store.{Contents, Keeps}
+use Rattle.plant_types.specs.Store.{Contents}
 use Rattle.ladder_solver.specs.Conditions.{HasGridOperands, HasGridPast, GridsAskNoMore}
 use Rattle.ladder_solver.specs.Numbers.{mstr_count}
 use Rattle.ladder_solver.proofs.Stored.{all_at_item}
 use Rattle.scan_order.specs.Due.{row_of}
-use Rattle.traffic_cop.specs.Drops.{CanExchange}
-use Rattle.traffic_cop.proofs.ModuleLemmas.{HasModules-kept}
 use Rattle.controller_core.specs.declared.entry.Entry.{Entry}
 use Rattle.controller_core.specs.declared.machine.Machine.{Machine}
 use Rattle.controller_core.specs.Replay.{apply}
-use Rattle.traffic_cop.specs.Rows.{FitsPlan, HasControl, IsRunnablePlan}
+use Rattle.traffic_cop.specs.Rows.{FitsPlan, IsRunnablePlan}
 use Rattle.controller_core.specs.Machine.{DoesEntry, IsSound, IsTimely, state_is}
 
 -- a row of a plan that can be run fits it
@@ -32,21 +28,6 @@ row_fits plan number row runs is =
     let got = slice_get-get_or plan.orders (number - 1) row within in
     let same : row ≡ get_or plan.orders (number - 1) row = cc (is, got) in
     all_at_item (FitsPlan plan) plan.orders (number - 1) row within same runs.rows
-
--- a drop whose modules a store has, each store that keeps its references has too
-pub ready-kept : (drops : List IoDrop) (number : ℕ) (m n : Contents) → Keeps m n
-    → CanExchange drops number m → CanExchange drops number n
-ready-kept drops number m n keeps ready = record {
-  found = ready.found;
-  named = ready.named;
-  fits = ready.fits;
-  room = HasModules-kept m n ready.found.modules keeps ready.room;
-}
-
-pub control-kept : (m n : Contents) (control : Option Ref) → Keeps m n → HasControl m control
-    → HasControl n control
-control-kept m n None keeps has = tt
-control-kept m n (Some at) keeps has = (keeps at has.0, has.1)
 
 -- what a segment asks of the stores of a machine is there
 pub operands_there : (machine : Machine) → GridsAskNoMore → CheckedPlansFindAll → KeptStoresFindAll

@@ -13,21 +13,22 @@ use Rattle.controller_core.specs.declared.call.Call.{Call}
 use Rattle.controller_core.specs.declared.call.CallKind.{CallKind}
 use Rattle.controller_core.specs.declared.call.CallKind.TheVariants as kinds
 
--- A request to another node.
-abbrev pub request_to : ℕ → Request → CallKind
-request_to to request = kinds.Net to (spelling_of request)
+-- A request by a route to another node.
+abbrev pub net_request : List ℕ → Request → CallKind
+net_request route request = kinds.Net route (spelling_of request)
 
 -- What a block asks for: registers are written and read from the address behind which they stand;
 -- statistics of another node are a request too; all else the own station does itself.
 abbrev pub kind_of : MstrAsk → CallKind
-kind_of (asks.Write to start words) = request_to to (requests.WriteRegisters (start - 1) words)
-kind_of (asks.Read to start count) = request_to to (requests.ReadRegisters (start - 1) count)
+kind_of (asks.Write route start words) =
+    net_request route (requests.WriteRegisters (start - 1) words)
+kind_of (asks.Read route start count) = net_request route (requests.ReadRegisters (start - 1) count)
 kind_of asks.LocalStats = kinds.Local ops.GetStats
 kind_of asks.ClearLocal = kinds.Local ops.ClearStats
 kind_of (asks.PutGlobal words) = kinds.Local (ops.PutGlobal words)
 kind_of (asks.GetGlobal node count) = kinds.Local (ops.GetGlobal node count)
-kind_of (asks.RemoteStats to) = request_to to (requests.Stats false)
-kind_of (asks.ClearRemote to) = request_to to (requests.Stats true)
+kind_of (asks.RemoteStats route) = net_request route (requests.Stats false)
+kind_of (asks.ClearRemote route) = net_request route (requests.Stats true)
 
 -- A call under the name that its block gave it.
 abbrev pub call_of : MstrCall → Call

@@ -6,6 +6,7 @@ use Rattle.plant_types.specs.Checks.{sizes_of}
 use Rattle.plant_types.specs.Discretes.{discretes_on}
 use Rattle.plant_types.specs.Limits.{most_scans, scan_time_limit}
 use Rattle.plant_types.specs.PlanTests.{drop_limit}
+use Rattle.plant_types.specs.Plans.{is_routed}
 use Rattle.plant_types.specs.Standing.{message_limit}
 use Rattle.plant_types.specs.declared.sizes.Sizes.{Sizes}
 use Rattle.plant_types.specs.Sizes.{cleared, discretes}
@@ -62,6 +63,7 @@ pub record IsSound (machine : Machine) : Type 0 where
   pub keeps : Keeps (cleared (sizes_of machine.fixed.plan)) machine.ram
   pub past : IsPast (sizes_of machine.fixed.plan) machine.past
   pub node : machine.bank.node ≡ machine.fixed.plan.node
+  pub routed : machine.bank.routed ≡ is_routed machine.fixed.plan.network
   pub blocks : length machine.bank.blocks ≡ mstr_blocks machine.fixed.plan.segments
   pub few : length machine.bank.blocks ≤ message_limit
   pub exchanges : length machine.exchanges.items ≡ drop_limit

@@ -3,6 +3,7 @@ use Rattle.std.specs.Prelude.{◌≡◌, ◌≤◌, replicate}
 use Rattle.std.specs.FinSet.{empty}
 use Rattle.plant_types.specs.declared.plan.ControllerPlan.{ControllerPlan}
 use Rattle.plant_types.specs.Checks.{sizes_of}
+use Rattle.plant_types.specs.Plans.{is_routed}
 use Rattle.plant_types.specs.Sizes.{cleared, discretes_of}
 use Rattle.plant_types.specs.Standing.{message_limit}
 use Rattle.grid_compile.specs.Layout.{grids_of}
@@ -15,7 +16,7 @@ use Rattle.controller_core.specs.declared.parts.Stores.{Stores}
 -- The ladder has the plan's networks, all its edge bits off, and each message block is idle.
 pub record IsSolverOf (plan : ControllerPlan) (solver : Solver) : Type 0 where
   pub ladder : solver.ladder ≡ record { grids = grids_of plan.segments; edges = empty }
-  pub bank : solver.bank ≡ idle_table plan.node (mstr_blocks plan.segments)
+  pub bank : solver.bank ≡ idle_table plan.node (is_routed plan.network) (mstr_blocks plan.segments)
   pub few : mstr_blocks plan.segments ≤ message_limit
 
 -- The stores have the plan's references, all of them 0.

@@ -14,6 +14,7 @@ use Rattle.plant_types.specs.declared.plan.ControllerPlan.{ControllerPlan}
 use Rattle.plant_types.specs.Checks.{sizes_of}
 use Rattle.plant_types.specs.declared.sizes.Sizes.{Sizes}
 use Rattle.plant_types.specs.Discretes.{discretes_on}
+use Rattle.plant_types.specs.Plans.{is_routed}
 use Rattle.plant_types.specs.Sizes.{cleared, discretes}
 use Rattle.plant_types.specs.Standing.{cells_of_segments}
 use Rattle.plant_types.specs.Store.{Contents, is_on, with_bit}
@@ -42,15 +43,15 @@ pub record ControllerState : Type 0 where
   pub failures : ℕ
 
 -- A controller when it starts: each reference is 0 and no discrete was on before, no edge bit is
--- on, all MSTR blocks are idle, the clock stands at 0, nothing was exchanged, it goes on, and it
--- has power. This project's own.
+-- on, all MSTR blocks are idle, with routes over bridges on a network that has a number, the clock
+-- stands at 0, nothing was exchanged, it goes on, and it has power. This project's own.
 abbrev pub start : ControllerPlan → ControllerState
 start plan = record {
   solving = record {
     map = cleared (sizes_of plan);
     past = empty;
     edges = empty;
-    table = idle_table plan.node (mstr_blocks plan.segments);
+    table = idle_table plan.node (is_routed plan.network) (mstr_blocks plan.segments);
     clock = record { before = 0; now = 0 };
     left = 0;
   };

@@ -2,19 +2,19 @@
 ghost use Rattle.std.specs.Prelude.{◌≡◌, ◌↔◌, IfOk, IsTrue};
 ghost use Rattle.mstr_block.specs.Running.{MayBeAsked, IsCall};
 ghost use Rattle.modbus_pdu.specs.Spelling.{IsRequestInRange};
-ghost use Rattle.controller_core.specs.Calls.{call_of, kind_of, request_to};
+ghost use Rattle.controller_core.specs.Calls.{call_of, kind_of, net_request};
 
 use modbus_pdu::{Request, encode_request};
 use mstr_block::{CallId, MstrAsk, MstrCall};
-use plant_types::{Copied, Pdu, Words};
+use plant_types::{Copied, Pdu, Route, Words};
 use ring_core::LocalOp;
 use std::alloc::{AllocError, Global};
 
 /// What a call is for (*Modicon Ladder Logic Block Library User Guide*).
 #[derive(Drop)]
 pub enum CallKind {
-    /// A request to another node, `to` from 1 to 64.
-    Net { to: u8, pdu: Pdu },
+    /// A request by a route to another node: at least one address, each 1 to 64.
+    Net { route: Route, pdu: Pdu },
     /// What the own station does itself.
     Local(LocalOp),
 }
@@ -26,36 +26,46 @@ pub struct Call {
     pub kind: CallKind,
 }
 
-fn request_to(alloc: Global, to: u8, request: &Request) -> Result<CallKind, AllocError>
+fn net_request(alloc: Global, route: Route, request: &Request) -> Result<CallKind, AllocError>
     requires { IsRequestInRange request.now }
-    ensures { IfOk result (λ kind. kind ≡ request_to to request.now) }
+    ensures { IfOk result (λ kind. kind ≡ net_request route request.now) }
 {
     Ok(CallKind::Net {
-        to,
+        route,
         pdu: encode_request(alloc, request)?,
     })
 }
 
 impl CallKind {
     /// What a block of the station at an address asks for.
-    fn of(alloc: Global, own: u8, ask: &MstrAsk) -> Result<CallKind, AllocError>
-        requires { MayBeAsked own ask.now }
+    fn of(alloc: Global, routed: bool, own: u8, ask: &MstrAsk) -> Result<CallKind, AllocError>
+        requires { MayBeAsked routed own ask.now }
         ensures { IfOk result (λ kind. kind ≡ kind_of ask.now) }
     {
         match ask {
-            MstrAsk::Write { to, start, words } => {
+            MstrAsk::Write {
+                route,
+                start,
+                words,
+            } => {
                 let address = *start - 1;
                 let words = Words::of(alloc, words.words())?;
-                request_to(alloc, *to, &Request::WriteRegisters { address, words })
+                net_request(alloc, *route, &Request::WriteRegisters { address, words })
             }
-            MstrAsk::Read { to, start, length } => {
+            MstrAsk::Read {
+                route,
+                start,
+                length,
+            } => {
                 let (address, quantity) = (*start - 1, *length);
-                request_to(alloc, *to, &Request::ReadRegisters { address, quantity })
+                net_request(alloc, *route, &Request::ReadRegisters { address, quantity })
             }
-            MstrAsk::RemoteStats { to } => {
-                request_to(alloc, *to, &Request::Stats { clear: false })
+            MstrAsk::RemoteStats { route } => {
+                net_request(alloc, *route, &Request::Stats { clear: false })
             }
-            MstrAsk::ClearRemote { to } => request_to(alloc, *to, &Request::Stats { clear: true }),
+            MstrAsk::ClearRemote { route } => {
+                net_request(alloc, *route, &Request::Stats { clear: true })
+            }
             MstrAsk::LocalStats => Ok(CallKind::Local(LocalOp::GetStats)),
             MstrAsk::ClearLocal => Ok(CallKind::Local(LocalOp::ClearStats)),
             MstrAsk::PutGlobal(words) => {
@@ -72,13 +82,18 @@ impl CallKind {
 
 impl Call {
     /// The call that a block of the station at an address started.
-    pub(crate) fn of(alloc: Global, own: u8, call: &MstrCall) -> Result<Call, AllocError>
-        requires { IsCall own call.now }
+    pub(crate) fn of(
+        alloc: Global,
+        routed: bool,
+        own: u8,
+        call: &MstrCall,
+    ) -> Result<Call, AllocError>
+        requires { IsCall routed own call.now }
         ensures { IfOk result (λ made. made ≡ call_of call.now) }
     {
         Ok(Call {
             id: call.id,
-            kind: CallKind::of(alloc, own, &call.ask)?,
+            kind: CallKind::of(alloc, routed, own, &call.ask)?,
         })
     }
 }
@@ -88,11 +103,11 @@ fn is_same_kind(one: &CallKind, other: &CallKind) -> bool
     ensures { IsTrue result ↔ (one.now ≡ other.now) }
 {
     match one {
-        CallKind::Net { to, pdu } => match other {
+        CallKind::Net { route, pdu } => match other {
             CallKind::Net {
-                to: target,
+                route: way,
                 pdu: bytes,
-            } => *to == *target && pdu.bytes() == bytes.bytes(),
+            } => route.addresses() == way.addresses() && pdu.bytes() == bytes.bytes(),
             CallKind::Local(_) => false,
         },
         CallKind::Local(op) => match other {

@@ -7,8 +7,8 @@ use std::alloc::{AllocError, Global};
 impl Copied for CallKind {
     fn copied(&self, alloc: Global) -> Result<Self, AllocError> {
         match self {
-            CallKind::Net { to, pdu } => Ok(CallKind::Net {
-                to: *to,
+            CallKind::Net { route, pdu } => Ok(CallKind::Net {
+                route: *route,
                 pdu: pdu.copied(alloc)?,
             }),
             CallKind::Local(op) => Ok(CallKind::Local(op.copied(alloc)?)),

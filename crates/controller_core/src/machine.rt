@@ -28,7 +28,7 @@ use mstr_block::{
 };
 use plant_types::{
     Block, Copied, List, Pdu, Ref, RefStore, checked_plans_find_all, discretes_are_on,
-    discretes_follow, kept_stores_find_all,
+    discretes_follow, is_routed, kept_stores_find_all,
 };
 use scan_order::{ScanStep, row_of};
 use state_ram::PackedRam;
@@ -313,8 +313,9 @@ impl Machine {
     {
         let mut calls = List::new(alloc);
         let mut next = 1;
+        let routed = is_routed(self.fixed.plan.network);
         while let Some(call) = self.bank.started(next) {
-            calls.push(Call::of(alloc, self.fixed.plan.node, &call)?)?;
+            calls.push(Call::of(alloc, routed, self.fixed.plan.node, &call)?)?;
             next += 1;
         }
         Ok(calls)

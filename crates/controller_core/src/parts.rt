@@ -6,7 +6,7 @@ ghost use Rattle.controller_core.specs.Parts.{ArePartsOf, AreStoresOf, IsSolverO
 use grid_compile::grids_of;
 use ladder_solver::{Ladder, grids_ask_no_more};
 use mstr_block::MstrBank;
-use plant_types::{ControllerPlan, DROP_LIMIT, checked_plans_find_all};
+use plant_types::{ControllerPlan, DROP_LIMIT, checked_plans_find_all, is_routed};
 use state_ram::PackedRam;
 use std::alloc::{AllocError, Global};
 use traffic_cop::Cop;
@@ -44,7 +44,7 @@ fn solver_of(alloc: Global, plan: &ControllerPlan) -> Result<Solver, AllocError>
     let grids = grids_of(alloc, plan.segments.as_slice())?;
     let ladder = Ladder::new(alloc, grids)?;
     let count = ladder.blocks();
-    let bank = MstrBank::new(alloc, plan.node, count)?;
+    let bank = MstrBank::new(alloc, plan.node, count, is_routed(plan.network))?;
     Ok(Solver { ladder, bank })
 }
 

@@ -53,6 +53,7 @@ fn a_cop_keeps_its_drops(rt: HostRuntime) -> Result<(), AllocError> {
 fn answer_to(alloc: Global, drops: List<IoDrop>) -> Result<String, AllocError> {
     let plan = ControllerPlan {
         node: 1,
+        network: 0,
         coils: 32,
         inputs: 32,
         input_registers: 40,

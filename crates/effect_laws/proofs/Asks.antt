@@ -1,5 +1,5 @@
 -- What a legal history of a controller asked other nodes for, and what stations answered.
-use Rattle.std.proofs.Common.{◌≡◌, ℕ, suc, ◌-◌, true, false, Option, Some, None, List, []}
+use Rattle.std.proofs.Common.{◌≡◌, ℕ, suc, ◌-◌, Bool, true, false, Option, Some, None, List, []}
 use Rattle.std.proofs.Common.{◌∷◌, ◌++◌, map, get_or}
 use Rattle.std.proofs.Common.{refl, sym, ap, ◌∙◌, subst, append_assoc}
 use Rattle.std.specs.List.{AllByRecursion as Each, cons_option, filter_map}
@@ -28,7 +28,8 @@ use Rattle.host_port.specs.declared.entry.HostEntry.{HostEntry}
 use Rattle.host_port.specs.declared.entry.HostEntry.TheVariants as host_entries
 use Rattle.host_port.proofs.Lists.{all_append}
 use Rattle.tied_lists.specs.Items.{Answered, Called, Items, OverNet, no_items}
-use Rattle.joint_history.specs.Reading.{called_of, host_item_next, host_items_after, host_items_of}
+use Rattle.joint_history.specs.Reading.{answered_here, called_of, host_item_next, host_items_after}
+use Rattle.joint_history.specs.Reading.{host_items_of}
 use Rattle.joint_history.specs.Reading.{item_next, items_of, sort_of}
 use Rattle.joint_history.proofs.Collected.{CallLaws, history-follows}
 use Rattle.effect_laws.proofs.Calls.{by-entries}
@@ -37,7 +38,7 @@ use Rattle.effect_laws.proofs.Fits.{to_read, to_write}
 
 -- a call by the network is one of the three requests
 abbrev pub IsAskOf : Called → Type 0
-IsAskOf c = (to : ℕ) (pdu : List ℕ) → c.sort ≡ OverNet to pdu → NetAsk pdu
+IsAskOf c = (route pdu : List ℕ) → c.sort ≡ OverNet route pdu → NetAsk pdu
 
 -- a request that was answered has a fitting answer
 abbrev pub IsFitAnswer : Answered → Type 0
@@ -50,52 +51,56 @@ pub record FitItems (a : Items) : Type 0 where
 
 -- ---- calls
 
-ask-is : (own : ℕ) (ask : MstrAsk) → MayBeAsked own ask → (to : ℕ) (pdu : List ℕ)
-    → sort_of (kind_of ask) ≡ OverNet to pdu → NetAsk pdu
-ask-is own (asks.Write other start words) is to pdu e =
+ask-is : (routed : Bool) (own : ℕ) (ask : MstrAsk) → MayBeAsked routed own ask
+    → (route pdu : List ℕ) → sort_of (kind_of ask) ≡ OverNet route pdu → NetAsk pdu
+ask-is routed own (asks.Write way start words) is route pdu e =
     let same : spelling_of (requests.WriteRegisters (start - 1) words) ≡ pdu = cc in
     to_write (start - 1) words is.1.1 is.1.2 (sym same)
-ask-is own (asks.Read other start count) is to pdu e =
+ask-is routed own (asks.Read way start count) is route pdu e =
     let same : spelling_of (requests.ReadRegisters (start - 1) count) ≡ pdu = cc in
     to_read (start - 1) count is.1.1 is.1.2 (sym same)
-ask-is own asks.LocalStats is to pdu e = absurd cc
-ask-is own asks.ClearLocal is to pdu e = absurd cc
-ask-is own (asks.PutGlobal words) is to pdu e = absurd cc
-ask-is own (asks.GetGlobal node count) is to pdu e = absurd cc
-ask-is own (asks.RemoteStats other) is to pdu e =
+ask-is routed own asks.LocalStats is route pdu e = absurd cc
+ask-is routed own asks.ClearLocal is route pdu e = absurd cc
+ask-is routed own (asks.PutGlobal words) is route pdu e = absurd cc
+ask-is routed own (asks.GetGlobal node count) is route pdu e = absurd cc
+ask-is routed own (asks.RemoteStats way) is route pdu e =
     let same : spelling_of (requests.Stats false) ≡ pdu = cc in for_statistics false (sym same)
-ask-is own (asks.ClearRemote other) is to pdu e =
+ask-is routed own (asks.ClearRemote way) is route pdu e =
     let same : spelling_of (requests.Stats true) ≡ pdu = cc in for_statistics true (sym same)
 
-running-ask : (n : ℕ) (numbers : List ℕ) (r : Running) (call : MstrCall) (o : Option MstrAsk)
-    → r.ask ≡ o → IsRunning n numbers r
-    → option_map (λ ask. record { id = r.id; ask = ask }) o ≡ Some call → MayBeAsked n call.ask
-running-ask n numbers r call None asked is e = absurd cc
-running-ask n numbers r call (Some ask) asked is e =
+running-ask : (routed : Bool) (n : ℕ) (numbers : List ℕ) (r : Running) (call : MstrCall)
+    (o : Option MstrAsk) → r.ask ≡ o → IsRunning routed n numbers r
+    → option_map (λ ask. record { id = r.id; ask = ask }) o ≡ Some call
+    → MayBeAsked routed n call.ask
+running-ask routed n numbers r call None asked is e = absurd cc
+running-ask routed n numbers r call (Some ask) asked is e =
     let this : MstrCall = record { id = r.id; ask = ask } in
     let same : this ≡ call = cc in
-    subst (MayBeAsked n) (ap (λ (c : MstrCall). c.ask) same) (is.ask ask asked).0
+    subst (MayBeAsked routed n) (ap (λ (c : MstrCall). c.ask) same) (is.ask ask asked).0
 
-untaken-ask : (n : ℕ) (numbers : List ℕ) (b : BlockState) (call : MstrCall) → IsStateOf n numbers b
-    → untaken b ≡ Some call → MayBeAsked n call.ask
-untaken-ask n numbers Idle call is e = absurd cc
-untaken-ask n numbers Waiting call is e = absurd cc
-untaken-ask n numbers (Active r) call is e = running-ask n numbers r call r.ask refl is e
-untaken-ask n numbers (Aborted r) call is e = running-ask n numbers r call r.ask refl is e
-untaken-ask n numbers (Ready kept result) call is e = absurd cc
+untaken-ask : (routed : Bool) (n : ℕ) (numbers : List ℕ) (b : BlockState) (call : MstrCall)
+    → IsStateOf routed n numbers b → untaken b ≡ Some call → MayBeAsked routed n call.ask
+untaken-ask routed n numbers Idle call is e = absurd cc
+untaken-ask routed n numbers Waiting call is e = absurd cc
+untaken-ask routed n numbers (Active r) call is e =
+    running-ask routed n numbers r call r.ask refl is e
+untaken-ask routed n numbers (Aborted r) call is e =
+    running-ask routed n numbers r call r.ask refl is e
+untaken-ask routed n numbers (Ready kept result) call is e = absurd cc
 
-blocks-ask : (n : ℕ) (numbers : List ℕ) (bs : List BlockState)
-    → ((place : ℕ) → IsStateOf n numbers (get_or bs place Idle))
+blocks-ask : (routed : Bool) (n : ℕ) (numbers : List ℕ) (bs : List BlockState)
+    → ((place : ℕ) → IsStateOf routed n numbers (get_or bs place Idle))
     → Each IsAskOf (map called_of (map call_of (filter_map untaken bs)))
-blocks-ask n numbers [] states = tt
-blocks-ask n numbers (b ∷ bs) states =
-    at (untaken b) refl (blocks-ask n numbers bs (λ place. states (suc place)))
+blocks-ask routed n numbers [] states = tt
+blocks-ask routed n numbers (b ∷ bs) states =
+    at (untaken b) refl (blocks-ask routed n numbers bs (λ place. states (suc place)))
   where
     at : (o : Option MstrCall) → untaken b ≡ o
         → Each IsAskOf (map called_of (map call_of (filter_map untaken bs)))
         → Each IsAskOf (map called_of (map call_of (cons_option o (filter_map untaken bs))))
     at None is rest = rest
-    at (Some call) is rest = (ask-is n call.ask (untaken-ask n numbers b call (states 0) is), rest)
+    at (Some call) is rest =
+        (ask-is routed n call.ask (untaken-ask routed n numbers b call (states 0) is), rest)
 
 -- ---- what a controller keeps
 
@@ -120,7 +125,7 @@ fit-next laws fixed h (entries.Collect calls) legal fits f =
     record {
       asks = all_append IsAskOf (items_of h).calls (map called_of calls) f.asks
           (subst (λ (l : List Call). Each IsAskOf (map called_of l)) (sym fits.1)
-          (blocks-ask T.node T.numbers T.blocks follows.table.states));
+          (blocks-ask T.routed T.node T.numbers T.blocks follows.table.states));
       answers = f.answers;
     }
 fit-next laws fixed h (entries.Peer id request reply) legal fits f = record {
@@ -128,7 +133,7 @@ fit-next laws fixed h (entries.Peer id request reply) legal fits f = record {
   answers = all_append IsFitAnswer (items_of h).answers _ f.answers (last, tt);
 }
   where
-    last : IsFitAnswer (record { id = id; request = Some request; reply = Some reply })
+    last : IsFitAnswer (answered_here id request (Some reply))
     last ask told is gives net =
         let same : request ≡ ask = cc in
         let given : reply ≡ told = cc in
@@ -148,7 +153,7 @@ controller-fits laws fixed h legal =
 host-next : (plan : HostPlan) (before : List HostEntry) (e : HostEntry) (h : List HostEntry)
     (a : Items) → IsHostHistory plan (before ++ e ∷ h)
     → Each IsFitAnswer a.answers → Each IsFitAnswer (host_item_next a e).answers
-host-next plan before (host_entries.Ask id to pdu) h a legal all = all
+host-next plan before (host_entries.Ask id route pdu) h a legal all = all
 host-next plan before (host_entries.Answer id result) h a legal all = all
 host-next plan before (host_entries.Served id request reply) h a legal all =
     let told = legal.each before h (host_entries.Served id request reply) refl in

@@ -2,7 +2,7 @@
 -- history tells it. The first call reports success; each took effect once.
 use Rattle.std.proofs.Common.{◌≡◌, ℕ, zero, suc, ◌+◌, true, false, List, [], ◌∷◌, ◌++◌, refl, inl}
 use Rattle.std.proofs.Common.{inr, take, drop, set, nat_le, Option, Some, unwrap_or, sym, ap, ◌∙◌}
-use Rattle.std.proofs.Common.{subst, arith}
+use Rattle.std.proofs.Common.{Contains, subst, arith}
 use Rattle.std.proofs.lemmas.Bool.{cond_both}
 use Rattle.std.specs.FinMap.{empty, get-empty, get-insert}
 use Rattle.std.specs.List.{All, AllByRecursion as Each}
@@ -62,6 +62,7 @@ refused = 227 ∷ 1 ∷ []
 abbrev controller : ControllerPlan
 controller = record {
   node = 1;
+  network = 0;
   coils = 16;
   inputs = 16;
   input_registers = 1;
@@ -73,16 +74,23 @@ controller = record {
   segments = [];
 }
 
+abbrev to_one : List ℕ
+to_one = 1 ∷ []
+
 abbrev host : HostPlan
 host = record {
   node = 5;
+  network = 0;
   requests =
-      record { hold = 1; to = 1; pdu = echo } ∷ record { hold = 1; to = 1; pdu = unknown } ∷ [];
+      record { hold = 1; route = to_one; pdu = echo }
+      ∷ record { hold = 1; route = to_one; pdu = unknown } ∷ [];
 }
 
 abbrev net : NetPlan
 net = record {
+  number = 0;
   members = 1 ∷ 5 ∷ [];
+  bridges = [];
   fates = D ∷ [];
   answer = 2;
   rotations = 1;
@@ -120,28 +128,41 @@ five = record { from = omega arith; to = omega arith }
 
 is-net : IsNetPlan net
 is-net = record {
-  first = omega arith;
-  members = all-from IsNode net.members (one, (five, tt));
-  rising = two-rise;
+  members = record {
+    some = omega arith;
+    each = all-from IsNode net.members (one, (five, tt));
+    rise = two-rise;
+  };
+  bridges = record {
+    among = all-from (Contains net.members) [] tt;
+    rise = λ k within. absurd (omega (arith, within));
+  };
   fates = record { from = omega arith; to = omega arith };
-  answer = record { from = omega arith; to = omega arith };
-  rotations = record { from = omega arith; to = omega arith };
-  rounds = record { from = omega arith; to = omega arith };
-  holds = record { from = omega arith; to = omega arith };
+  numbers = record {
+    number = omega arith;
+    answer = record { from = omega arith; to = omega arith };
+    rotations = record { from = omega arith; to = omega arith };
+    rounds = record { from = omega arith; to = omega arith };
+    holds = record { from = omega arith; to = omega arith };
+  };
 }
 
-asks-one : (pdu : List ℕ) → IsAskOf 5 (record { hold = 1; to = 1; pdu = pdu })
+asks-one : (pdu : List ℕ) → IsAskOf host (record { hold = 1; route = to_one; pdu = pdu })
 asks-one pdu = record {
   hold = record { from = omega arith; to = omega arith };
-  to = one;
-  other = λ e. omega (arith, e);
+  route = record {
+    some = omega arith;
+    nodes = all-from IsNode to_one (one, tt);
+    other = λ e. (let same : ◌≡◌ {A = ℕ} 1 5 = cc in omega (arith, same));
+    alone = λ _. refl;
+  };
 }
 
 is-host : IsHostPlan host
 is-host = record {
   node = five;
   few = omega arith;
-  requests = all-from (IsAskOf 5) host.requests (asks-one echo, (asks-one unknown, tt));
+  requests = all-from (IsAskOf host) host.requests (asks-one echo, (asks-one unknown, tt));
 }
 
 is-plant : IsPlant plant
@@ -150,11 +171,17 @@ is-plant = record {
   scan_time = record { from = omega arith; to = omega arith };
   watchdog = record { from = omega arith; to = omega arith };
   net = is-net;
+  alone = refl;
+  no_bridge = refl;
   count = record { from = omega arith; to = omega arith };
   controllers = all-from PassesTests plant.controllers (refl, tt);
+  controllers_there = all-from (λ (p : ControllerPlan). p.network ≡ plant.net.number)
+      plant.controllers (refl, tt);
   controllers_rise = one-rises 1;
   few = omega arith;
   hosts = all-from IsHostPlan plant.hosts (is-host, tt);
+  hosts_there = all-from (λ (h : HostPlan). h.network ≡ plant.net.number) plant.hosts
+      (refl, tt);
   hosts_rise = one-rises 5;
   members = IsPermutation-refl (1 ∷ 5 ∷ []);
 }
@@ -162,10 +189,10 @@ is-plant = record {
 -- ---- its history
 
 abbrev frame : FrameKind → ℕ → ℕ → List ℕ → Frame
-frame kind to path pdu = record { kind = kind; to = to; id = id path; pdu = pdu }
+frame kind to path pdu = record { kind = kind; to = to; rest = []; id = id path; pdu = pdu }
 
 abbrev asked : List HostEntry
-asked = Ask (id 1) 1 echo ∷ Ask (id 2) 1 unknown ∷ []
+asked = Ask (id 1) to_one echo ∷ Ask (id 2) to_one unknown ∷ []
 
 abbrev answered : List HostEntry
 answered = asked ++ Answer (id 1) (results.Reply echo) ∷ []
@@ -211,10 +238,10 @@ target-legal =
 
 asker-legal : IsHostHistory host asker
 asker-legal =
-    let first = may_of (record { plan = host; history = [] }) (Ask (id 1) 1 echo)
+    let first = may_of (record { plan = host; history = [] }) (Ask (id 1) to_one echo)
     (kept_new host).legal (refl, refl) in
-    let second = may_of (record { plan = host; history = Ask (id 1) 1 echo ∷ [] })
-    (Ask (id 2) 1 unknown) first (refl, refl) in
+    let second = may_of (record { plan = host; history = Ask (id 1) to_one echo ∷ [] })
+    (Ask (id 2) to_one unknown) first (refl, refl) in
     let third = may_of (record { plan = host; history = asked })
     (Answer (id 1) (results.Reply echo)) second refl in
     may_of (record { plan = host; history = answered }) (Answer (id 2) (results.Reply refused))
@@ -280,24 +307,24 @@ no-repeat last none repeat = let no' : false ≡ true = sym (ap (nat_le 1) none)
 -- the first Send leaves the ring that is told
 first-sent : after net both-posted (Send 5 Acked) ≡ one-sent
 first-sent = cond_both (is_repeat (ring_node both-posted 1) (id 1)) _ _
-    (λ x. sent_with both-posted 5 (frame Request 1 1 echo) D (Some x) ≡ one-sent)
+    (λ x. sent_with net both-posted 5 (frame Request 1 1 echo) D (Some x) ≡ one-sent)
     (λ repeat. absurd (no-repeat _ none-of-one repeat))
     (λ _. refl)
 
 -- so does the second
 second-sent : after net one-sent (Send 5 Acked) ≡ both-sent
 second-sent = cond_both (is_repeat (ring_node one-sent 1) (id 2)) _ _
-    (λ x. sent_with one-sent 5 (frame Request 1 2 unknown) D (Some x) ≡ both-sent)
+    (λ x. sent_with net one-sent 5 (frame Request 1 2 unknown) D (Some x) ≡ both-sent)
     (λ repeat. absurd (no-repeat _ none-of-two repeat))
     (λ _. refl)
 
 -- the first Send hears that it is acked, which a repeat is too
-first-acked : Acked ≡ heard_of D (arrival both-posted.nodes D (frame Request 1 1 echo))
+first-acked : Acked ≡ heard_of D (arrival net both-posted.nodes D (frame Request 1 1 echo))
 first-acked = cond_both (is_repeat (ring_node both-posted 1) (id 1)) _ _
     (λ x. Acked ≡ heard_of D (Some x)) (λ _. refl) (λ _. refl)
 
 -- so does the second
-second-acked : Acked ≡ heard_of D (arrival one-sent.nodes D (frame Request 1 2 unknown))
+second-acked : Acked ≡ heard_of D (arrival net one-sent.nodes D (frame Request 1 2 unknown))
 second-acked = cond_both (is_repeat (ring_node one-sent 1) (id 2)) _ _
     (λ x. Acked ≡ heard_of D (Some x)) (λ _. refl) (λ _. refl)
 
@@ -308,11 +335,11 @@ after-both = (
   (
     ((0, omega arith, refl), (refl, refl)),
     (
-      (((0, omega arith, refl), (refl, (λ e. omega (arith, e)))), (tt, refl)),
+      (((0, omega arith, refl), (refl, (λ e. omega (arith, e)), refl)), (tt, refl)),
       (
         ((0, omega arith, refl), (refl, refl)),
         (
-          (((0, omega arith, refl), (refl, (λ e. omega (arith, e)))), (tt, refl)),
+          (((0, omega arith, refl), (refl, (λ e. omega (arith, e)), refl)), (tt, refl)),
           (
             ((0, omega arith, refl), (refl, refl)),
             (
@@ -374,10 +401,28 @@ is-legal =
 
 is-joint : IsJoint joint
 is-joint = record {
-  controllers = all-from (IsTiedController ring) joint.controllers
-      (record { asks = refl; peers = refl; port = refl; replies = refl; ends = refl; downs = (tt, tt) }, tt);
-  hosts = all-from (IsTiedHost ring) joint.hosts
-      (record { asks = refl; peers = refl; port = refl; replies = refl; ends = refl; downs = (tt, tt) }, tt);
+  controllers = all-from (IsTiedController ring) joint.controllers (
+    record {
+      asks = refl;
+      peers = refl;
+      port = refl;
+      replies = refl;
+      ends = refl;
+      downs = (tt, tt);
+    },
+    tt,
+  );
+  hosts = all-from (IsTiedHost ring) joint.hosts (
+    record {
+      asks = refl;
+      peers = refl;
+      port = refl;
+      replies = refl;
+      ends = refl;
+      downs = (tt, tt);
+    },
+    tt,
+  );
 }
 
 -- ---- its calls

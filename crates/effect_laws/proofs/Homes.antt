@@ -10,9 +10,10 @@ use Rattle.ring_core.specs.declared.entry.LocalOp.{LocalOp}
 use Rattle.ring_core.specs.declared.entry.RingEntry.{RingEntry}
 use Rattle.ring_core.specs.declared.entry.RingEntry.TheVariants.{Post, Send, Take, Local, GiveUp}
 use Rattle.ring_core.specs.declared.entry.RingEntry.TheVariants.{Pass, Leave, Join}
+use Rattle.ring_core.specs.declared.frame.Frame.{Frame}
 use Rattle.ring_core.specs.declared.frame.FrameKind.{FrameKind}
 use Rattle.ring_core.specs.declared.frame.FrameKind.TheVariants.{Request, Reply}
-use Rattle.ring_core.specs.Words.{maker}
+use Rattle.ring_core.specs.Words.{frame_route, maker}
 use Rattle.host_port.proofs.Lists.{all_append, all_same}
 use Rattle.host_port.specs.declared.entry.HostEntry.{HostEntry}
 use Rattle.host_port.specs.declared.entry.HostEntry.TheVariants.{Ask, Answer, Served}
@@ -191,8 +192,8 @@ asked-called id c cs rest = at c.sort refl (count_cons (is_called id) c cs)
         ≡ cond (is_same_call c.id id) 1 0 + count_by (is_called id) cs
         → count_by (is_asked id) (filter_map net_ask (record { id = c.id; sort = sort } ∷ cs)) ≤
         count_by (is_called id) (c ∷ cs)
-    at (OverNet to pdu) is step =
-        let this : Asked = record { id = c.id; to = to; pdu = pdu } in
+    at (OverNet route pdu) is step =
+        let this : Asked = record { id = c.id; route = route; pdu = pdu } in
         let more = count_cons (is_asked id) this (filter_map net_ask cs) in omega arith
     at (AtHome op) is step = omega arith
 
@@ -218,11 +219,11 @@ home-first id op name sort cs rest found once =
         → count_by (is_called id) (record { id = name; sort = sort } ∷ cs)
         ≡ cond same 1 0 + count_by (is_called id) cs
         → count_by (is_asked id) (filter_map net_ask (record { id = name; sort = s } ∷ cs)) ≡ 0
-    at (OverNet to pdu) true is found' step =
+    at (OverNet route pdu) true is found' step =
         let no' : Some NetCall ≡ Some (LocalCall op) = found' in absurd cc
     at (AtHome other) true is found' step = let fewer = fewer-asked id cs in omega arith
-    at (OverNet to pdu) false is found' step =
-        let this : Asked = record { id = name; to = to; pdu = pdu } in
+    at (OverNet route pdu) false is found' step =
+        let this : Asked = record { id = name; route = route; pdu = pdu } in
         skip (is_asked id) this (filter_map net_ask cs) is ∙ rest found' (omega arith)
     at (AtHome other) false is found' step = rest found' (omega arith)
 
@@ -273,7 +274,7 @@ and-off false = refl
 
 away-next : (a : Items) (e : HostEntry) → Each is_away a.ends
     → Each is_away (host_item_next a e).ends
-away-next a (Ask id to pdu) all = all
+away-next a (Ask id route pdu) all = all
 away-next a (Answer id (results.Reply pdu)) all =
     all_append is_away a.ends _ all ((λ other. and-off (is_same_call id other)), tt)
 away-next a (Answer id (results.Bad word)) all =
@@ -294,23 +295,22 @@ host-homes h id some =
 
 -- ---- what was posted was asked
 
-posted-kind : (id : CallId) (n : ℕ) (kind : FrameKind) (to : ℕ) (name : CallId) (pdu : List ℕ)
-    (b : List RingEntry)
+posted-kind : (id : CallId) (n : ℕ) (f : Frame) (kind : FrameKind) (b : List RingEntry)
     → count_by (posts id) b ≡ count_by (is_asked id) (asked_by b)
-    → count_by (posts id) (Post n (record { kind = kind; to = to; id = name; pdu = pdu }) ∷ b)
-    ≡ count_by (is_asked id) (asked_by
-    (Post n (record { kind = kind; to = to; id = name; pdu = pdu }) ∷ b))
-posted-kind id n Request to name pdu b rest =
-    count_cons (posts id) (Post n (record { kind = Request; to = to; id = name; pdu = pdu })) b
-    ∙ ap (λ k. cond (is_same_call name id) 1 0 + k) rest
-    ∙ sym (count_cons (is_asked id) (record { id = name; to = to; pdu = pdu }) (asked_by b))
-posted-kind id n Reply to name pdu b rest =
-    skip (posts id) (Post n (record { kind = Reply; to = to; id = name; pdu = pdu })) b refl ∙ rest
+    → count_by (posts id) (Post n (record f { kind = kind }) ∷ b)
+    ≡ count_by (is_asked id) (asked_by (Post n (record f { kind = kind }) ∷ b))
+posted-kind id n f Request b rest =
+    count_cons (posts id) (Post n (record f { kind = Request })) b
+    ∙ ap (λ k. cond (is_same_call f.id id) 1 0 + k) rest
+    ∙ sym (count_cons (is_asked id) (record { id = f.id; route = frame_route f; pdu = f.pdu })
+    (asked_by b))
+posted-kind id n f Reply b rest =
+    skip (posts id) (Post n (record f { kind = Reply })) b refl ∙ rest
 
 pub posted-asked : (id : CallId) (b : List RingEntry)
     → count_by (posts id) b ≡ count_by (is_asked id) (asked_by b)
 posted-asked id [] = refl
-posted-asked id (Post n f ∷ b) = posted-kind id n f.kind f.to f.id f.pdu b (posted-asked id b)
+posted-asked id (Post n f ∷ b) = posted-kind id n f f.kind b (posted-asked id b)
 posted-asked id (Send n heard ∷ b) = skip (posts id) (Send n heard) b refl ∙ posted-asked id b
 posted-asked id (Take n f ∷ b) = skip (posts id) (Take n f) b refl ∙ posted-asked id b
 posted-asked id (Local n name op result ∷ b) =

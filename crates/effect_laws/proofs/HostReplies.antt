@@ -1,12 +1,13 @@
 -- A reply that a host got is the answer of the node that it asked.
 use Rattle.std.proofs.Common.{◌≡◌, ℕ, ◌==◌, Bool, true, false, List, [], ◌∷◌, ◌++◌, Some}
-use Rattle.std.proofs.Common.{None}
+use Rattle.std.proofs.Common.{None, length}
 use Rattle.std.proofs.Common.{refl, sym, ap, ◌∙◌, subst, inl, inr, ◌⊎◌, ⊎_elim, arith}
 use Rattle.std.specs.Prelude.{Contains, if◌then◌else◌}
 use Rattle.std.proofs.lemmas.Bool.{eq-eqb}
 use Rattle.std.proofs.lemmas.List.Elements.{All-contains, Contains-append_right}
 use Rattle.std.proofs.lemmas.List.Elements.{Contains-push_cases}
 use Rattle.plant_types.specs.declared.plan.Plant.{Plant}
+use Rattle.plant_types.specs.Plans.{is_routed}
 use Rattle.mstr_block.specs.declared.call.CallId.{CallId}
 use Rattle.mstr_block.specs.declared.call.MstrResult.{MstrResult}
 use Rattle.ring_core.specs.declared.entry.LocalOp.{LocalOp}
@@ -16,7 +17,7 @@ use Rattle.ring_core.specs.declared.entry.RingEntry.TheVariants.{Pass, Leave, Jo
 use Rattle.ring_core.specs.declared.frame.FrameKind.{FrameKind}
 use Rattle.ring_core.specs.declared.frame.FrameKind.TheVariants.{Request, Reply}
 use Rattle.ring_core.specs.declared.frame.Frame.{Frame}
-use Rattle.ring_core.specs.Words.{maker}
+use Rattle.ring_core.specs.Words.{frame_route, maker}
 use Rattle.ring_laws.specs.Once.{posts}
 use Rattle.ring_laws.proofs.Law.{only-its-target, posted-once, reply-by-taker}
 use Rattle.ring_laws.proofs.Lists.{only-one}
@@ -25,6 +26,7 @@ use Rattle.controller_core.specs.declared.entry.Entry.TheVariants as entries
 use Rattle.host_port.specs.declared.entry.HostEntry.{HostEntry}
 use Rattle.host_port.specs.declared.entry.HostEntry.TheVariants as host_entries
 use Rattle.host_port.specs.declared.entry.HostResult.TheVariants as results
+use Rattle.host_port.proofs.Planned.{ask-planned}
 use Rattle.tied_lists.specs.Own.{own}
 use Rattle.tied_lists.specs.Items.{AController, AHost, Answered, Asked, Called, Ended}
 use Rattle.tied_lists.specs.Items.{OverNet, Items, answered_for, answered_of, asked_by}
@@ -34,17 +36,18 @@ use Rattle.joint_history.specs.declared.joint.ControllerLog.{ControllerLog}
 use Rattle.joint_history.specs.declared.joint.HostLog.{HostLog}
 use Rattle.joint_history.specs.declared.joint.Joint.{Joint}
 use Rattle.joint_history.specs.JointLaws.{IsTiedController, IsTiedHost}
-use Rattle.joint_history.specs.Reading.{host_item_next, host_items_after, host_items_of, item_next}
-use Rattle.joint_history.specs.Reading.{items_after, items_of}
+use Rattle.joint_history.specs.Reading.{answered_here, host_item_next, host_items_after}
+use Rattle.joint_history.specs.Reading.{host_items_of, item_next, items_after, items_of}
 use Rattle.joint_history.proofs.Collected.{CallLaws}
 use Rattle.effect_laws.specs.Effects.{HostsGetTheirAnswers}
 use Rattle.effect_laws.specs.HostReplies.{ControllerAnswers, HostAnswers, IsAnswerTo, NodeAnswers}
 use Rattle.effect_laws.specs.HostReplies.{PortAnswers}
-use Rattle.effect_laws.proofs.Once.{asks-this, log-at}
+use Rattle.effect_laws.proofs.Once.{asks-this, legal-host_log, log-at}
 use Rattle.effect_laws.proofs.Reports.{Origin, answer-ends, answers-taken, member-at, origin-in}
 use Rattle.effect_laws.proofs.Served.{JointOf, ring-history}
 use Rattle.effect_laws.proofs.Sources.{EndedBy, behind, by_port, by_reply, by_word, end-at, here}
 use Rattle.effect_laws.proofs.Sources.{ended-by, in-map, in-none, in-own, of-map, of-own}
+use Rattle.effect_laws.proofs.Words.{asked_as}
 
 -- ---- from items back to entries
 
@@ -88,20 +91,21 @@ peer-in a (e ∷ h) answer told given there =
         let x = entries.Peer id request reply in
         ⊎_elim
         (λ (before : Contains a.answers answer). inl before)
-        (λ (same : record { id = id; request = Some request; reply = Some reply } ≡ answer).
+        (λ (same : answered_here id request (Some reply) ≡ answer).
         inr (subst (λ (one : Answered). PeerIn (x ∷ h) one) same (record {
           entry = x;
           there = here x h;
           is = (request, reply, refl, refl, refl);
         })))
-        (Contains-push_cases a.answers (record { id = id; request = Some request; reply = Some reply })
+        (Contains-push_cases a.answers
+        (answered_here id request (Some reply))
         answer old)
     last (entries.Off id request) old = ⊎_elim
         (λ (before : Contains a.answers answer). inl before)
-        (λ (same : record { id = id; request = Some request; reply = None } ≡ answer).
+        (λ (same : answered_here id request None ≡ answer).
         let none : None ≡ answer.reply = ap (λ (x : Answered). x.reply) same in
         let no' : None ≡ Some told = none ∙ given in absurd (cc))
-        (Contains-push_cases a.answers (record { id = id; request = Some request; reply = None })
+        (Contains-push_cases a.answers (answered_here id request None)
         answer old)
 
 -- so is one of a host's
@@ -132,24 +136,25 @@ served-in a (e ∷ h) answer there =
   where
     last : (x : HostEntry) → Contains (host_item_next a x).answers answer
         → Contains a.answers answer ⊎ ServedIn (x ∷ h) answer
-    last (host_entries.Ask id to pdu) old = inl old
+    last (host_entries.Ask id route pdu) old = inl old
     last (host_entries.Answer id result) old = inl old
     last (host_entries.Served id request reply) old =
         let x = host_entries.Served id request reply in
         ⊎_elim
         (λ (before : Contains a.answers answer). inl before)
-        (λ (same : record { id = id; request = Some request; reply = Some reply } ≡ answer).
+        (λ (same : answered_here id request (Some reply) ≡ answer).
         inr (subst (λ (one : Answered). ServedIn (x ∷ h) one) same (record {
           entry = x;
           there = here x h;
           is = (request, reply, refl, refl, refl);
         })))
-        (Contains-push_cases a.answers (record { id = id; request = Some request; reply = Some reply })
+        (Contains-push_cases a.answers
+        (answered_here id request (Some reply))
         answer old)
 
 -- a call of a host's list is that of an entry
 record AskIn (h : List HostEntry) (asked : Asked) : Type 0 where
-  there : Contains h (host_entries.Ask asked.id asked.to asked.pdu)
+  there : Contains h (host_entries.Ask asked.id asked.route asked.pdu)
 
 later-ask : (e : HostEntry) (h : List HostEntry) (asked : Asked) → AskIn h asked
     → AskIn (e ∷ h) asked
@@ -169,16 +174,16 @@ ask-in a (e ∷ h) c asked is there =
         → Contains a.calls c ⊎ AskIn (x ∷ h) asked
     last (host_entries.Answer id result) old = inl old
     last (host_entries.Served id request reply) old = inl old
-    last (host_entries.Ask id to pdu) old =
-        let x = host_entries.Ask id to pdu in
+    last (host_entries.Ask id route pdu) old =
+        let x = host_entries.Ask id route pdu in
         ⊎_elim
         (λ (before : Contains a.calls c). inl before)
-        (λ (same : record { id = id; sort = OverNet to pdu } ≡ c).
-        let this : Asked = record { id = id; to = to; pdu = pdu } in
+        (λ (same : record { id = id; sort = OverNet route pdu } ≡ c).
+        let this : Asked = record { id = id; route = route; pdu = pdu } in
         let both : Some this ≡ Some asked = ap net_ask same ∙ is in
         let one : this ≡ asked = cc in
         inr (subst (λ (y : Asked). AskIn (x ∷ h) y) one (record { there = here x h })))
-        (Contains-push_cases a.calls (record { id = id; sort = OverNet to pdu }) c old)
+        (Contains-push_cases a.calls (record { id = id; sort = OverNet route pdu }) c old)
 
 -- an answer of a port is that of an entry
 record PortIn (e : RingEntry) (answer : Answered) : Type 0 where
@@ -195,7 +200,8 @@ port-for : (n : ℕ) (id : CallId) (op : LocalOp) (result : MstrResult) (answer 
 port-for n id op result answer is = at (id.node == n) is
   where
     this : Answered
-    this = record { id = id; request = request_of op; reply = Some (reply_of result) }
+    this =
+        record { id = id; rest = []; request = request_of op; reply = Some (reply_of result) }
 
     at : (b : Bool) → (if b then None else Some this) ≡ Some answer
         → PortIn (Local n id op result) answer
@@ -343,15 +349,30 @@ given-by plant scans joint n f j posted kind =
 
 -- ---- the law
 
+-- what a host of the one network asks goes by one address
+none-behind : (to : ℕ) (rest : List ℕ) → length (to ∷ rest) ≡ 1 → rest ≡ []
+none-behind to [] one = refl
+none-behind to (x ∷ rest) one = absurd (omega (arith, one))
+
+one-address : (plant : Plant) (scans : ℕ) (joint : Joint) (log : HostLog)
+    → JointOf plant scans joint → Contains joint.hosts log → (id : CallId) (route pdu : List ℕ)
+    → Contains log.entries (host_entries.Ask id route pdu) → length route ≡ 1
+one-address plant scans joint log j there id route pdu asked =
+    let legal = legal-host_log plant scans joint log j there in
+    let is = legal.is in
+    let network = legal.network ∙ j.is.alone in
+    (ask-planned legal.plan log.entries id route pdu is legal.history asked).alone
+    (ap is_routed network)
+
 asked-own : (joint : Joint) (log : HostLog) (m : ℕ) (request : Frame) → IsTiedHost joint.ring log
     → m ≡ log.node → request.kind ≡ Request
     → Contains joint.ring (Post m request)
-    → Contains log.entries (host_entries.Ask request.id request.to request.pdu)
+    → Contains log.entries (host_entries.Ask request.id (frame_route request) request.pdu)
 asked-own joint log m request tied node kind posted =
     let n = log.node in
     let b = own n joint.ring in
     let a = host_items_of log.entries in
-    let asked : Asked = record { id = request.id; to = request.to; pdu = request.pdu } in
+    let asked : Asked = asked_as request in
     let mine = in-own n joint.ring (Post m request) (eq-eqb m n node) posted in
     let among = in-map asked_of b (Post m request) asked
     (ap (λ (k : FrameKind). asked_in k request) kind) mine in
@@ -382,12 +403,16 @@ got-answer laws plant scans joint log m f j there node taken kind =
     let frames : g.request ≡ a.request = cc in
     let tied = All-contains (IsTiedHost ring) joint.hosts log j.tied.hosts there in
     let asked = asked-own joint log m a.request tied node a.kind a.asked in
+    let alone : a.request.rest ≡ [] = none-behind a.request.to a.request.rest
+    (one-address plant scans joint log j there a.request.id (frame_route a.request)
+    a.request.pdu asked) in
     record {
       to = a.by;
       request = a.request.pdu;
-      asked = subst (λ (k : ℕ). Contains log.entries (host_entries.Ask f.id k a.request.pdu)) a.to
+      asked = subst (λ (way : List ℕ). Contains log.entries
+          (host_entries.Ask f.id way a.request.pdu)) (λ i. a.to i ∷ alone i)
           (subst (λ (i : CallId). Contains log.entries
-          (host_entries.Ask i a.request.to a.request.pdu)) a.same asked);
+          (host_entries.Ask i (frame_route a.request) a.request.pdu)) a.same asked);
       given = subst (λ (x : Frame). NodeAnswers joint a.by f.id x.pdu f.pdu) frames g.given;
     }
 

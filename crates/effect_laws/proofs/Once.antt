@@ -3,15 +3,15 @@ use Rattle.std.proofs.Common.{◌≡◌, ℕ, ◌+◌, ◌<◌, ◌≤◌, ◌++
 use Rattle.std.proofs.Common.{◌∷◌, map}
 use Rattle.std.proofs.Common.{refl, sym, ap, ◌∙◌, subst, inl, inr, ◌⊎◌, ⊎_elim, arith}
 use Rattle.std.specs.Prelude.{◌==◌, Contains}
-use Rattle.std.specs.List.{AllByRecursion as Each, AllZip, count_by}
+use Rattle.std.specs.List.{All, AllByRecursion as Each, AllZip, count_by}
 use Rattle.std.proofs.lemmas.Bool.{and_from, and_parts, cases_lt, eq-eqb, eqb-true, true≢false}
-use Rattle.std.proofs.lemmas.List.Elements.{All-contains}
+use Rattle.std.proofs.lemmas.List.Elements.{All-contains, All-head, All-tail}
 use Rattle.std.proofs.lemmas.List.Sums.{sum_by-append}
 use Rattle.plant_types.specs.declared.net.NetPlan.{NetPlan}
 use Rattle.plant_types.specs.declared.net.HostPlan.{HostPlan}
 use Rattle.plant_types.specs.declared.plan.ControllerPlan.{ControllerPlan}
 use Rattle.plant_types.specs.declared.plan.Plant.{Plant}
-use Rattle.plant_types.specs.Plans.{controller_nodes, host_nodes}
+use Rattle.plant_types.specs.Plans.{IsHostPlan, controller_nodes, host_nodes}
 use Rattle.mstr_block.specs.Call.{is_same_call}
 use Rattle.mstr_block.specs.declared.call.CallId.{CallId}
 use Rattle.ring_core.specs.declared.entry.RingEntry.{RingEntry}
@@ -26,6 +26,7 @@ use Rattle.ring_laws.specs.Once.{IsRingHistory, TakenOnce, posts, takes}
 use Rattle.ring_laws.proofs.Lists.{contains-count, count-contains, each-contains, same-eq}
 use Rattle.ring_laws.proofs.Lists.{same-refl}
 use Rattle.ring_laws.proofs.Law.{only-its-target}
+use Rattle.host_port.specs.Legal.{IsHostHistory}
 use Rattle.tied_lists.specs.Own.{own}
 use Rattle.tied_lists.specs.Items.{AController, AHost, Items, Station}
 use Rattle.tied_lists.specs.Tied.{Tied}
@@ -67,6 +68,36 @@ legal-log plant scans joint log j there =
     each-contains _ joint.controllers log
     (zip-each (IsLegalLog plant scans) plant.controllers joint.controllers j.legal.controllers)
     there
+
+-- so is that of a host, by a plan that a host of the network can have
+pub record LegalHostLog (plant : Plant) (log : HostLog) : Type 0 where
+  pub plan : HostPlan
+  pub is : IsHostPlan plan
+  pub network : plan.network ≡ plant.net.number
+  pub history : IsHostHistory plan log.entries
+
+legal-hosts : (plant : Plant) (ps : List HostPlan) (ls : List HostLog) → All IsHostPlan ps
+    → All (λ (p : HostPlan). p.network ≡ plant.net.number) ps → AllZip IsLegalHostLog ps ls
+    → Each (LegalHostLog plant) ls
+legal-hosts plant [] [] are there all = tt
+legal-hosts plant [] (l ∷ ls) are there all = absurd all
+legal-hosts plant (p ∷ ps) [] are there all = absurd all
+legal-hosts plant (p ∷ ps) (l ∷ ls) are there all = (
+  record {
+    plan = p;
+    is = All-head IsHostPlan p ps are;
+    network = All-head (λ (q : HostPlan). q.network ≡ plant.net.number) p ps there;
+    history = all.0.1;
+  },
+  legal-hosts plant ps ls (All-tail IsHostPlan p ps are)
+      (All-tail (λ (q : HostPlan). q.network ≡ plant.net.number) p ps there) all.1,
+)
+
+pub legal-host_log : (plant : Plant) (scans : ℕ) (joint : Joint) (log : HostLog)
+    → JointOf plant scans joint → Contains joint.hosts log → LegalHostLog plant log
+legal-host_log plant scans joint log j there =
+    each-contains (LegalHostLog plant) joint.hosts log
+    (legal-hosts plant plant.hosts joint.hosts j.is.hosts j.is.hosts_there j.legal.hosts) there
 
 -- a node's station: its list is tied, its calls at home end once, and its answers fit
 pub record Seat (ring : List RingEntry) (n : ℕ) : Type 0 where
@@ -114,14 +145,13 @@ host-seat : (plant : Plant) (scans : ℕ) (joint : Joint) (n : ℕ) (log : HostL
     → JointOf plant scans joint → Contains joint.hosts log
     → log.node ≡ n → Seat joint.ring n
 host-seat plant scans joint n log j there is =
-    let legal = each-contains (λ (l : HostLog). (p : HostPlan) × IsLegalHostLog p l) joint.hosts
-    log (zip-each IsLegalHostLog plant.hosts joint.hosts j.legal.hosts) there in
+    let legal = legal-host_log plant scans joint log j there in
     subst (Seat joint.ring) is (record {
       station = AHost;
       items = host_items_of log.entries;
       tied = All-contains (IsTiedHost joint.ring) joint.hosts log j.tied.hosts there;
       homes = host-homes log.entries;
-      answers = host-fits legal.0 log.entries legal.1.1;
+      answers = host-fits legal.plan log.entries legal.history;
     })
 
 -- each member has the list of a controller or of a host

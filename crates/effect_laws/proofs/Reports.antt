@@ -107,7 +107,7 @@ finish-ends h id result there = finish-told no_items h id result there
 
 host-ends-grow : (a : Items) (e : HostEntry) (end' : Ended) → Contains a.ends end'
     → Contains (host_item_next a e).ends end'
-host-ends-grow a (host_entries.Ask id to pdu) end' there = there
+host-ends-grow a (host_entries.Ask id route pdu) end' there = there
 host-ends-grow a (host_entries.Answer id result) end' there =
     Contains-append_left a.ends _ end' there
 host-ends-grow a (host_entries.Served id request reply) end' there = there

@@ -12,17 +12,18 @@ use Rattle.plant_types.specs.declared.plan.Plant.{Plant}
 use Rattle.plant_types.specs.Plans.{IsPlant, controller_nodes, host_nodes}
 use Rattle.mstr_block.specs.Call.{is_same_call}
 use Rattle.mstr_block.specs.declared.call.CallId.{CallId}
+use Rattle.ring_core.specs.declared.frame.Frame.{Frame}
 use Rattle.ring_core.specs.declared.frame.FrameKind.{FrameKind}
 use Rattle.ring_core.specs.declared.frame.FrameKind.TheVariants.{Request, Reply}
 use Rattle.ring_core.specs.declared.entry.RingEntry.{RingEntry}
 use Rattle.ring_core.specs.declared.entry.RingEntry.TheVariants.{Post, Send, Take, Local, GiveUp}
 use Rattle.ring_core.specs.declared.entry.RingEntry.TheVariants.{Pass, Leave, Join}
-use Rattle.ring_core.specs.Statistics.{is_stats}
+use Rattle.ring_core.specs.Statistics.{is_for_stats}
 use Rattle.ring_core.specs.Words.{maker}
 use Rattle.ring_core.specs.Legal.{IsLawful, IsMember, IsRun}
 use Rattle.ring_laws.specs.Once.{takes, IsRingHistory, TakenOnce}
 use Rattle.tied_lists.specs.Own.{own}
-use Rattle.tied_lists.specs.Items.{Answered, Items, Item, Station, Taken, Plain, ForStats, item_of}
+use Rattle.tied_lists.specs.Items.{Answered, Items, RequestItem, Station, Taken, Plain, ForStats, item_of}
 use Rattle.tied_lists.specs.Items.{plain_items, stats_items, taken_by}
 use Rattle.tied_lists.specs.Items.{port_answers, request_of, reply_of, AController, AHost}
 use Rattle.tied_lists.specs.Tied.{Tied}
@@ -39,8 +40,8 @@ use Rattle.effect_laws.proofs.Counts.{sum_cons, count_cons, skip, once_rising, s
 use Rattle.effect_laws.proofs.Counts.{at_most_all, all_at_most}
 
 -- an item is of this call
-abbrev is_item : CallId → Item → Bool
-is_item id item = is_same_call item.0 id
+abbrev is_item : CallId → RequestItem → Bool
+is_item id item = is_same_call item.id id
 
 abbrev pub is_answer : CallId → Answered → Bool
 is_answer id answer = is_same_call answer.id id
@@ -56,52 +57,50 @@ by_items id (a ∷ as') =
 
 -- a Request that was taken is one of the two sorts
 abbrev is_taken : CallId → Taken → Bool
-is_taken id (Plain name pdu) = is_same_call name id
+is_taken id (Plain name rest pdu) = is_same_call name id
 is_taken id (ForStats name pdu) = is_same_call name id
 
 of_sorts : (id : CallId) (ts : List Taken)
     → count_by (is_item id) (plain_items ts) + count_by (is_item id) (stats_items ts)
     ≡ count_by (is_taken id) ts
 of_sorts id [] = refl
-of_sorts id (Plain name pdu ∷ ts) =
-    let rest = of_sorts id ts in
-    let one = count_cons (is_item id) (name, Some pdu) (plain_items ts) in
-    let all = count_cons (is_taken id) (Plain name pdu) ts in
+of_sorts id (Plain name rest pdu ∷ ts) =
+    let more = of_sorts id ts in
+    let item : RequestItem = record { id = name; rest = rest; request = Some pdu } in
+    let one = count_cons (is_item id) item (plain_items ts) in
+    let all = count_cons (is_taken id) (Plain name rest pdu) ts in
     omega arith
 of_sorts id (ForStats name pdu ∷ ts) =
-    let rest = of_sorts id ts in
-    let one = count_cons (is_item id) (name, Some pdu) (stats_items ts) in
+    let more = of_sorts id ts in
+    let item : RequestItem = record { id = name; rest = []; request = Some pdu } in
+    let one = count_cons (is_item id) item (stats_items ts) in
     let all = count_cons (is_taken id) (ForStats name pdu) ts in
     omega arith
 
 -- and they are counted in the list of the ring
-taken_at : (id name : CallId) (pdu : List ℕ) (stats : Bool) (ts : List Taken)
-    → count_by (is_taken id) ((if stats then ForStats name pdu else Plain name pdu) ∷ ts)
+taken_at : (id name : CallId) (rest pdu : List ℕ) (stats : Bool) (ts : List Taken)
+    → count_by (is_taken id) ((if stats then ForStats name pdu else Plain name rest pdu) ∷ ts)
     ≡ cond (is_same_call name id) 1 0 + count_by (is_taken id) ts
-taken_at id name pdu true ts = count_cons (is_taken id) (ForStats name pdu) ts
-taken_at id name pdu false ts = count_cons (is_taken id) (Plain name pdu) ts
+taken_at id name rest pdu true ts = count_cons (is_taken id) (ForStats name pdu) ts
+taken_at id name rest pdu false ts = count_cons (is_taken id) (Plain name rest pdu) ts
 
-take_case : (id : CallId) (n : ℕ) (kind : FrameKind) (to : ℕ) (name : CallId) (pdu : List ℕ)
-    (b : List RingEntry) → count_by
-    (is_taken id) (taken_by b) ≡ count_by (takes id) b
-    → count_by (is_taken id) (taken_by
-    (Take n (record { kind = kind; to = to; id = name; pdu = pdu }) ∷ b))
-    ≡ count_by (takes id) (Take n (record { kind = kind; to = to; id = name; pdu = pdu }) ∷ b)
-take_case id n Request to name pdu b rest =
-    taken_at id name pdu (is_stats pdu) (taken_by b)
-    ∙ ap (λ k. cond (is_same_call name id) 1 0 + k) rest
-    ∙ sym (count_cons (takes id) (Take n
-    (record { kind = Request; to = to; id = name; pdu = pdu })) b)
-take_case id n Reply to name pdu b rest =
-    rest ∙ sym (skip (takes id) (Take n (record { kind = Reply; to = to; id = name; pdu = pdu })) b
-    refl)
+take_case : (id : CallId) (n : ℕ) (f : Frame) (kind : FrameKind) (b : List RingEntry)
+    → count_by (is_taken id) (taken_by b) ≡ count_by (takes id) b
+    → count_by (is_taken id) (taken_by (Take n (record f { kind = kind }) ∷ b))
+    ≡ count_by (takes id) (Take n (record f { kind = kind }) ∷ b)
+take_case id n f Request b rest =
+    taken_at id f.id f.rest f.pdu (is_for_stats f) (taken_by b)
+    ∙ ap (λ k. cond (is_same_call f.id id) 1 0 + k) rest
+    ∙ sym (count_cons (takes id) (Take n (record f { kind = Request })) b)
+take_case id n f Reply b rest =
+    rest ∙ sym (skip (takes id) (Take n (record f { kind = Reply })) b refl)
 
 in_ring : (id : CallId) (b : List RingEntry)
     → count_by (is_taken id) (taken_by b) ≡ count_by (takes id) b
 in_ring id [] = refl
 in_ring id (Post n f ∷ b) = in_ring id b ∙ sym (skip (takes id) (Post n f) b refl)
 in_ring id (Send n heard ∷ b) = in_ring id b ∙ sym (skip (takes id) (Send n heard) b refl)
-in_ring id (Take n f ∷ b) = take_case id n f.kind f.to f.id f.pdu b (in_ring id b)
+in_ring id (Take n f ∷ b) = take_case id n f f.kind b (in_ring id b)
 in_ring id (Local n name op result ∷ b) =
     in_ring id b ∙ sym (skip (takes id) (Local n name op result) b refl)
 in_ring id (GiveUp name word ∷ b) = in_ring id b ∙ sym (skip (takes id) (GiveUp name word) b refl)
@@ -136,7 +135,12 @@ for_others id (Take n f ∷ b) = skip (serves_another id) (Take n f) b refl ∙ 
 for_others id (Local n name op result ∷ b) =
     count_cons (serves_another id) (Local n name op result) b
     ∙ ap (λ k. cond (is_same_call name id && not (name.node == n)) 1 0 + k) (for_others id b)
-    ∙ local_at id (record { id = name; request = request_of op; reply = Some (reply_of result) })
+    ∙ local_at id (record {
+      id = name;
+      rest = [];
+      request = request_of op;
+      reply = Some (reply_of result);
+    })
     (name.node == n) (port_answers b)
 for_others id (GiveUp name word ∷ b) =
     skip (serves_another id) (GiveUp name word) b refl ∙ for_others id b
@@ -227,8 +231,8 @@ pub record JointOf (plant : Plant) (scans : ℕ) (joint : Joint) : Type 0 where
 pub ring-history : (plant : Plant) (scans : ℕ) (joint : Joint) → JointOf plant scans joint
     → IsRingHistory plant.net joint.ring
 ring-history plant scans joint j = record {
-  members =
-      λ k d within. (let node = j.is.net.members k d within in let most = node.to in omega arith);
+  members = λ k d within.
+      (let node = j.is.net.members.each k d within in let most = node.to in omega arith);
   legal = j.legal.ring;
 }
 
@@ -272,7 +276,7 @@ services-are_taken plant scans joint id j =
     let apart : (m : ℕ) → count_by (λ n. m == n) ns ≤ 1 =
     λ m. subst (λ (k : ℕ). k ≤ 1) (counted-member plant m j.is)
     (once_rising m plant.net.members
-    (AllPairs-from_increasing plant.net.members j.is.net.rising)) in
+    (AllPairs-from_increasing plant.net.members j.is.net.members.rise)) in
     let there : All (λ e. 1 ≤ count_by (λ n. maker e == n) ns) ring =
     λ k d within. member-station plant (maker (slice_index_or ring k d)) j.is
     (members plant.net [] ring j.legal.ring k d within) in

@@ -16,15 +16,15 @@ use Rattle.ring_core.specs.declared.entry.RingEntry.TheVariants.{Pass, Leave, Jo
 use Rattle.ring_core.specs.declared.frame.FrameKind.{FrameKind}
 use Rattle.ring_core.specs.declared.frame.FrameKind.TheVariants.{Request, Reply}
 use Rattle.ring_core.specs.declared.frame.Frame.{Frame}
-use Rattle.ring_core.specs.Statistics.{is_stats}
+use Rattle.ring_core.specs.Statistics.{is_for_stats}
 use Rattle.ring_core.specs.Words.{maker}
 use Rattle.tied_lists.specs.Own.{own}
 use Rattle.tied_lists.specs.Items.{Answered, Asked, Ended, ForStats, Item, Plain, Station, Taken}
 use Rattle.tied_lists.specs.Items.{LocalCall, NetCall, Came}
 use Rattle.tied_lists.specs.Items.{asked_by, asked_of, due_replies, ended_by, ended_of, item_of}
 use Rattle.tied_lists.specs.Items.{last_asked, outcome_of_reply, outcome_of_word, plain_items}
-use Rattle.tied_lists.specs.Items.{replies_in, stats_items, taken_in, taken_of}
-use Rattle.tied_lists.specs.Items.{due_reply}
+use Rattle.tied_lists.specs.Items.{RequestItem, replies_in, stats_items, taken_in, taken_of}
+use Rattle.tied_lists.specs.Items.{due_reply, ended_in}
 
 -- ---- members of lists
 
@@ -182,20 +182,18 @@ pub data EndedBy (station : Station) (asked : List Asked) (x : RingEntry) (end' 
         → (end'.id.node == n) ≡ true
         → Came result ≡ end'.outcome → EndedBy station asked x end'
 
-by-take : (station : Station) (asked : List Asked) (n : ℕ) (kind : FrameKind) (to : ℕ)
-    (id : CallId) (pdu : List ℕ) (end' : Ended)
-    → ended_of station asked (Take n (record { kind = kind; to = to; id = id; pdu = pdu }))
-    ≡ Some end'
-    → EndedBy station asked (Take n (record { kind = kind; to = to; id = id; pdu = pdu })) end'
-by-take station asked n Request to id pdu end' is = absurd cc
-by-take station asked n Reply to id pdu end' is =
+by-take : (station : Station) (asked : List Asked) (n : ℕ) (f : Frame) (kind : FrameKind)
+    → f.kind ≡ kind → (end' : Ended) → ended_in station asked kind f ≡ Some end'
+    → EndedBy station asked (Take n f) end'
+by-take station asked n f Request k end' is = absurd cc
+by-take station asked n f Reply k end' is =
     let this : Ended = record {
-      id = id;
+      id = f.id;
       kind = Some NetCall;
-      outcome = outcome_of_reply station (last_asked id asked) pdu;
+      outcome = outcome_of_reply station (last_asked f.id asked) f.pdu;
     } in
     let same : this ≡ end' = cc in
-    by_reply n (record { kind = Reply; to = to; id = id; pdu = pdu }) refl refl
+    by_reply n f refl k
     (ap (λ (x : Ended). x.id) same) (ap (λ (x : Ended). x.outcome) same)
 
 by-local : (station : Station) (asked : List Asked) (n : ℕ) (id : CallId) (op : LocalOp)
@@ -220,7 +218,7 @@ pub ended-by : (station : Station) (asked : List Asked) (x : RingEntry) (end' : 
     → ended_of station asked x ≡ Some end' → EndedBy station asked x end'
 ended-by station asked (Post n f) end' is = absurd cc
 ended-by station asked (Send n heard) end' is = absurd cc
-ended-by station asked (Take n f) end' is = by-take station asked n f.kind f.to f.id f.pdu end' is
+ended-by station asked (Take n f) end' is = by-take station asked n f f.kind refl end' is
 ended-by station asked (Local n id op result) end' is =
     by-local station asked n id op result end' is
 ended-by station asked (GiveUp id word) end' is =
@@ -278,11 +276,11 @@ end-at station asked (x ∷ b) end' there =
 -- ---- replies
 
 abbrev pub name_of : Taken → CallId
-name_of (Plain id pdu) = id
+name_of (Plain id rest pdu) = id
 name_of (ForStats id pdu) = id
 
 abbrev pub pdu_of : Taken → List ℕ
-pdu_of (Plain id pdu) = pdu
+pdu_of (Plain id rest pdu) = pdu
 pdu_of (ForStats id pdu) = pdu
 
 -- a Reply that is due is the answer to a Request that was taken
@@ -315,30 +313,31 @@ due-is name (Some reply) id pdu is =
     some-item : (x y : Item) → Some x ≡ Some y → x ≡ y
     some-item x y e = cc
 
-plain-source : (name : CallId) (request : List ℕ) (ts : List Taken) (id : CallId) (pdu : List ℕ)
-    → sources ts id pdu → sources (Plain name request ∷ ts) id pdu
-plain-source name request ts id pdu rest [] port plain stats there = absurd cc
-plain-source name request ts id pdu rest (a ∷ peers) port plain stats there =
-    let first : item_of a ≡ (name, Some request) = cc in
+plain-source : (name : CallId) (rest request : List ℕ) (ts : List Taken) (id : CallId)
+    (pdu : List ℕ) → sources ts id pdu → sources (Plain name rest request ∷ ts) id pdu
+plain-source name rest request ts id pdu later [] port plain stats there = absurd cc
+plain-source name rest request ts id pdu later (a ∷ peers) port plain stats there =
+    let this : RequestItem = record { id = name; rest = rest; request = Some request } in
+    let first : item_of a ≡ this = cc in
     let more : map item_of peers ≡ plain_items ts = cc in
     ⊎_elim
     (λ (is : due_reply name (Some a.reply) ≡ Some (id, Some pdu)).
     let due = due-is name a.reply id pdu is in
     record {
-      request = Plain name request;
-      taken = here (Plain name request) ts;
+      request = Plain name rest request;
+      taken = here (Plain name rest request) ts;
       answer = a;
       among = inl (here a peers);
       reply = due.1;
       name = due.0;
-      named = ap (λ (i : Item). i.0) first ∙ due.0;
-      asked = ap (λ (i : Item). i.1) first;
+      named = ap (λ (i : RequestItem). i.id) first ∙ due.0;
+      asked = ap (λ (i : RequestItem). i.request) first;
     })
-    (λ (later : Contains (due_replies ts (replies_in peers) (replies_in port)) (id, Some pdu)).
-    let s = rest peers port more stats later in
+    (λ (due : Contains (due_replies ts (replies_in peers) (replies_in port)) (id, Some pdu)).
+    let s = later peers port more stats due in
     record {
       request = s.request;
-      taken = behind (Plain name request) ts s.request s.taken;
+      taken = behind (Plain name rest request) ts s.request s.taken;
       answer = s.answer;
       among =
           ⊎_elim (λ (p : Contains peers s.answer). inl (behind a peers s.answer p))
@@ -356,7 +355,8 @@ stats-source : (name : CallId) (request : List ℕ) (ts : List Taken) (id : Call
     → sources (ForStats name request ∷ ts) id pdu
 stats-source name request ts id pdu rest peers [] plain stats there = absurd cc
 stats-source name request ts id pdu rest peers (a ∷ port) plain stats there =
-    let first : item_of a ≡ (name, Some request) = cc in
+    let this : RequestItem = record { id = name; rest = []; request = Some request } in
+    let first : item_of a ≡ this = cc in
     let more : map item_of port ≡ stats_items ts = cc in
     ⊎_elim
     (λ (is : due_reply name (Some a.reply) ≡ Some (id, Some pdu)).
@@ -368,8 +368,8 @@ stats-source name request ts id pdu rest peers (a ∷ port) plain stats there =
       among = inr (here a port);
       reply = due.1;
       name = due.0;
-      named = ap (λ (i : Item). i.0) first ∙ due.0;
-      asked = ap (λ (i : Item). i.1) first;
+      named = ap (λ (i : RequestItem). i.id) first ∙ due.0;
+      asked = ap (λ (i : RequestItem). i.request) first;
     })
     (λ (later : Contains (due_replies ts (replies_in peers) (replies_in port)) (id, Some pdu)).
     let s = rest peers port plain more later in
@@ -393,8 +393,8 @@ no-source id pdu peers port plain stats there = absurd (in-none (id, Some pdu) t
 
 pub source-of : (ts : List Taken) (id : CallId) (pdu : List ℕ) → sources ts id pdu
 source-of [] id pdu = no-source id pdu
-source-of (Plain name request ∷ ts) id pdu =
-    plain-source name request ts id pdu (source-of ts id pdu)
+source-of (Plain name rest request ∷ ts) id pdu =
+    plain-source name rest request ts id pdu (source-of ts id pdu)
 source-of (ForStats name request ∷ ts) id pdu =
     stats-source name request ts id pdu (source-of ts id pdu)
 
@@ -407,32 +407,34 @@ pub record TakeOf (x : RingEntry) (t : Taken) : Type 0 where
   pub id : frame.id ≡ name_of t
   pub pdu : frame.pdu ≡ pdu_of t
 
-take-kind : (n : ℕ) (kind : FrameKind) (to : ℕ) (id : CallId) (pdu : List ℕ) (t : Taken)
-    → taken_in kind (record { kind = kind; to = to; id = id; pdu = pdu }) ≡ Some t
-    → TakeOf (Take n (record { kind = kind; to = to; id = id; pdu = pdu })) t
-take-kind n Reply to id pdu t is = absurd cc
-take-kind n Request to id pdu t is = at (is_stats pdu) is
+take-kind : (n : ℕ) (f : Frame) (kind : FrameKind) → f.kind ≡ kind → (t : Taken)
+    → taken_in kind f ≡ Some t → TakeOf (Take n f) t
+take-kind n f Reply k t is = absurd cc
+take-kind n f Request k t is = at (is_for_stats f) is
   where
-    this : (u : Taken) → u ≡ t → id ≡ name_of u → pdu ≡ pdu_of u
-        → TakeOf (Take n (record { kind = Request; to = to; id = id; pdu = pdu })) t
+    this : (u : Taken) → u ≡ t → f.id ≡ name_of u → f.pdu ≡ pdu_of u → TakeOf (Take n f) t
     this u same name bytes = record {
       node = n;
-      frame = record { kind = Request; to = to; id = id; pdu = pdu };
+      frame = f;
       is = refl;
-      kind = refl;
+      kind = k;
       id = name ∙ ap name_of same;
       pdu = bytes ∙ ap pdu_of same;
     }
 
-    at : (b : Bool) → Some (if b then ForStats id pdu else Plain id pdu) ≡ Some t
-        → TakeOf (Take n (record { kind = Request; to = to; id = id; pdu = pdu })) t
-    at true is' = let same : ForStats id pdu ≡ t = cc in this (ForStats id pdu) same refl refl
-    at false is' = let same : Plain id pdu ≡ t = cc in this (Plain id pdu) same refl refl
+    at : (b : Bool)
+        → Some (if b then ForStats f.id f.pdu else Plain f.id f.rest f.pdu) ≡ Some t
+        → TakeOf (Take n f) t
+    at true is' =
+        let same : ForStats f.id f.pdu ≡ t = cc in this (ForStats f.id f.pdu) same refl refl
+    at false is' =
+        let same : Plain f.id f.rest f.pdu ≡ t = cc in
+        this (Plain f.id f.rest f.pdu) same refl refl
 
 pub take-of : (x : RingEntry) (t : Taken) → taken_of x ≡ Some t → TakeOf x t
 take-of (Post n f) t is = absurd cc
 take-of (Send n heard) t is = absurd cc
-take-of (Take n f) t is = take-kind n f.kind f.to f.id f.pdu t is
+take-of (Take n f) t is = take-kind n f f.kind refl t is
 take-of (Local n id op result) t is = absurd cc
 take-of (GiveUp id word) t is = absurd cc
 take-of (Pass n done words) t is = absurd cc

@@ -23,6 +23,7 @@ use Rattle.ring_core.specs.declared.frame.FrameKind.{FrameKind}
 use Rattle.ring_core.specs.declared.frame.FrameKind.TheVariants.{Request, Reply}
 use Rattle.ring_core.specs.declared.frame.Frame.{Frame}
 use Rattle.ring_core.specs.Legal.{IsLegalRing, IsRun}
+use Rattle.ring_core.specs.Words.{frame_route}
 use Rattle.ring_core.specs.Scratch.{local_result}
 use Rattle.ring_laws.specs.Once.{HasAsked, IsFailWord, IsRingHistory, posts}
 use Rattle.ring_laws.proofs.Law.{given-up-word, only-its-target, posted-once, reply-by-taker}
@@ -81,7 +82,8 @@ port-for : (net : NetPlan) (n : ℕ) (id : CallId) (op : LocalOp) (result : Mstr
 port-for net n id op result answer ask true' is asked reply told = at (id.node == n) is
   where
     this : Answered
-    this = record { id = id; request = request_of op; reply = Some (reply_of result) }
+    this =
+        record { id = id; rest = []; request = request_of op; reply = Some (reply_of result) }
 
     at : (b : Bool) → (if b then None else Some this) ≡ Some answer → Fitting ask reply
     at true is' = absurd cc
@@ -166,6 +168,10 @@ last-some id (x ∷ asked) a there name =
     at (Some pdu) same = (pdu, refl)
     at None same = (x.pdu, ap (λ b. if b then Some x.pdu else None) same)
 
+-- what a Request asks
+abbrev pub asked_as : Frame → Asked
+asked_as f = record { id = f.id; route = frame_route f; pdu = f.pdu }
+
 -- a Request that was posted
 record PostOf (e : RingEntry) (a : Asked) : Type 0 where
   node : ℕ
@@ -175,24 +181,22 @@ record PostOf (e : RingEntry) (a : Asked) : Type 0 where
   id : frame.id ≡ a.id
   pdu : frame.pdu ≡ a.pdu
 
-post-kind : (n : ℕ) (kind : FrameKind) (to : ℕ) (id : CallId) (pdu : List ℕ) (a : Asked)
-    → asked_in kind (record { kind = kind; to = to; id = id; pdu = pdu }) ≡ Some a
-    → PostOf (Post n (record { kind = kind; to = to; id = id; pdu = pdu })) a
-post-kind n Reply to id pdu a is = absurd cc
-post-kind n Request to id pdu a is =
-    let this : Asked = record { id = id; to = to; pdu = pdu } in
-    let same : this ≡ a = cc in
+post-kind : (n : ℕ) (f : Frame) (kind : FrameKind) → f.kind ≡ kind → (a : Asked)
+    → asked_in kind f ≡ Some a → PostOf (Post n f) a
+post-kind n f Reply k a is = absurd cc
+post-kind n f Request k a is =
+    let same : asked_as f ≡ a = cc in
     record {
       node = n;
-      frame = record { kind = Request; to = to; id = id; pdu = pdu };
+      frame = f;
       is = refl;
-      kind = refl;
+      kind = k;
       id = ap (λ (x : Asked). x.id) same;
       pdu = ap (λ (x : Asked). x.pdu) same;
     }
 
 post-of : (e : RingEntry) (a : Asked) → asked_of e ≡ Some a → PostOf e a
-post-of (Post n f) a is = post-kind n f.kind f.to f.id f.pdu a is
+post-of (Post n f) a is = post-kind n f f.kind refl a is
 post-of (Send n heard) a is = absurd cc
 post-of (Take n f) a is = absurd cc
 post-of (Local n id op result) a is = absurd cc
@@ -231,10 +235,10 @@ net-of c a is of = at c.sort refl of
   where
     at : (sort : CallSort) → c.sort ≡ sort → net_ask (record { id = c.id; sort = sort }) ≡ Some a
         → NetAsk a.pdu
-    at (OverNet to pdu) same of' =
-        let this : Asked = record { id = c.id; to = to; pdu = pdu } in
+    at (OverNet route pdu) same of' =
+        let this : Asked = record { id = c.id; route = route; pdu = pdu } in
         let one : this ≡ a = cc in
-        subst NetAsk (ap (λ (x : Asked). x.pdu) one) (is to pdu same)
+        subst NetAsk (ap (λ (x : Asked). x.pdu) one) (is route pdu same)
     at (AtHome op) same of' = absurd cc
 
 -- the Request that was posted last with the Reply's name, and the Reply fits it
@@ -267,7 +271,7 @@ reply-fits laws plant scans joint log before after m f j there is kind =
     subst (λ (l : List RingEntry). Contains l (Post m earlier.request)) place.own_is
     (in-own n place.front (Post m earlier.request) (eq-eqb m n taken.1) earlier.posted) in
     let some = last-some f.id (asked_by before)
-    (record { id = earlier.request.id; to = earlier.request.to; pdu = earlier.request.pdu })
+    (asked_as earlier.request)
     (in-map asked_of before (Post m earlier.request) _
     (ap (λ (k : FrameKind). asked_in k earlier.request) earlier.kind) asking) earlier.same in
     let w = last-of f.id (asked_by before) some.0 some.1 in

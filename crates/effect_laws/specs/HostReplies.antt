@@ -1,5 +1,5 @@
 -- What the replies are that hosts get. This project's own.
-use Rattle.std.specs.Prelude.{◌≡◌, ◌⊎◌, ℕ, List, Some, Contains}
+use Rattle.std.specs.Prelude.{◌≡◌, ◌⊎◌, ℕ, List, [], ◌∷◌, Some, Contains}
 use Rattle.mstr_block.specs.declared.call.CallId.{CallId}
 use Rattle.mstr_block.specs.declared.call.MstrResult.{MstrResult}
 use Rattle.ring_core.specs.declared.entry.LocalOp.{LocalOp}
@@ -39,7 +39,7 @@ pub record IsAnswerTo (joint : Joint) (log : HostLog) (id : CallId) (reply : Lis
     : Type 0 where
   pub to : ℕ
   pub request : List ℕ
-  pub asked : Contains log.entries (Ask id to request)
+  pub asked : Contains log.entries (Ask id (to ∷ []) request)
   pub given : NodeAnswers joint to id request reply
 
 -- Each reply that a host got is the answer of the node that it asked to the very request that it

@@ -117,7 +117,8 @@ notings-grow s (x ∷ xs) =
       asked = let a = g.asked in let b = h.asked in omega (arith, a, b);
       asked_port = let a = g.asked_port in let b = h.asked_port in omega (arith, a, b);
       more = g.more ++ h.more;
-      answers = h.answers ∙ (ap (λ l. l ++ h.more) g.answers ∙ append_assoc s.answers g.more h.more);
+      answers = h.answers ∙ (ap (λ l. l ++ h.more) g.answers
+          ∙ append_assoc s.answers g.more h.more);
       failed = let a = g.failed in let b = h.failed in omega (arith, a, b);
       returned = let a = g.returned in let b = h.returned in omega (arith, a, b);
     }

@@ -72,4 +72,4 @@ joint-apart plant scans joint sound legal =
     (IsDistinct-IsPermutation eqb flips plant.net.members
     (controller_nodes plant ++ host_nodes plant)
     (IsPermutation-sym (controller_nodes plant ++ host_nodes plant) plant.net.members
-    sound.members) (rising-distinct plant.net.members sound.net.rising)))
+    sound.members) (rising-distinct plant.net.members sound.net.members.rise)))

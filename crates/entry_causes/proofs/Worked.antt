@@ -1,7 +1,8 @@
--- Journals, worked by hand: a read of two registers is in time; two nodes that each answer the other
--- before the scan in which they ask, each of whose requests is the other's cause, are not. A node
--- whose power fails lets a Request go by, leaves, and comes back; it does neither before its time.
-use Rattle.std.proofs.Common.{◌≡◌, ℕ, ◌+◌, ◌≤◌, ◌&&◌, Bool, true, false, List, [], ◌∷◌, refl}
+-- Journals, worked by hand: a read of two registers is in time; two nodes that each answer the
+-- other before the scan in which they ask, each of whose requests is the other's cause, are not.
+-- A node whose power fails lets a Request go by, leaves, and comes back; it does neither before
+-- its time.
+use Rattle.std.proofs.Common.{◌≡◌, ℕ, ◌≤◌, ◌&&◌, Bool, true, false, List, [], ◌∷◌, refl}
 use Rattle.std.proofs.Common.{arith}
 use Rattle.std.proofs.Math.Dec.{leb}
 use Rattle.std.proofs.lemmas.Bool.{and_parts, leb-true}
@@ -17,7 +18,8 @@ use Rattle.ring_core.specs.declared.frame.FrameKind.TheVariants.{Request, Reply}
 use Rattle.ring_core.specs.declared.entry.Heard.TheVariants.{Acked}
 use Rattle.ring_core.specs.declared.entry.LeaveCause.TheVariants.{Ended, Down}
 use Rattle.ring_core.specs.declared.entry.RingEntry.{RingEntry}
-use Rattle.ring_core.specs.declared.entry.RingEntry.TheVariants.{Post, Send, Take, Pass, Leave, Join}
+use Rattle.ring_core.specs.declared.entry.RingEntry.TheVariants.{Post, Send, Take}
+use Rattle.ring_core.specs.declared.entry.RingEntry.TheVariants.{Pass, Leave, Join}
 use Rattle.one_order.specs.Merges.{Merged, AsNoted, AsDone, Runs}
 use Rattle.one_order.proofs.Greedy.{neither-fits}
 use Rattle.entry_causes.specs.Causes.{Noted, Done, no_notes, no_deeds, note_entry, deed, AreCaused}
@@ -80,13 +82,13 @@ abbrev tells : List ℕ
 tells = 3 ∷ 4 ∷ 0 ∷ 42 ∷ 0 ∷ 43 ∷ []
 
 abbrev request : ℕ → ℕ → Frame
-request from to = record { kind = Request; to = to; id = id-of from; pdu = reads }
+request from to = record { kind = Request; to = to; rest = []; id = id-of from; pdu = reads }
 
 abbrev reply : ℕ → Frame
-reply to = record { kind = Reply; to = to; id = id-of to; pdu = tells }
+reply to = record { kind = Reply; to = to; rest = []; id = id-of to; pdu = tells }
 
 abbrev asks : ℕ → ℕ → Entry
-asks n to = Collect (record { id = id-of n; kind = Net to reads } ∷ [])
+asks n to = Collect (record { id = id-of n; kind = Net (to ∷ []) reads } ∷ [])
 
 abbrev ends : ℕ → Entry
 ends n = Finish (id-of n) (Good (42 ∷ 43 ∷ []))
@@ -144,8 +146,8 @@ crossed-is-not =
     (λ f. let no' : 1 ≤ 0 = f.answers in absurd (omega (arith, no')))
     (λ f. let no' : 1 ≤ 0 = f.posts in absurd (omega (arith, no')))
 
--- ---- power fails at node 5, in a scan that it had begun: a Request goes by, and the next one, behind
--- the power's return, is answered
+-- ---- power fails at node 5, in a scan that it had begun: a Request goes by, and the next one,
+-- behind the power's return, is answered
 abbrev next-of : Frame → Frame
 next-of f = record f { id = record f.id { seq = 2 } }
 

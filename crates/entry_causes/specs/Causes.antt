@@ -9,11 +9,12 @@ use Rattle.controller_core.specs.declared.entry.Entry.{Entry}
 use Rattle.controller_core.specs.declared.entry.Entry.TheVariants as entries
 use Rattle.host_port.specs.declared.entry.HostEntry.{HostEntry}
 use Rattle.host_port.specs.declared.entry.HostEntry.TheVariants as hosts
-use Rattle.ring_core.specs.Statistics.{is_stats}
+use Rattle.ring_core.specs.Statistics.{is_for_stats}
 use Rattle.ring_core.specs.declared.frame.FrameKind.{FrameKind}
 use Rattle.ring_core.specs.declared.frame.FrameKind.TheVariants.{Request, Reply}
 use Rattle.ring_core.specs.declared.entry.RingEntry.{RingEntry}
-use Rattle.ring_core.specs.declared.entry.RingEntry.TheVariants.{Post, Take, Local, GiveUp, Leave, Join}
+use Rattle.ring_core.specs.declared.entry.RingEntry.TheVariants.{Post, Take, Local}
+use Rattle.ring_core.specs.declared.entry.RingEntry.TheVariants.{GiveUp, Leave, Join}
 use Rattle.ring_core.specs.declared.entry.LeaveCause.{LeaveCause}
 use Rattle.ring_core.specs.declared.entry.LeaveCause.TheVariants.{Down}
 use Rattle.one_order.specs.Merges.{tally}
@@ -37,7 +38,7 @@ pub data Noting : Type 0 where
   HasPower : Noting
 
 abbrev pub asking : CallKind → Noting
-asking (call_kinds.Net to pdu) = Asks
+asking (call_kinds.Net route pdu) = Asks
 asking (call_kinds.Local op) = AsksPort
 
 abbrev pub asking_of : Call → Noting
@@ -53,7 +54,7 @@ notings entries.Begin = HasPower ∷ []
 notings _ = []
 
 abbrev pub host_notings : HostEntry → List Noting
-host_notings (hosts.Ask id to pdu) = Asks ∷ []
+host_notings (hosts.Ask id route pdu) = Asks ∷ []
 host_notings (hosts.Served id request reply) = Serves ∷ []
 host_notings (hosts.Answer id result) = Ends ∷ []
 
@@ -92,7 +93,7 @@ leaving _ = []
 
 abbrev pub doings : RingEntry → List Doing
 doings (Post n f) = posting f.kind ∷ []
-doings (Take n f) = taking f.kind (is_stats f.pdu) ∷ []
+doings (Take n f) = taking f.kind (is_for_stats f) ∷ []
 doings (Local n id op result) = working (id.node == n)
 doings (GiveUp id word) = IsOver ∷ []
 doings (Leave n cause) = leaving cause

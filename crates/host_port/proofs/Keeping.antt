@@ -11,7 +11,7 @@ use Rattle.mstr_block.specs.declared.call.CallId.{CallId}
 use Rattle.mstr_block.specs.Call.{is_same_call}
 use Rattle.mstr_block.specs.Table.{network_paths}
 use Rattle.ring_core.specs.declared.frame.Frame.{Frame}
-use Rattle.ring_core.specs.declared.frame.FrameKind.TheVariants.{Request}
+use Rattle.ring_core.specs.Words.{request_along}
 use Rattle.host_port.specs.declared.entry.HostEntry.{HostEntry}
 use Rattle.host_port.specs.declared.entry.HostEntry.TheVariants.{Ask, Answer, Served}
 use Rattle.host_port.specs.declared.entry.HostResult.{HostResult}
@@ -52,29 +52,29 @@ kept_new plan = record {
 
 -- ---- behind an Ask
 
-pub asked_ask : (h : List HostEntry) (id : CallId) (to : ℕ) (pdu : List ℕ) (q : ℕ)
-    → asked_on (h ++ Ask id to pdu ∷ []) q ≡ asked_on h q + cond (id.path == q) 1 0
-asked_ask h id to pdu q =
-    ap (count_by (goes_on_path q)) (requests_ask h id to pdu)
+pub asked_ask : (h : List HostEntry) (id : CallId) (route pdu : List ℕ) (q : ℕ)
+    → asked_on (h ++ Ask id route pdu ∷ []) q ≡ asked_on h q + cond (id.path == q) 1 0
+asked_ask h id route pdu q =
+    ap (count_by (goes_on_path q)) (requests_ask h id route pdu)
     ∙ sum_by_push (λ f. cond (goes_on_path q f) 1 0) (requests_in h)
-    (record { kind = Request; to = to; id = id; pdu = pdu })
+    (request_along id route pdu)
 
-asked_more : (h : List HostEntry) (id : CallId) (to : ℕ) (pdu : List ℕ)
-    → asked_on (h ++ Ask id to pdu ∷ []) id.path ≡ asked_on h id.path + 1
-asked_more h id to pdu = asked_ask h id to pdu id.path
+asked_more : (h : List HostEntry) (id : CallId) (route pdu : List ℕ)
+    → asked_on (h ++ Ask id route pdu ∷ []) id.path ≡ asked_on h id.path + 1
+asked_more h id route pdu = asked_ask h id route pdu id.path
     ∙ ap (λ b. asked_on h id.path + cond b 1 0) (eq-eqb id.path id.path refl)
 
-asked_other : (h : List HostEntry) (id : CallId) (to : ℕ) (pdu : List ℕ) (q : ℕ)
+asked_other : (h : List HostEntry) (id : CallId) (route pdu : List ℕ) (q : ℕ)
     → (id.path == q) ≡ false
-    → asked_on (h ++ Ask id to pdu ∷ []) q ≡ asked_on h q
-asked_other h id to pdu q is =
+    → asked_on (h ++ Ask id route pdu ∷ []) q ≡ asked_on h q
+asked_other h id route pdu q is =
     let none : asked_on h q + 0 ≡ asked_on h q = omega arith in
-    asked_ask h id to pdu q ∙ ap (λ b. asked_on h q + cond b 1 0) is ∙ none
+    asked_ask h id route pdu q ∙ ap (λ b. asked_on h q + cond b 1 0) is ∙ none
 
-asked_rises : (h : List HostEntry) (id : CallId) (to : ℕ) (pdu : List ℕ) (q : ℕ)
-    → asked_on h q ≤ asked_on (h ++ Ask id to pdu ∷ []) q
-asked_rises h id to pdu q =
-    let is = asked_ask h id to pdu q in
+asked_rises : (h : List HostEntry) (id : CallId) (route pdu : List ℕ) (q : ℕ)
+    → asked_on h q ≤ asked_on (h ++ Ask id route pdu ∷ []) q
+asked_rises h id route pdu q =
+    let is = asked_ask h id route pdu q in
     omega arith
 
 -- the next call of a path has not ended
@@ -93,23 +93,24 @@ not_ended plan h id next ended =
       | inr other ↦ other
     ]) (answered_calls h) ended
 
-pub unanswered_more : (plan : HostPlan) (h : List HostEntry) (id : CallId) (to : ℕ) (pdu : List ℕ)
+pub unanswered_more : (plan : HostPlan) (h : List HostEntry) (id : CallId) (route pdu : List ℕ)
     → has_answer h id ≡ false
-    → unanswered_in (h ++ Ask id to pdu ∷ [])
-    ≡ unanswered_in h ++ record { kind = Request; to = to; id = id; pdu = pdu } ∷ []
-unanswered_more plan h id to pdu open_call =
-    unanswered_ask h id to pdu
+    → unanswered_in (h ++ Ask id route pdu ∷ [])
+    ≡ unanswered_in h ++ request_along id route pdu ∷ []
+unanswered_more plan h id route pdu open_call =
+    unanswered_ask h id route pdu
     ∙ ap (λ b. unanswered_in h
-    ++ cond (not b) (record { kind = Request; to = to; id = id; pdu = pdu } ∷ []) []) open_call
+    ++ cond (not b) (request_along id route pdu ∷ []) []) open_call
 
-last_ask : (plan : HostPlan) (h : List HostEntry) (id : CallId) (to : ℕ) (pdu : List ℕ) (r : Frame)
-    → IsLast plan h r × (goes_on_path id.path r ≡ false) → IsLast plan (h ++ Ask id to pdu ∷ []) r
-last_ask plan h id to pdu r is =
+last_ask : (plan : HostPlan) (h : List HostEntry) (id : CallId) (route pdu : List ℕ) (r : Frame)
+    → IsLast plan h r × (goes_on_path id.path r ≡ false)
+    → IsLast plan (h ++ Ask id route pdu ∷ []) r
+last_ask plan h id route pdu r is =
     let apart : (id.path == r.id.path) ≡ false = ne_eqb id.path r.id.path
     (λ e. true≢false (sym (eq-eqb r.id.path id.path (sym e)) ∙ is.1)) in
     record {
       name = is.0.name ∙ ap (λ n. record { node = plan.node; path = r.id.path; seq = n })
-          (sym (asked_other h id to pdu r.id.path apart));
+          (sym (asked_other h id route pdu r.id.path apart));
       path = is.0.path;
     }
 
@@ -120,16 +121,16 @@ path_as : (k : List HostEntry) (q n : ℕ) (b : Bool) → n ≡ asked_on k q
 path_as k q n b count some = λ i. record { asked = count i; is_open = not (not (some i)) }
 
 pub kept_ask : (plan : HostPlan) (made : ℕ) (paths : List Path) (h : List HostEntry) (id : CallId)
-    (to : ℕ) (pdu : List ℕ)
+    (route pdu : List ℕ)
     → IsHostKept plan made paths h
-    → IsHostHistory plan (h ++ Ask id to pdu ∷ [])
-    → IsHostKept plan (made + 1) (paths_after paths (Ask id to pdu)) (h ++ Ask id to pdu ∷ [])
-kept_ask plan made paths h id to pdu kept legal =
-    let k = h ++ Ask id to pdu ∷ [] in
-    let f : Frame = record { kind = Request; to = to; id = id; pdu = pdu } in
+    → IsHostHistory plan (h ++ Ask id route pdu ∷ [])
+    → IsHostKept plan (made + 1) (paths_after paths (Ask id route pdu)) (h ++ Ask id route pdu ∷ [])
+kept_ask plan made paths h id route pdu kept legal =
+    let k = h ++ Ask id route pdu ∷ [] in
+    let f : Frame = request_along id route pdu in
     let p = id.path in
-    let next = next_is plan h id (last_fits plan h (Ask id to pdu) legal) in
-    let more = unanswered_more plan h id to pdu (not_ended plan h id next kept.ended) in
+    let next = next_is plan h id (last_fits plan h (Ask id route pdu) legal) in
+    let more = unanswered_more plan h id route pdu (not_ended plan h id next kept.ended) in
     let free : list_any (goes_on_path p) (unanswered_in h) ≡ false =
     not-true (list_any (goes_on_path p) (unanswered_in h)) next.free in
     let others = all_both (IsLast plan h) (λ r. goes_on_path p r ≡ false)
@@ -137,10 +138,10 @@ kept_ask plan made paths h id to pdu kept legal =
     (none_passes (goes_on_path p) (unanswered_in h) free) in
     let old : AllByRecursion (IsLast plan k) (unanswered_in h) =
     all_weaker (λ r. IsLast plan h r × (goes_on_path p r ≡ false)) (IsLast plan k)
-    (last_ask plan h id to pdu) (unanswered_in h) others in
+    (last_ask plan h id route pdu) (unanswered_in h) others in
     let name : id ≡ last_on plan k p =
     next.name
-    ∙ ap (λ n. record { node = plan.node; path = p; seq = n }) (sym (asked_more h id to pdu)) in
+    ∙ ap (λ n. record { node = plan.node; path = p; seq = n }) (sym (asked_more h id route pdu)) in
     let on : (q : ℕ) (b : Bool) → (p == q) ≡ b
     → list_any (goes_on_path q) (unanswered_in k)
     ≡ (list_any (goes_on_path q) (unanswered_in h) || (b || false)) =
@@ -153,13 +154,13 @@ kept_ask plan made paths h id to pdu kept legal =
           (all_append (IsLast plan k) (unanswered_in h) (f ∷ []) old
           (record { name = name; path = next.path }, tt));
       ended = subst (AllByRecursion (λ (i : CallId). i.seq ≤ asked_on k i.path))
-          (sym (ended_ask h id to pdu))
+          (sym (ended_ask h id route pdu))
           (all_weaker (λ (i : CallId). i.seq ≤ asked_on h i.path)
           (λ (i : CallId). i.seq ≤ asked_on k i.path)
-          (λ i low. let rises = asked_rises h id to pdu i.path in omega arith)
+          (λ i low. let rises = asked_rises h id route pdu i.path in omega arith)
           (answered_calls h) kept.ended);
       count = ap (λ n. n + 1) kept.count ∙ sym (length-append (requests_in h) (f ∷ []))
-          ∙ ap length (sym (requests_ask h id to pdu));
+          ∙ ap length (sym (requests_ask h id route pdu));
       state = ap (λ l. set l (p - 1) (record { asked = id.seq; is_open = true })) kept.state
           ∙ set_four (path_in h) (path_in k) p (record { asked = id.seq; is_open = true }) next.path
           (path_as k p id.seq true (ap (λ (i : CallId). i.seq) name)
@@ -168,7 +169,7 @@ kept_ask plan made paths h id to pdu kept legal =
           (λ q apart.
           let other = ne_eqb p q (λ e. apart (sym e)) in
           path_as k q (asked_on h q) (list_any (goes_on_path q) (unanswered_in h))
-          (sym (asked_other h id to pdu q other))
+          (sym (asked_other h id route pdu q other))
           (sym (on q false other ∙ or_false (list_any (goes_on_path q) (unanswered_in h)))));
     }
 
@@ -287,8 +288,8 @@ pub kept_more : (plan : HostPlan) (made : ℕ) (paths : List Path) (h : List Hos
     (e : HostEntry) → IsHostKept plan made paths h
     → IsHostHistory plan (h ++ e ∷ [])
     → IsHostKept plan (made + cond (is_ask e) 1 0) (paths_after paths e) (h ++ e ∷ [])
-kept_more plan made paths h (Ask id to pdu) kept legal =
-    kept_ask plan made paths h id to pdu kept legal
+kept_more plan made paths h (Ask id route pdu) kept legal =
+    kept_ask plan made paths h id route pdu kept legal
 kept_more plan made paths h (Answer id result) kept legal =
     subst (λ n. IsHostKept plan n (paths_after paths (Answer id result))
     (h ++ Answer id result ∷ [])) (omega arith)
@@ -300,8 +301,8 @@ kept_more plan made paths h (Served id request reply) kept legal =
 pub has_path : (plan : HostPlan) (made : ℕ) (paths : List Path) (h : List HostEntry) (e : HostEntry)
     → IsHostKept plan made paths h
     → IsHostHistory plan (h ++ e ∷ []) → HasPath e
-has_path plan made paths h (Ask id to pdu) kept legal =
-    (next_is plan h id (last_fits plan h (Ask id to pdu) legal)).path
+has_path plan made paths h (Ask id route pdu) kept legal =
+    (next_is plan h id (last_fits plan h (Ask id route pdu) legal)).path
 has_path plan made paths h (Answer id result) kept legal =
     (out_last plan h (unanswered_in h) id kept.unanswered
     (last_fits plan h (Answer id result) legal)).path

@@ -2,6 +2,8 @@ pub mod Lists
 pub mod Paths
 pub mod Unanswered
 pub mod Next
+pub mod Due
 pub mod Keeping
 pub mod Reading
 pub mod OpenRequests
+pub mod Planned

@@ -1,28 +1,26 @@
 -- Which entries may come next.
 use Rattle.std.proofs.Common.{◌≡◌, ℕ, true, List, [], ◌∷◌, ◌++◌, Option, Some, None, length}
-use Rattle.std.proofs.Common.{map, refl, sym, ap, subst, ◌∙◌, inl, inr}
-use Rattle.std.proofs.Common.{append_assoc}
-use Rattle.std.proofs.lemmas.List.{length-map, map-append}
+use Rattle.std.proofs.Common.{suc, refl, sym, ap, subst, ◌∙◌, inl, inr}
+use Rattle.std.proofs.Common.{append_assoc, append-nil}
+use Rattle.std.proofs.lemmas.List.Elements.{filter_map-append}
 use Rattle.std.specs.Prelude.{option_map}
 use Rattle.std.specs.List.{slice_get}
 use Rattle.std.proofs.lemmas.Option.{slice_get-map}
 use Rattle.plant_types.specs.declared.net.HostPlan.{HostPlan}
 use Rattle.mstr_block.specs.declared.call.CallId.{CallId}
 use Rattle.mstr_block.specs.Table.{network_paths}
-use Rattle.ring_core.specs.declared.frame.FrameKind.TheVariants.{Request}
 use Rattle.ring_core.specs.Legal.{IsPath}
 use Rattle.host_port.specs.declared.entry.HostEntry.{HostEntry}
 use Rattle.host_port.specs.declared.entry.HostEntry.TheVariants.{Ask, Answer, Served}
 use Rattle.host_port.specs.declared.entry.HostResult.{HostResult}
 use Rattle.host_port.specs.Calls.{requests_in, path_is_free, is_unanswered, call_on, free_path}
 use Rattle.host_port.specs.Calls.{next_host_call}
-use Rattle.host_port.specs.Legal.{Question, FitsHost, IsHostHistory, question_due, question_of}
+use Rattle.host_port.specs.Legal.{Question, FitsHost, IsHostHistory, question_due, question_by}
 use Rattle.host_port.specs.Legal.{questions_in, questions_of, refusal_to}
 use Rattle.host_port.specs.Host.{HostIs}
 use Rattle.host_port.specs.Following.{MayComeNext, HostMayFollow}
 use Rattle.host_port.proofs.Lists.{behind, found, get_behind, split_last}
 use Rattle.host_port.proofs.Paths.{paths_are}
-use Rattle.host_port.proofs.Unanswered.{requests_answer, requests_ask, requests_served}
 
 -- ---- each entry fits those before it
 
@@ -48,7 +46,8 @@ may_answer : (plan : HostPlan) (h : List HostEntry) (id : CallId) (result : Host
 may_answer plan h id result legal out = record {
   order = (
     legal.order.0,
-    ap (λ l. map question_of l ++ legal.order.0) (requests_answer h id result) ∙ legal.order.1,
+    ap (λ l. l ++ legal.order.0) (filter_map-append question_by h (Answer id result ∷ [])
+        ∙ append-nil (questions_in h)) ∙ legal.order.1,
   );
   each = each_more plan h (Answer id result) legal out;
 }
@@ -60,8 +59,8 @@ may_serve : (plan : HostPlan) (h : List HostEntry) (id : CallId) (request reply 
 may_serve plan h id request reply legal is = record {
   order = (
     legal.order.0,
-    ap (λ l. map question_of l ++ legal.order.0) (requests_served h id request reply)
-        ∙ legal.order.1,
+    ap (λ l. l ++ legal.order.0) (filter_map-append question_by h (Served id request reply ∷ [])
+        ∙ append-nil (questions_in h)) ∙ legal.order.1,
   );
   each = each_more plan h (Served id request reply) legal is;
 }
@@ -91,52 +90,56 @@ next_is plan h id is =
       path = subst IsPath path has.1;
     }
 
+pub questions_count : (h : List HostEntry) → length (questions_in h) ≡ length (requests_in h)
+questions_count [] = refl
+questions_count (Ask id route pdu ∷ h) = ap suc (questions_count h)
+questions_count (Answer id result ∷ h) = questions_count h
+questions_count (Served id request reply ∷ h) = questions_count h
+
 asked_place : (plan : HostPlan) (h : List HostEntry)
     → slice_get (questions_of plan) (length (questions_in h))
     ≡ option_map question_due (slice_get plan.requests (length (requests_in h)))
 asked_place plan h =
-    ap (slice_get (questions_of plan)) (length-map (requests_in h) question_of)
+    ap (slice_get (questions_of plan)) (questions_count h)
     ∙ slice_get-map question_due plan.requests (length (requests_in h))
 
-questions_ask : (h : List HostEntry) (id : CallId) (to : ℕ) (pdu : List ℕ)
-    → questions_in (h ++ Ask id to pdu ∷ []) ≡ questions_in h ++ record { to = to; pdu = pdu } ∷ []
-questions_ask h id to pdu =
-    ap (map question_of) (requests_ask h id to pdu)
-    ∙ map-append question_of (requests_in h)
-    (record { kind = Request; to = to; id = id; pdu = pdu } ∷ [])
+questions_ask : (h : List HostEntry) (id : CallId) (route pdu : List ℕ)
+    → questions_in (h ++ Ask id route pdu ∷ [])
+    ≡ questions_in h ++ record { route = route; pdu = pdu } ∷ []
+questions_ask h id route pdu = filter_map-append question_by h (Ask id route pdu ∷ [])
 
-may_ask : (plan : HostPlan) (h : List HostEntry) (id : CallId) (to : ℕ) (pdu : List ℕ)
+may_ask : (plan : HostPlan) (h : List HostEntry) (id : CallId) (route pdu : List ℕ)
     → IsHostHistory plan h
     → next_host_call plan h ≡ Some id
     → option_map question_due (slice_get plan.requests (length (requests_in h)))
-    ≡ Some (record { to = to; pdu = pdu })
-    → IsHostHistory plan (h ++ Ask id to pdu ∷ [])
-may_ask plan h id to pdu legal next is =
+    ≡ Some (record { route = route; pdu = pdu })
+    → IsHostHistory plan (h ++ Ask id route pdu ∷ [])
+may_ask plan h id route pdu legal next is =
     let rest = legal.order.0 in
-    let q : Question = record { to = to; pdu = pdu } in
+    let q : Question = record { route = route; pdu = pdu } in
     let here : slice_get (questions_in h ++ rest) (length (questions_in h)) ≡ Some q =
     ap (λ l. slice_get l (length (questions_in h))) legal.order.1 ∙ asked_place plan h ∙ is in
     let more = behind (questions_in h) rest q here in
     record {
       order = (
         more.0,
-        ap (λ l. l ++ more.0) (questions_ask h id to pdu)
+        ap (λ l. l ++ more.0) (questions_ask h id route pdu)
             ∙ append_assoc (questions_in h) (q ∷ []) more.0
             ∙ ap (λ l. questions_in h ++ l) (sym more.1) ∙ legal.order.1,
       );
-      each = each_more plan h (Ask id to pdu) legal next;
+      each = each_more plan h (Ask id route pdu) legal next;
     }
 
-ask_is : (plan : HostPlan) (h : List HostEntry) (id : CallId) (to : ℕ) (pdu : List ℕ)
-    → IsHostHistory plan (h ++ Ask id to pdu ∷ [])
+ask_is : (plan : HostPlan) (h : List HostEntry) (id : CallId) (route pdu : List ℕ)
+    → IsHostHistory plan (h ++ Ask id route pdu ∷ [])
     → option_map question_due (slice_get plan.requests (length (requests_in h)))
-    ≡ Some (record { to = to; pdu = pdu })
-ask_is plan h id to pdu legal =
-    let q : Question = record { to = to; pdu = pdu } in
+    ≡ Some (record { route = route; pdu = pdu })
+ask_is plan h id route pdu legal =
+    let q : Question = record { route = route; pdu = pdu } in
     let rest = legal.order.0 in
     let all : questions_in h ++ q ∷ rest ≡ questions_of plan =
     sym (append_assoc (questions_in h) (q ∷ []) rest)
-    ∙ ap (λ l. l ++ rest) (sym (questions_ask h id to pdu)) ∙ legal.order.1 in
+    ∙ ap (λ l. l ++ rest) (sym (questions_ask h id route pdu)) ∙ legal.order.1 in
     sym (asked_place plan h) ∙ ap (λ l. slice_get l (length (questions_in h))) (sym all)
     ∙ get_behind (questions_in h) q rest
 
@@ -144,13 +147,13 @@ ask_is plan h id to pdu legal =
 
 pub may_of : (v : HostIs) (e : HostEntry) → IsHostHistory v.plan v.history → MayComeNext v e
     → HostMayFollow v e
-may_of v (Ask id to pdu) legal next = may_ask v.plan v.history id to pdu legal next.0 next.1
+may_of v (Ask id route pdu) legal next = may_ask v.plan v.history id route pdu legal next.0 next.1
 may_of v (Answer id result) legal next = may_answer v.plan v.history id result legal next
 may_of v (Served id request reply) legal next =
     may_serve v.plan v.history id request reply legal next
 
 pub next_of : (v : HostIs) (e : HostEntry) → HostMayFollow v e → MayComeNext v e
-next_of v (Ask id to pdu) may =
-    (last_fits v.plan v.history (Ask id to pdu) may, ask_is v.plan v.history id to pdu may)
+next_of v (Ask id route pdu) may =
+    (last_fits v.plan v.history (Ask id route pdu) may, ask_is v.plan v.history id route pdu may)
 next_of v (Answer id result) may = last_fits v.plan v.history (Answer id result) may
 next_of v (Served id request reply) may = last_fits v.plan v.history (Served id request reply) may

@@ -1,25 +1,25 @@
 -- The Requests that the paths of a host have without an answer.
-use Rattle.std.proofs.Common.{◌≡◌, ◌+◌, ◌==◌, ◌||◌, ◌&&◌, ℕ, true, false, cond, List, []}
+use Rattle.std.proofs.Common.{◌≡◌, ◌+◌, ◌==◌, ◌&&◌, ℕ, false, cond, List, []}
 use Rattle.std.proofs.Common.{◌∷◌, ◌++◌, Some, None, map}
 use Rattle.std.proofs.Common.{reverse, sym, ap, subst, ◌∙◌, inl, inr, append_assoc}
 use Rattle.std.specs.Prelude.{if◌then◌else◌}
 use Rattle.std.specs.Option.{option_or}
 use Rattle.std.specs.List.{filter, find, list_any, count_by}
 use Rattle.std.proofs.lemmas.Bool.{cases_Bool, eqb-true, eq-eqb, not-true, true≢false}
-use Rattle.std.proofs.lemmas.List.{map-append, reverse-append, reverse-reverse}
+use Rattle.std.proofs.lemmas.List.{reverse-append, reverse-reverse}
 use Rattle.std.proofs.lemmas.List.Elements.{filter_map-append}
 use Rattle.std.proofs.lemmas.List.Folds.{find-append}
 use Rattle.plant_types.specs.declared.net.HostPlan.{HostPlan}
 use Rattle.mstr_block.specs.Table.{network_paths}
 use Rattle.ring_core.specs.declared.frame.Frame.{Frame}
-use Rattle.ring_core.specs.declared.frame.FrameKind.TheVariants.{Request}
+use Rattle.ring_core.specs.Words.{request_along}
 use Rattle.ring_core.specs.Legal.{IsPath}
 use Rattle.host_port.specs.declared.entry.HostEntry.{HostEntry}
 use Rattle.host_port.specs.declared.entry.HostEntry.TheVariants.{Ask, Answer}
 use Rattle.host_port.specs.declared.host.Path.{Path}
-use Rattle.host_port.specs.Calls.{request_by, requests_in, unanswered_in, is_ask, is_request_of}
+use Rattle.host_port.specs.Calls.{unanswered_in, is_ask, is_request_of}
 use Rattle.host_port.specs.Calls.{goes_on_path, open_on}
-use Rattle.host_port.specs.Legal.{IsHostHistory, Question, question_of, questions_in, questions_of}
+use Rattle.host_port.specs.Legal.{IsHostHistory, Question, question_by, questions_in, questions_of}
 use Rattle.host_port.specs.Kept.{IsHostKept, IsLast, last_on, path_in, paths_after}
 use Rattle.host_port.specs.Laws.{AsksOpenTheirPath, AnswersFreeTheirPath, ServingKeepsPaths}
 use Rattle.host_port.specs.Laws.{OpenRequestsAreLast, OpenRequestsFollow}
@@ -38,10 +38,9 @@ use Rattle.host_port.proofs.Keeping.{others_stay, unanswered_more}
 front_order : (plan : HostPlan) (h more : List HostEntry) → IsHostHistory plan (h ++ more)
     → (rest : List Question) × (questions_in h ++ rest ≡ questions_of plan)
 front_order plan h more legal =
-    let last = map question_of (requests_in more) in
+    let last = questions_in more in
     let all : questions_in (h ++ more) ≡ questions_in h ++ last =
-    ap (map question_of) (filter_map-append request_by h more)
-    ∙ map-append question_of (requests_in h) (requests_in more) in (
+    filter_map-append question_by h more in (
       last ++ legal.order.0,
       sym (append_assoc (questions_in h) last legal.order.0)
           ∙ ap (λ l. l ++ legal.order.0) (sym all) ∙ legal.order.1,
@@ -85,14 +84,14 @@ legal_keeps plan h legal =
 -- ---- the open Request of a path
 
 open_ask : AsksOpenTheirPath
-open_ask plan h id to pdu path legal =
+open_ask plan h id route pdu path legal =
     let u = unanswered_in h in
-    let f : Frame = record { kind = Request; to = to; id = id; pdu = pdu } in
-    let before = front plan h (Ask id to pdu ∷ []) legal in
+    let f : Frame = request_along id route pdu in
+    let before = front plan h (Ask id route pdu ∷ []) legal in
     let kept = (legal_keeps plan h before).kept in
-    let next = next_is plan h id (last_fits plan h (Ask id to pdu) legal) in
-    let more = unanswered_more plan h id to pdu (not_ended plan h id next kept.ended) in
-    let joined : open_on (h ++ Ask id to pdu ∷ []) path
+    let next = next_is plan h id (last_fits plan h (Ask id route pdu) legal) in
+    let more = unanswered_more plan h id route pdu (not_ended plan h id next kept.ended) in
+    let joined : open_on (h ++ Ask id route pdu ∷ []) path
     ≡ option_or (find (goes_on_path path) u) (find (goes_on_path path) (f ∷ [])) =
     ap (find (goes_on_path path)) more ∙ find-append (goes_on_path path) u (f ∷ []) in
     elim (cases_Bool (id.path == path)) [
@@ -153,8 +152,8 @@ open_last plan h path f legal is =
     }
 
 new_calls : AsksMakeNewCalls
-new_calls plan h id to pdu legal =
-    let next = next_is plan h id (last_fits plan h (Ask id to pdu) legal) in
+new_calls plan h id route pdu legal =
+    let next = next_is plan h id (last_fits plan h (Ask id route pdu) legal) in
     record {
       name = next.name;
       free = find_none (goes_on_path id.path) (unanswered_in h)
@@ -183,11 +182,11 @@ open_requests = record {
 -- ---- names
 
 pub new_names : AsksHaveNewNames
-new_names plan history before after id to pdu legal is =
-    let joined : history ≡ (before ++ Ask id to pdu ∷ []) ++ after = is
-    ∙ sym (append_assoc before (Ask id to pdu ∷ []) after) in
-    let there = front plan (before ++ Ask id to pdu ∷ []) after
+new_names plan history before after id route pdu legal is =
+    let joined : history ≡ (before ++ Ask id route pdu ∷ []) ++ after = is
+    ∙ sym (append_assoc before (Ask id route pdu ∷ []) after) in
+    let there = front plan (before ++ Ask id route pdu ∷ []) after
     (subst (IsHostHistory plan) joined legal) in
-    let kept = (legal_keeps plan before (front plan before (Ask id to pdu ∷ []) there)).kept in
+    let kept = (legal_keeps plan before (front plan before (Ask id route pdu ∷ []) there)).kept in
     not_ended plan before id
-    (next_is plan before id (last_fits plan before (Ask id to pdu) there)) kept.ended
+    (next_is plan before id (last_fits plan before (Ask id route pdu) there)) kept.ended

@@ -10,7 +10,7 @@ use Rattle.plant_types.specs.declared.net.HostPlan.{HostPlan}
 use Rattle.mstr_block.specs.declared.call.CallId.{CallId}
 use Rattle.mstr_block.specs.Call.{is_same_call}
 use Rattle.ring_core.specs.declared.frame.Frame.{Frame}
-use Rattle.ring_core.specs.declared.frame.FrameKind.TheVariants.{Request}
+use Rattle.ring_core.specs.Words.{request_along}
 use Rattle.ring_core.specs.Legal.{IsPath}
 use Rattle.host_port.specs.declared.entry.HostEntry.{HostEntry}
 use Rattle.host_port.specs.declared.entry.HostEntry.TheVariants.{Ask, Answer, Served}
@@ -48,12 +48,9 @@ abbrev unanswered_of : List CallId → List Frame → List Frame
 unanswered_of ended requests =
     filter (λ request. not (list_any (is_same_call request.id) ended)) requests
 
-abbrev frame_of : CallId → ℕ → List ℕ → Frame
-frame_of id to pdu = record { kind = Request; to = to; id = id; pdu = pdu }
-
-pub requests_ask : (h : List HostEntry) (id : CallId) (to : ℕ) (pdu : List ℕ)
-    → requests_in (h ++ Ask id to pdu ∷ []) ≡ requests_in h ++ frame_of id to pdu ∷ []
-requests_ask h id to pdu = filter_map-append request_by h (Ask id to pdu ∷ [])
+pub requests_ask : (h : List HostEntry) (id : CallId) (route pdu : List ℕ)
+    → requests_in (h ++ Ask id route pdu ∷ []) ≡ requests_in h ++ request_along id route pdu ∷ []
+requests_ask h id route pdu = filter_map-append request_by h (Ask id route pdu ∷ [])
 
 pub requests_answer : (h : List HostEntry) (id : CallId) (result : HostResult)
     → requests_in (h ++ Answer id result ∷ []) ≡ requests_in h
@@ -65,9 +62,9 @@ pub requests_served : (h : List HostEntry) (id : CallId) (request reply : List �
 requests_served h id request reply = filter_map-append request_by h (Served id request reply ∷ [])
     ∙ append-nil (requests_in h)
 
-pub ended_ask : (h : List HostEntry) (id : CallId) (to : ℕ) (pdu : List ℕ)
-    → answered_calls (h ++ Ask id to pdu ∷ []) ≡ answered_calls h
-ended_ask h id to pdu = filter_map-append call_answered_by h (Ask id to pdu ∷ [])
+pub ended_ask : (h : List HostEntry) (id : CallId) (route pdu : List ℕ)
+    → answered_calls (h ++ Ask id route pdu ∷ []) ≡ answered_calls h
+ended_ask h id route pdu = filter_map-append call_answered_by h (Ask id route pdu ∷ [])
     ∙ append-nil (answered_calls h)
 
 pub ended_answer : (h : List HostEntry) (id : CallId) (result : HostResult)
@@ -80,13 +77,13 @@ ended_served h id request reply = filter_map-append call_answered_by h
     (Served id request reply ∷ []) ∙ append-nil (answered_calls h)
 
 -- behind an Ask there is one more, unless its call has ended
-pub unanswered_ask : (h : List HostEntry) (id : CallId) (to : ℕ) (pdu : List ℕ)
-    → unanswered_in (h ++ Ask id to pdu ∷ [])
-    ≡ unanswered_in h ++ cond (not (has_answer h id)) (frame_of id to pdu ∷ []) []
-unanswered_ask h id to pdu =
-    let f = frame_of id to pdu in
-    ap (unanswered_of (answered_calls (h ++ Ask id to pdu ∷ []))) (requests_ask h id to pdu)
-    ∙ ap (λ ended. unanswered_of ended (requests_in h ++ f ∷ [])) (ended_ask h id to pdu)
+pub unanswered_ask : (h : List HostEntry) (id : CallId) (route pdu : List ℕ)
+    → unanswered_in (h ++ Ask id route pdu ∷ [])
+    ≡ unanswered_in h ++ cond (not (has_answer h id)) (request_along id route pdu ∷ []) []
+unanswered_ask h id route pdu =
+    let f = request_along id route pdu in
+    ap (unanswered_of (answered_calls (h ++ Ask id route pdu ∷ []))) (requests_ask h id route pdu)
+    ∙ ap (λ ended. unanswered_of ended (requests_in h ++ f ∷ [])) (ended_ask h id route pdu)
     ∙ filter-append (λ request. not (list_any (is_same_call request.id) (answered_calls h)))
     (requests_in h) (f ∷ [])
 
@@ -132,9 +129,9 @@ unanswered_answer h id result =
 -- ---- the laws
 
 pub asks_keep : AsksKeepCalls
-asks_keep h id other to pdu out =
-    let added = cond (not (has_answer h other)) (frame_of other to pdu ∷ []) [] in
-    ap (list_any (is_request_of id)) (unanswered_ask h other to pdu)
+asks_keep h id other route pdu out =
+    let added = cond (not (has_answer h other)) (request_along other route pdu ∷ []) [] in
+    ap (list_any (is_request_of id)) (unanswered_ask h other route pdu)
     ∙ list_any-append (is_request_of id) (unanswered_in h) added
     ∙ ap (λ b. b || list_any (is_request_of id) added) out
 

@@ -8,13 +8,13 @@ use Rattle.mstr_block.specs.declared.call.CallId.{CallId}
 use Rattle.mstr_block.specs.Call.{is_same_call}
 use Rattle.mstr_block.specs.Table.{network_paths}
 use Rattle.ring_core.specs.declared.frame.Frame.{Frame}
-use Rattle.ring_core.specs.declared.frame.FrameKind.TheVariants.{Request}
+use Rattle.ring_core.specs.Words.{request_along}
 use Rattle.host_port.specs.declared.entry.HostEntry.{HostEntry}
 use Rattle.host_port.specs.declared.entry.HostEntry.TheVariants.{Ask, Answer, Served}
 
 -- The Request that an entry makes: only an Ask makes one.
 abbrev pub request_by : HostEntry → Option Frame
-request_by (Ask id to pdu) = Some (record { kind = Request; to = to; id = id; pdu = pdu })
+request_by (Ask id route pdu) = Some (request_along id route pdu)
 request_by (Answer id result) = None
 request_by (Served id request reply) = None
 
@@ -23,7 +23,7 @@ is_ask entry = is_some (request_by entry)
 
 -- The call that an entry ends: only an Answer ends one.
 abbrev pub call_answered_by : HostEntry → Option CallId
-call_answered_by (Ask id to pdu) = None
+call_answered_by (Ask id route pdu) = None
 call_answered_by (Answer id result) = Some id
 call_answered_by (Served id request reply) = None
 

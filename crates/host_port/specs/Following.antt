@@ -13,9 +13,9 @@ HostMayFollow v entry = IsHostHistory v.plan (v.history ++ entry ∷ [])
 -- An entry may come next by what stands there: an Ask is the next call, and asks what the plan asks
 -- next; an Answer names a call that is out; and what is served is refused.
 abbrev pub MayComeNext : HostIs → HostEntry → Type 0
-MayComeNext v (Ask id to pdu) =
+MayComeNext v (Ask id route pdu) =
     (next_host_call v.plan v.history ≡ Some id)
-    × (option_map question_due (next_ask v) ≡ Some (record { to = to; pdu = pdu }))
+    × (option_map question_due (next_ask v) ≡ Some (record { route = route; pdu = pdu }))
 MayComeNext v (Answer id result) = is_unanswered v.history id ≡ true
 MayComeNext v (Served id request reply) = reply ≡ refusal_to request
 

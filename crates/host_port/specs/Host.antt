@@ -1,11 +1,12 @@
 -- What contracts see of a host, and what its calls add. This project's own.
 use Rattle.std.specs.Prelude.{◌≡◌, ℕ, ◌==◌, Bool, ◌&&◌, nat_le, if◌then◌else◌, List, [], ◌∷◌, ◌++◌}
 use Rattle.std.specs.Prelude.{length, slice_get, Option, Some, None, Result, Ok, Err}
+use Rattle.std.specs.Option.{option_map_or}
 use Rattle.plant_types.specs.declared.net.HostAsk.{HostAsk}
 use Rattle.plant_types.specs.declared.net.HostPlan.{HostPlan}
 use Rattle.mstr_block.specs.declared.call.CallId.{CallId}
 use Rattle.ring_core.specs.declared.frame.Frame.{Frame}
-use Rattle.ring_core.specs.declared.frame.FrameKind.TheVariants.{Request}
+use Rattle.ring_core.specs.Words.{request_along, frame_route}
 use Rattle.host_port.specs.declared.entry.HostEntry.{HostEntry}
 use Rattle.host_port.specs.declared.entry.HostEntry.TheVariants.{Ask, Served}
 use Rattle.host_port.specs.Calls.{requests_in, unanswered_in, next_host_call}
@@ -20,6 +21,10 @@ pub record HostIs : Type 0 where
 abbrev pub next_ask : HostIs → Option HostAsk
 next_ask v = slice_get v.plan.requests (length (requests_in v.history))
 
+-- The route of that request; none where each was made.
+abbrev pub route_ahead : HostIs → List ℕ
+route_ahead v = option_map_or (λ ask. ask.route) (next_ask v) []
+
 -- A request whose hold has come.
 abbrev pub if_due : ℕ → Option HostAsk → Option HostAsk
 if_due hold None = None
@@ -30,8 +35,7 @@ due_ask v hold = if_due hold (next_ask v)
 
 -- The Request of a call; none where there is no free path for it, or nothing is due.
 abbrev pub request_for : Option CallId → Option HostAsk → Option Frame
-request_for (Some id) (Some ask) =
-    Some (record { kind = Request; to = ask.to; id = id; pdu = ask.pdu })
+request_for (Some id) (Some ask) = Some (request_along id ask.route ask.pdu)
 request_for _ _ = None
 
 abbrev pub due_request : HostIs → ℕ → Option Frame
@@ -45,7 +49,7 @@ host_is_done v =
 
 -- The entries that a call of a host adds, by what it answered: none where memory was refused.
 abbrev pub entry_asked : {E : Type 0} → Result (Option Frame) E → List HostEntry
-entry_asked (Ok (Some request)) = Ask request.id request.to request.pdu ∷ []
+entry_asked (Ok (Some request)) = Ask request.id (frame_route request) request.pdu ∷ []
 entry_asked (Ok None) = []
 entry_asked (Err end) = []
 

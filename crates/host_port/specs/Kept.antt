@@ -6,6 +6,7 @@ use Rattle.mstr_block.specs.declared.call.CallId.{CallId}
 use Rattle.mstr_block.specs.Table.{network_paths}
 use Rattle.ring_core.specs.declared.frame.Frame.{Frame}
 use Rattle.ring_core.specs.declared.frame.FrameKind.TheVariants.{Request}
+use Rattle.ring_core.specs.Words.{frame_route}
 use Rattle.ring_core.specs.Legal.{IsFrom, IsPath}
 use Rattle.host_port.specs.declared.entry.HostEntry.{HostEntry}
 use Rattle.host_port.specs.declared.entry.HostEntry.TheVariants.{Ask, Answer, Served}
@@ -14,7 +15,7 @@ use Rattle.plant_types.specs.Plans.{IsHostPlan}
 use Rattle.host_port.specs.Calls.{requests_in, answered_calls, unanswered_in, path_is_free}
 use Rattle.host_port.specs.Calls.{asked_on}
 use Rattle.host_port.specs.Legal.{IsHostHistory}
-use Rattle.host_port.specs.Host.{HostIs}
+use Rattle.host_port.specs.Host.{HostIs, route_ahead}
 use Rattle.host_port.specs.Following.{MayComeNext}
 
 -- A path as the history tells it: how many Requests it had, and whether the last is open.
@@ -33,7 +34,7 @@ pub record IsLast (plan : HostPlan) (history : List HostEntry) (request : Frame)
 
 -- The paths behind an entry, which is the last of its path.
 abbrev pub paths_after : List Path → HostEntry → List Path
-paths_after paths (Ask id to pdu) =
+paths_after paths (Ask id route pdu) =
     set paths (id.path - 1) (record { asked = id.seq; is_open = true })
 paths_after paths (Answer id result) =
     set paths (id.path - 1) (record { asked = id.seq; is_open = false })
@@ -41,13 +42,15 @@ paths_after paths (Served id request reply) = paths
 
 -- The path of a call that an entry makes or ends is one of the four.
 abbrev pub HasPath : HostEntry → Type 0
-HasPath (Ask id to pdu) = IsPath id.path
+HasPath (Ask id route pdu) = IsPath id.path
 HasPath (Answer id result) = IsPath id.path
 HasPath (Served id request reply) = Unit {0}
 
--- The Request that is due: its Ask may come next, and it may be posted by this host.
+-- The Request that is due: its route is that of the next request of the plan, its Ask may come
+-- next, and it may be posted by this host.
 pub record IsDueRequest (v : HostIs) (request : Frame) : Type 0 where
-  pub next : MayComeNext v (Ask request.id request.to request.pdu)
+  pub ahead : route_ahead v ≡ frame_route request
+  pub next : MayComeNext v (Ask request.id (frame_route request) request.pdu)
   pub from : IsFrom v.plan.node Request request
 
 -- The fields are those of a legal history; a Request without an answer is the last of its path,

@@ -6,7 +6,7 @@ use Rattle.plant_types.specs.declared.net.HostPlan.{HostPlan}
 use Rattle.mstr_block.specs.declared.call.CallId.{CallId}
 use Rattle.mstr_block.specs.Call.{is_same_call}
 use Rattle.ring_core.specs.declared.frame.Frame.{Frame}
-use Rattle.ring_core.specs.declared.frame.FrameKind.TheVariants.{Request}
+use Rattle.ring_core.specs.Words.{request_along}
 use Rattle.ring_core.specs.Legal.{IsPath}
 use Rattle.host_port.specs.declared.entry.HostEntry.{HostEntry}
 use Rattle.host_port.specs.declared.entry.HostEntry.TheVariants.{Ask, Answer, Served}
@@ -17,8 +17,9 @@ use Rattle.host_port.specs.Kept.{last_on}
 
 -- A call that is out is still out behind an Ask.
 abbrev pub AsksKeepCalls : Type 0
-AsksKeepCalls = (history : List HostEntry) (id other : CallId) (to : ℕ) (pdu : List ℕ)
-    → is_unanswered history id ≡ true → is_unanswered (history ++ Ask other to pdu ∷ []) id ≡ true
+AsksKeepCalls = (history : List HostEntry) (id other : CallId) (route pdu : List ℕ)
+    → is_unanswered history id ≡ true
+    → is_unanswered (history ++ Ask other route pdu ∷ []) id ≡ true
 
 -- An Answer ends its call, and changes nothing for any other.
 abbrev pub AnswersEndOneCall : Type 0
@@ -36,10 +37,10 @@ ServingKeepsCalls = (history : List HostEntry) (id other : CallId) (request repl
 -- path what it had; behind an Answer its path has none; what is served changes none.
 abbrev pub AsksOpenTheirPath : Type 0
 AsksOpenTheirPath =
-    (plan : HostPlan) (history : List HostEntry) (id : CallId) (to : ℕ) (pdu : List ℕ) (path : ℕ)
-    → IsHostHistory plan (history ++ Ask id to pdu ∷ [])
-    → open_on (history ++ Ask id to pdu ∷ []) path
-    ≡ (if id.path == path then Some (record { kind = Request; to = to; id = id; pdu = pdu })
+    (plan : HostPlan) (history : List HostEntry) (id : CallId) (route pdu : List ℕ) (path : ℕ)
+    → IsHostHistory plan (history ++ Ask id route pdu ∷ [])
+    → open_on (history ++ Ask id route pdu ∷ []) path
+    ≡ (if id.path == path then Some (request_along id route pdu)
     else open_on history path)
 
 abbrev pub AnswersFreeTheirPath : Type 0
@@ -74,13 +75,13 @@ pub record IsNewAsk (plan : HostPlan) (history : List HostEntry) (id : CallId) :
 
 abbrev pub AsksMakeNewCalls : Type 0
 AsksMakeNewCalls =
-    (plan : HostPlan) (history : List HostEntry) (id : CallId) (to : ℕ) (pdu : List ℕ)
-    → IsHostHistory plan (history ++ Ask id to pdu ∷ []) → IsNewAsk plan history id
+    (plan : HostPlan) (history : List HostEntry) (id : CallId) (route pdu : List ℕ)
+    → IsHostHistory plan (history ++ Ask id route pdu ∷ []) → IsNewAsk plan history id
 
 -- An Ask counts on its path, and nothing else does.
 pub record CountsFollow : Type 0 where
-  pub asks : (history : List HostEntry) (id : CallId) (to : ℕ) (pdu : List ℕ) (path : ℕ)
-      → asked_on (history ++ Ask id to pdu ∷ []) path
+  pub asks : (history : List HostEntry) (id : CallId) (route pdu : List ℕ) (path : ℕ)
+      → asked_on (history ++ Ask id route pdu ∷ []) path
       ≡ asked_on history path + (if id.path == path then 1 else 0)
   pub answers : (history : List HostEntry) (id : CallId) (result : HostResult) (path : ℕ)
       → asked_on (history ++ Answer id result ∷ []) path ≡ asked_on history path
@@ -99,6 +100,6 @@ pub record OpenRequestsFollow : Type 0 where
 -- No call has an answer before it is asked.
 abbrev pub AsksHaveNewNames : Type 0
 AsksHaveNewNames =
-    (plan : HostPlan) (history before after : List HostEntry) (id : CallId) (to : ℕ) (pdu : List ℕ)
-    → IsHostHistory plan history → history ≡ before ++ Ask id to pdu ∷ after
+    (plan : HostPlan) (history before after : List HostEntry) (id : CallId) (route pdu : List ℕ)
+    → IsHostHistory plan history → history ≡ before ++ Ask id route pdu ∷ after
     → has_answer before id ≡ false

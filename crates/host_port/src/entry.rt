@@ -3,7 +3,7 @@ ghost use Rattle.std.specs.Prelude.{◌≡◌};
 ghost use Rattle.host_port.specs.Calls.{is_ask};
 
 use mstr_block::CallId;
-use plant_types::{Copied, Pdu};
+use plant_types::{Copied, Pdu, Route};
 use std::alloc::{AllocError, Global};
 
 /// What came of a host's request: a reply, which may be that of an exception, or an error word.
@@ -16,10 +16,10 @@ pub enum HostResult {
 /// One event of a host.
 #[derive(Drop)]
 pub enum HostEntry {
-    /// It made this request, under this name, to the node `to`.
+    /// It made this request, under this name, by a route of at least one address.
     Ask {
         id: CallId,
-        to: u8,
+        route: Route,
         pdu: Pdu,
     },
     /// The request of this name came to this.
@@ -55,9 +55,9 @@ impl Copied for HostResult {
 impl Copied for HostEntry {
     fn copied(&self, alloc: Global) -> Result<Self, AllocError> {
         match self {
-            HostEntry::Ask { id, to, pdu } => Ok(HostEntry::Ask {
+            HostEntry::Ask { id, route, pdu } => Ok(HostEntry::Ask {
                 id: *id,
-                to: *to,
+                route: *route,
                 pdu: pdu.copied(alloc)?,
             }),
             HostEntry::Answer { id, result } => Ok(HostEntry::Answer {

@@ -22,7 +22,7 @@ impl Host {
         ensures { IfOk result (λ may. (may ≡ true) ↔ MayComeNext self.now entry.now) }
     {
         match entry {
-            HostEntry::Ask { id, to, pdu } => Ok(self.is_next(*id, *to, pdu)),
+            HostEntry::Ask { id, route, pdu } => Ok(self.is_next(*id, *route, pdu)),
             HostEntry::Answer { id, .. } => Ok(self.is_out(*id)),
             HostEntry::Served { request, reply, .. } => is_refusal(self.alloc(), request, reply),
         }

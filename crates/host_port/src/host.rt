@@ -3,10 +3,12 @@ ghost use Rattle.std.specs.Prelude.{◌≡◌, ◌↔◌, ◌+◌, true, not, So
 ghost use Rattle.std.specs.Prelude.{OnErr, OnOk, option_copied};
 ghost use Rattle.std.specs.List.{list_all};
 ghost use Rattle.plant_types.specs.Plans.{IsHostPlan};
+ghost use Rattle.ring_core.specs.declared.frame.FrameKind.TheVariants.{Request};
 ghost use Rattle.ring_core.specs.Legal.{IsFrom, IsPath};
 ghost use Rattle.host_port.specs.Calls.{free_path, path_is_free, is_unanswered, next_host_call};
 ghost use Rattle.host_port.specs.Legal.{IsHostHistory, refusal_to};
 ghost use Rattle.host_port.specs.Host.{entry_asked, due_ask, due_request, host_is_done, next_ask};
+ghost use Rattle.host_port.specs.Host.{route_ahead};
 ghost use Rattle.host_port.specs.Host.{entry_noted, entry_served, HostWentOn};
 ghost use Rattle.host_port.specs.Following.{MayComeNext};
 ghost use Rattle.host_port.specs.Kept.{HasPath, IsDueRequest, paths_after};
@@ -14,8 +16,10 @@ ghost use Rattle.host_port.specs.Kept.{HasPath, IsDueRequest, paths_after};
 use crate::entry::{HostEntry, HostResult};
 use modbus_pdu::{ILLEGAL_FUNCTION, Reply, encode_reply};
 use mstr_block::CallId;
-use plant_types::{Copied, HostAsk, HostPlan, List, NETWORK_PATHS, NetPlan, PATH_PLACES, Pdu};
-use ring_core::{Frame, FrameKind, is_path};
+use plant_types::{
+    Copied, HostAsk, HostPlan, List, NETWORK_PATHS, NetPlan, PATH_PLACES, Pdu, Route,
+};
+use ring_core::{Frame, is_path};
 use std::alloc::{AllocError, Global};
 use std::marker::Model;
 
@@ -191,6 +195,16 @@ impl Host {
         self.plan.requests.as_slice().get(self.made)
     }
 
+    /// The route of that request; none where each was made.
+    fn route_ahead(&self) -> Route
+        ensures { result ≡ route_ahead self.now }
+    {
+        match self.next_ask() {
+            Some(ask) => ask.route,
+            None => Route::of(&[]),
+        }
+    }
+
     /// The next request of the plan, if its hold has come.
     fn due_ask(&self, hold: u32) -> Option<&HostAsk>
         ensures { option_copied result ≡ due_ask self.now hold }
@@ -212,22 +226,18 @@ impl Host {
         let Some(ask) = self.due_ask(hold) else {
             return Ok(None);
         };
-        Ok(Some(Frame {
-            kind: FrameKind::Request,
-            to: ask.to,
-            id,
-            pdu: ask.pdu.copied(self.alloc)?,
-        }))
+        let pdu = ask.pdu.copied(self.alloc)?;
+        Ok(Some(Frame::request(id, ask.route, pdu)))
     }
 
     /// Whether an Ask may come next.
-    pub(crate) fn is_next(&self, id: CallId, to: u8, pdu: &Pdu) -> bool
-        ensures { (result ≡ true) ↔ MayComeNext self.now (HostEntry.Ask id to pdu.now) }
+    pub(crate) fn is_next(&self, id: CallId, route: Route, pdu: &Pdu) -> bool
+        ensures { (result ≡ true) ↔ MayComeNext self.now (HostEntry.Ask id route pdu.now) }
     {
         let (Some(ask), Some(next)) = (self.next_ask(), self.next_call()) else {
             return false;
         };
-        next == id && ask.to == to && ask.pdu.bytes() == pdu.bytes()
+        next == id && ask.route.addresses() == route.addresses() && ask.pdu.bytes() == pdu.bytes()
     }
 
     /// Takes up an entry that may come next.
@@ -250,7 +260,7 @@ impl Host {
     pub fn ask(&mut self, hold: u32) -> Result<Option<Frame>, AllocError>
         ensures request { IfOk result (λ made. made ≡ due_request self.old hold) }
         ensures from { IfOk result
-            (λ made. IfSome made (IsFrom self.old.plan.node FrameKind.Request)) }
+            (λ made. IfSome made (IsFrom self.old.plan.node Request)) }
         ensures err { OnErr result (self.new ≡ self.old) }
         ensures went_on { HostWentOn (entry_asked result) self.old self.new }
     {
@@ -260,7 +270,7 @@ impl Host {
         };
         let entry = HostEntry::Ask {
             id: request.id,
-            to: request.to,
+            route: self.route_ahead(),
             pdu: request.pdu.copied(alloc)?,
         };
         self.note(entry)?;

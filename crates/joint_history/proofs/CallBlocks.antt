@@ -271,15 +271,15 @@ taken-runs (Aborted q) r is =
     (q, refl, ap (λ (x : Running). x.id) e, sym (ap (λ (x : Running). is_some x.ask) e))
 taken-runs (Ready kept result) r is = absurd cc
 
-taken-state : (n : ℕ) (numbers : List ℕ) (b : BlockState) → IsStateOf n numbers b
-    → IsStateOf n numbers (call_taken b)
-taken-state n numbers Idle is = tt
-taken-state n numbers Waiting is = tt
-taken-state n numbers (Active r) is =
+taken-state : (routed : Bool) (n : ℕ) (numbers : List ℕ) (b : BlockState)
+    → IsStateOf routed n numbers b → IsStateOf routed n numbers (call_taken b)
+taken-state routed n numbers Idle is = tt
+taken-state routed n numbers Waiting is = tt
+taken-state routed n numbers (Active r) is =
     record { named = is.named; network = is.network; kept = is.kept; ask = λ ask none. absurd cc }
-taken-state n numbers (Aborted r) is =
+taken-state routed n numbers (Aborted r) is =
     record { named = is.named; network = is.network; kept = is.kept; ask = λ ask none. absurd cc }
-taken-state n numbers (Ready kept result) is = is
+taken-state routed n numbers (Ready kept result) is = is
 
 taken-at : (T : BlockTable) (place : ℕ)
     → get_or (collected T).blocks place Idle ≡ call_taken (get_or T.blocks place Idle)
@@ -295,8 +295,8 @@ pub collected-table : (T : BlockTable) → IsTable T → IsTable (collected T)
 collected-table T t = record {
   paths = t.paths;
   numbers = t.numbers;
-  states = λ place. subst (IsStateOf T.node T.numbers) (sym (taken-at T place))
-      (taken-state T.node T.numbers _ (t.states place));
+  states = λ place. subst (IsStateOf T.routed T.node T.numbers) (sym (taken-at T place))
+      (taken-state T.routed T.node T.numbers _ (t.states place));
   apart = λ one other first second differ here there path.
       let a = collected-runs T one first here in
       let b = collected-runs T other second there in
@@ -313,21 +313,23 @@ all-more P [] ys all more = more
 all-more P (x ∷ xs) ys all more = (all.0, all-more P xs ys all.1 more)
 
 -- what is known of a block that runs a call
-pub running-is : (n : ℕ) (numbers : List ℕ) (b : BlockState) (r : Running) → IsStateOf n numbers b
-    → running_in b ≡ Some r → IsRunning n numbers r
-running-is n numbers Idle r is there = absurd cc
-running-is n numbers Waiting r is there = absurd cc
-running-is n numbers (Active q) r is there = subst (IsRunning n numbers) (some-same there) is
-running-is n numbers (Aborted q) r is there = subst (IsRunning n numbers) (some-same there) is
-running-is n numbers (Ready kept result) r is there = absurd cc
+pub running-is : (routed : Bool) (n : ℕ) (numbers : List ℕ) (b : BlockState) (r : Running)
+    → IsStateOf routed n numbers b → running_in b ≡ Some r → IsRunning routed n numbers r
+running-is routed n numbers Idle r is there = absurd cc
+running-is routed n numbers Waiting r is there = absurd cc
+running-is routed n numbers (Active q) r is there =
+    subst (IsRunning routed n numbers) (some-same there) is
+running-is routed n numbers (Aborted q) r is there =
+    subst (IsRunning routed n numbers) (some-same there) is
+running-is routed n numbers (Ready kept result) r is there = absurd cc
 
-pub new-given : (n : ℕ) (numbers : List ℕ) (bs : List BlockState)
-    → ((place : ℕ) → IsStateOf n numbers (get_or bs place Idle))
+pub new-given : (routed : Bool) (n : ℕ) (numbers : List ℕ) (bs : List BlockState)
+    → ((place : ℕ) → IsStateOf routed n numbers (get_or bs place Idle))
     → AllByRecursion (λ (c : Called). c.id.seq ≤ get_or numbers c.id.path 0)
     (map called_of (map call_of (filter_map untaken bs)))
-new-given n numbers [] states = tt
-new-given n numbers (b ∷ bs) states =
-    at (untaken b) refl (new-given n numbers bs (λ place. states (suc place)))
+new-given routed n numbers [] states = tt
+new-given routed n numbers (b ∷ bs) states =
+    at (untaken b) refl (new-given routed n numbers bs (λ place. states (suc place)))
   where
     at : (o : Option MstrCall) → untaken b ≡ o
         → AllByRecursion (λ (c : Called). c.id.seq ≤ get_or numbers c.id.path 0)
@@ -337,7 +339,7 @@ new-given n numbers (b ∷ bs) states =
     at None is rest = rest
     at (Some call) is rest =
         let w = started-of b call is in
-        let r = running-is n numbers b w.running (states 0) w.there in
+        let r = running-is routed n numbers b w.running (states 0) w.there in
         (subst (λ (x : CallId). x.seq ≤ get_or numbers x.path 0) w.id_is r.named.given, rest)
 
 pub or-and : (x y z : Bool) → (z ≡ true → y ≡ false) → ((x && not y) || z) ≡ ((x || z) && not y)

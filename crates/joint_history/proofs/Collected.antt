@@ -13,6 +13,7 @@ use Rattle.std.proofs.lemmas.List.Folds.{list_any-append}
 use Rattle.plant_types.specs.declared.drops.IoDrop.{IoDrop}
 use Rattle.plant_types.specs.declared.network.Segment.{Segment}
 use Rattle.plant_types.specs.declared.plan.OrderRow.{OrderRow}
+use Rattle.plant_types.specs.Plans.{IsRouteFrom, is_routed}
 use Rattle.ladder_solver.specs.Laws.{SegmentsKeepCalls}
 use Rattle.ladder_solver.specs.Numbers.{mstr_blocks}
 use Rattle.mstr_block.specs.Call.{is_same_call}
@@ -47,6 +48,8 @@ use Rattle.controller_core.specs.Replay.{ControllerState, apply, control_is_on, 
 use Rattle.controller_core.specs.Replay.{segment_solved, solved, start, table_of}
 use Rattle.ring_core.specs.Legal.{IsPath}
 use Rattle.tied_lists.specs.Calls.{AreNewCalls, FitsSort, IsAbove, IsNewCall, IsOut, IsOutOn, NoEnd}
+use Rattle.tied_lists.specs.Calls.{LeadsAway}
+use Rattle.tied_lists.proofs.Routes.{leads-away}
 use Rattle.tied_lists.specs.Items.{Called, Ended, Items, Kind, OverNet, kind_in}
 use Rattle.tied_lists.specs.Items.{kind_of_sort, no_items}
 use Rattle.joint_history.specs.Reading.{called_of, controller_at, item_next, items_after, items_of}
@@ -243,7 +246,7 @@ follows-collect n T a b order calls ends f = record {
   given = subst (AllByRecursion (λ (c : Called). c.id.seq ≤ get_or T.numbers c.id.path 0))
       (sym calls)
       (all-more _ a.calls (map called_of (calls_of T)) f.given
-      (new-given T.node T.numbers T.blocks f.table.states));
+      (new-given T.routed T.node T.numbers T.blocks f.table.states));
   above = λ place r there asked. absurd (clash asked (collected-runs T place r there).3);
   made = λ id is. ap (named id) calls ∙ more id
       ∙ or-left (named id a.calls) _ (f.made id (sym (ap (over id) ends) ∙ is));
@@ -274,9 +277,10 @@ none-out : (id : CallId) (count : ℕ) → list_any (is_awaited id) (replicate c
 none-out id zero = refl
 none-out id (suc count) = none-out id count
 
-follows-start : (n count : ℕ) → StaysTable → Follows n (idle_table n count) no_items
-follows-start n count tables = record {
-  table = tables.idle n count;
+follows-start : (n : ℕ) (routed : Bool) (count : ℕ) → StaysTable
+    → Follows n (idle_table n routed count) no_items
+follows-start n routed count tables = record {
+  table = tables.idle n routed count;
   node = refl;
   out = λ id. none-out id count;
   given = tt;
@@ -372,7 +376,7 @@ pub history-follows : CallLaws → (f : Fixed) (h : List Entry) → IsLegal f h
     → Follows f.plan.node (table_of (replay f h)) (items_of h)
 history-follows laws f h legal =
     follows-all laws f.plan.node f (start f.plan) no_items h legal.each
-    (follows-start f.plan.node (mstr_blocks f.plan.segments) laws.tables)
+    (follows-start f.plan.node (is_routed f.plan.network) (mstr_blocks f.plan.segments) laws.tables)
 
 -- a call that was collected and has not ended is out
 pub out-is : CallLaws → (fixed : Fixed) (h : List Entry) (id : CallId) → IsLegal fixed h
@@ -444,34 +448,38 @@ record FitsName (n : ℕ) (earlier : List Called) (r : Running) (own : ℕ) : Ty
   first : 1 ≤ r.id.seq
   above : r.id.path ≢ own_path → IsAbove r.id earlier
 
-net-fits : (n own : ℕ) (earlier : List Called) (r : Running) (to : ℕ) (pdu : List ℕ)
+net-fits : (n own : ℕ) (earlier : List Called) (r : Running) (routed : Bool) (route pdu : List ℕ)
     → FitsName n earlier r own → uses_network r.kept.operation ≡ true
-    → to ≢ own → FitsSort n earlier r.id (OverNet to pdu)
-net-fits n own earlier r to pdu f net other =
+    → IsRouteFrom routed own route → FitsSort n earlier r.id (OverNet route pdu)
+net-fits n own earlier r routed route pdu f net other =
     let away = net-path r.kept.operation r.id.path f.network net in
     let first = f.first in
-    let low = f.path in
-    (λ same. other (same ∙ sym f.own_is), (omega arith, omega arith), omega arith, f.above away)
+    let low = f.path in (
+      subst (λ (k : ℕ). LeadsAway k route) f.own_is (leads-away routed own route other),
+      (omega arith, omega arith),
+      omega arith,
+      f.above away,
+    )
 
-fits-ask : (n own : ℕ) (earlier : List Called) (r : Running) → FitsName n earlier r own
-    → (ask : MstrAsk) → MayBeAsked own ask → AsksFor r.kept ask
+fits-ask : (n own : ℕ) (earlier : List Called) (r : Running) (routed : Bool)
+    → FitsName n earlier r own → (ask : MstrAsk) → MayBeAsked routed own ask → AsksFor r.kept ask
     → FitsSort n earlier r.id (sort_of (kind_of ask))
-fits-ask n own earlier r f (asks.Write to at words) is for =
-    net-fits n own earlier r to [] f (ap uses_network for.0) is.0.2
-fits-ask n own earlier r f (asks.Read to at count) is for =
-    net-fits n own earlier r to [] f (ap uses_network for.0) is.0.2
-fits-ask n own earlier r f asks.LocalStats is for =
+fits-ask n own earlier r routed f (asks.Write route at words) is for =
+    net-fits n own earlier r routed route [] f (ap uses_network for.0) is.0
+fits-ask n own earlier r routed f (asks.Read route at count) is for =
+    net-fits n own earlier r routed route [] f (ap uses_network for.0) is.0
+fits-ask n own earlier r routed f asks.LocalStats is for =
     (tt, home-path r.kept.operation r.id.path f.network (ap uses_network for))
-fits-ask n own earlier r f asks.ClearLocal is for =
+fits-ask n own earlier r routed f asks.ClearLocal is for =
     (tt, home-path r.kept.operation r.id.path f.network (ap uses_network for))
-fits-ask n own earlier r f (asks.PutGlobal words) is for =
+fits-ask n own earlier r routed f (asks.PutGlobal words) is for =
     (is.1, home-path r.kept.operation r.id.path f.network (ap uses_network for.0))
-fits-ask n own earlier r f (asks.GetGlobal node count) is for =
+fits-ask n own earlier r routed f (asks.GetGlobal node count) is for =
     (tt, home-path r.kept.operation r.id.path f.network (ap uses_network for.0))
-fits-ask n own earlier r f (asks.RemoteStats to) is for =
-    net-fits n own earlier r to [] f (ap uses_network for) is.2
-fits-ask n own earlier r f (asks.ClearRemote to) is for =
-    net-fits n own earlier r to [] f (ap uses_network for) is.2
+fits-ask n own earlier r routed f (asks.RemoteStats route) is for =
+    net-fits n own earlier r routed route [] f (ap uses_network for) is
+fits-ask n own earlier r routed f (asks.ClearRemote route) is for =
+    net-fits n own earlier r routed route [] f (ap uses_network for) is
 
 record NewFrom (n : ℕ) (T : BlockTable) (ends : List Ended) : Type 0 where
   table : IsTable T
@@ -588,7 +596,8 @@ one-new : (n : ℕ) (T : BlockTable) (ends : List Ended) (earlier : List Called)
     → RunsAt T k r → r.ask ≡ Some ask → AreFresh T k earlier → AreHeld T k earlier ends
     → IsNewCall n earlier ends (record { id = r.id; sort = sort_of (kind_of ask) })
 one-new n T ends earlier k r ask from there asked fresh held =
-    let is = running-is T.node T.numbers (get_or T.blocks k Idle) r (from.table.states k) there in
+    let is =
+    running-is T.routed T.node T.numbers (get_or T.blocks k Idle) r (from.table.states k) there in
     let some = is-some r.ask ask asked in
     let all = fresh k r (omega arith) there some in
     let asks = is.ask ask asked in
@@ -603,7 +612,7 @@ one-new n T ends earlier k r ask from there asked fresh held =
       own = is.named.node ∙ from.node;
       first = unnamed-kind r.id earlier (fresh-unnamed r earlier all);
       unended = from.unended k r there some;
-      fits = fits-ask n T.node earlier r name ask asks.0 asks.1;
+      fits = fits-ask n T.node earlier r T.routed name ask asks.0 asks.1;
       alone = alone-by T ends earlier k r from.table there some held;
     }
 

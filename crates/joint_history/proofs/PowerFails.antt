@@ -1,5 +1,6 @@
--- A read whose target loses power: its Request is lost as the node leaves, or it comes without power
--- and has no effect; the laws between the lists hold, and do not hold of a node that leaves too soon.
+-- A read whose target loses power: its Request is lost as the node leaves, or it comes without
+-- power and has no effect; the laws between the lists hold, and do not hold of a node that leaves
+-- too soon.
 use Rattle.std.proofs.Common.{◌≡◌, ℕ, ◌++◌, false, true, List, [], ◌∷◌, refl, arith}
 use Rattle.mstr_block.specs.declared.call.CallId.{CallId}
 use Rattle.mstr_block.specs.declared.call.MstrResult.TheVariants.{Bad}
@@ -33,13 +34,13 @@ abbrev tells : List ℕ
 tells = 3 ∷ 4 ∷ 0 ∷ 42 ∷ 0 ∷ 43 ∷ []
 
 abbrev frame : FrameKind → ℕ → ℕ → List ℕ → Frame
-frame kind to seq pdu = record { kind = kind; to = to; id = id-of seq; pdu = pdu }
+frame kind to seq pdu = record { kind = kind; to = to; rest = []; id = id-of seq; pdu = pdu }
 
 -- ---- power fails in the first scan of node 5, and the Request is lost as it leaves
 abbrev reader : List Entry
 reader =
-    Begin ∷ Solve 1 ∷ End ∷ Collect (record { id = id-of 1; kind = Net 5 reads } ∷ []) ∷ Begin
-    ∷ Solve 1 ∷ End ∷ Finish (id-of 1) (Bad 0x6101) ∷ []
+    Begin ∷ Solve 1 ∷ End ∷ Collect (record { id = id-of 1; kind = Net (5 ∷ []) reads } ∷ [])
+    ∷ Begin ∷ Solve 1 ∷ End ∷ Finish (id-of 1) (Bad 0x6101) ∷ []
 
 abbrev failing : List Entry
 failing = Begin ∷ Fail ∷ Begin ∷ Solve 1 ∷ End ∷ []

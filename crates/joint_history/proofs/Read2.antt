@@ -31,11 +31,11 @@ abbrev tells : List ℕ
 tells = 3 ∷ 4 ∷ 0 ∷ 42 ∷ 0 ∷ 43 ∷ []
 
 abbrev frame : FrameKind → ℕ → List ℕ → Frame
-frame kind to pdu = record { kind = kind; to = to; id = id; pdu = pdu }
+frame kind to pdu = record { kind = kind; to = to; rest = []; id = id; pdu = pdu }
 
 abbrev reader : List Entry
 reader =
-    Begin ∷ Solve 1 ∷ End ∷ Collect (record { id = id; kind = Net 5 reads } ∷ []) ∷ Finish id
+    Begin ∷ Solve 1 ∷ End ∷ Collect (record { id = id; kind = Net (5 ∷ []) reads } ∷ []) ∷ Finish id
     (Good (42 ∷ 43 ∷ []))
     ∷ Begin ∷ Solve 1 ∷ End ∷ []
 
@@ -50,10 +50,24 @@ ring =
     ∷ Leave 5 Ended ∷ []
 
 reader-tied : Tied AController (items_of reader) (own 2 ring)
-reader-tied = record { asks = refl; peers = refl; port = refl; replies = refl; ends = refl; downs = (tt, tt) }
+reader-tied = record {
+  asks = refl;
+  peers = refl;
+  port = refl;
+  replies = refl;
+  ends = refl;
+  downs = (tt, tt);
+}
 
 target-tied : Tied AController (items_of target) (own 5 ring)
-target-tied = record { asks = refl; peers = refl; port = refl; replies = refl; ends = refl; downs = (tt, tt) }
+target-tied = record {
+  asks = refl;
+  peers = refl;
+  port = refl;
+  replies = refl;
+  ends = refl;
+  downs = (tt, tt);
+}
 
 abbrev both : List ControllerLog
 both = record { node = 2; entries = reader } ∷ record { node = 5; entries = target } ∷ []

@@ -83,7 +83,8 @@ pub record HostIsComplete (plan : HostPlan) (items : Items) (ring : List RingEnt
 -- station and its port gave.
 abbrev pub replies_due : Items → List RingEntry → List RingEntry → ℕ
 replies_due items ring before =
-    length (due_replies (taken_by before) (replies_in items.answers) (replies_in (port_answers ring)))
+    length (due_replies (taken_by before) (replies_in items.answers)
+    (replies_in (port_answers ring)))
 
 -- Whenever a node passed the token on it had posted the Replies that were due for all that it took.
 abbrev pub RepliesBeforePasses : Items → List RingEntry → Type 0

@@ -182,7 +182,7 @@ bounds-distinct plant joint sound sections =
     (IsDistinct-IsPermutation eqb flips plant.net.members
     (controller_nodes plant ++ host_nodes plant)
     (IsPermutation-sym (controller_nodes plant ++ host_nodes plant) plant.net.members
-    sound.members) (rising-distinct plant.net.members sound.net.rising))
+    sound.members) (rising-distinct plant.net.members sound.net.members.rise))
 
 -- ---- how far a joint history is in order
 

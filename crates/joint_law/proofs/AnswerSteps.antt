@@ -4,20 +4,22 @@ use Rattle.std.proofs.Common.{None}
 use Rattle.std.proofs.Common.{refl, sym, ap, ◌∙◌, append-nil}
 use Rattle.std.specs.List.{cons_option, filter_map}
 use Rattle.std.proofs.lemmas.List.Elements.{filter_map-append}
-use Rattle.tied_lists.specs.Items.{Answered, ForStats, Item, Plain, Taken, due_replies, due_reply}
-use Rattle.tied_lists.specs.Items.{first_reply, item_of, rest_of}
+use Rattle.tied_lists.specs.Items.{Answered, ForStats, Item, Plain, RequestItem, Taken}
+use Rattle.tied_lists.specs.Items.{due_replies, due_reply, first_reply, item_of, rest_of}
 use Rattle.joint_law.specs.Bound.{Sorted, sorted, sorted_answer}
 use Rattle.joint_law.specs.Taking.{DueNext, items_for, left_plain, left_stats}
 
 pub items_for-append : (statistics : Bool) (xs ys : List Taken)
     → items_for statistics (xs ++ ys) ≡ items_for statistics xs ++ items_for statistics ys
 items_for-append true [] ys = refl
-items_for-append true (Plain id pdu ∷ xs) ys = items_for-append true xs ys
+items_for-append true (Plain id rest pdu ∷ xs) ys = items_for-append true xs ys
 items_for-append true (ForStats id pdu ∷ xs) ys =
-    ap (λ (l : List Item). (id, Some pdu) ∷ l) (items_for-append true xs ys)
+    ap (λ (l : List RequestItem). record { id = id; rest = []; request = Some pdu } ∷ l)
+    (items_for-append true xs ys)
 items_for-append false [] ys = refl
-items_for-append false (Plain id pdu ∷ xs) ys =
-    ap (λ (l : List Item). (id, Some pdu) ∷ l) (items_for-append false xs ys)
+items_for-append false (Plain id rest pdu ∷ xs) ys =
+    ap (λ (l : List RequestItem). record { id = id; rest = rest; request = Some pdu } ∷ l)
+    (items_for-append false xs ys)
 items_for-append false (ForStats id pdu ∷ xs) ys = items_for-append false xs ys
 
 -- one item more or none in front of two lists
@@ -30,7 +32,7 @@ pub due-append : (ts us : List Taken) (P L : List (Option (List ℕ)))
     → due_replies (ts ++ us) P L ≡ due_replies ts P L
     ++ due_replies us (left_plain ts P) (left_stats ts L)
 due-append [] us P L = refl
-due-append (Plain id pdu ∷ ts) us P L =
+due-append (Plain id rest pdu ∷ ts) us P L =
     ap (cons_option (due_reply id (first_reply P))) (due-append ts us (rest_of P) L)
     ∙ cons-append (due_reply id (first_reply P)) (due_replies ts (rest_of P) L) _
 due-append (ForStats id pdu ∷ ts) us P L =
@@ -40,54 +42,57 @@ due-append (ForStats id pdu ∷ ts) us P L =
 pub left_plain-append : (ts us : List Taken) (P : List (Option (List ℕ)))
     → left_plain (ts ++ us) P ≡ left_plain us (left_plain ts P)
 left_plain-append [] us P = refl
-left_plain-append (Plain id pdu ∷ ts) us P = left_plain-append ts us (rest_of P)
+left_plain-append (Plain id rest pdu ∷ ts) us P = left_plain-append ts us (rest_of P)
 left_plain-append (ForStats id pdu ∷ ts) us P = left_plain-append ts us P
 
 pub left_stats-append : (ts us : List Taken) (L : List (Option (List ℕ)))
     → left_stats (ts ++ us) L ≡ left_stats us (left_stats ts L)
 left_stats-append [] us L = refl
-left_stats-append (Plain id pdu ∷ ts) us L = left_stats-append ts us L
+left_stats-append (Plain id rest pdu ∷ ts) us L = left_stats-append ts us L
 left_stats-append (ForStats id pdu ∷ ts) us L = left_stats-append ts us (rest_of L)
 
 -- two joined lists of two sorts are one where their parts are
-abbrev pick : Bool → Bool → Item → Option Item
+abbrev pick : Bool → Bool → RequestItem → Option RequestItem
 pick true true item = Some item
 pick true false item = None
 pick false true item = None
 pick false false item = Some item
 
-abbrev of-sort : Bool → Sorted → Option Item
+abbrev of-sort : Bool → Sorted → Option RequestItem
 of-sort statistics s = pick statistics s.statistics s.item
 
-picks-own : (statistics : Bool) (xs : List Item)
+picks-own : (statistics : Bool) (xs : List RequestItem)
     → filter_map (of-sort statistics) (map (sorted statistics) xs) ≡ xs
 picks-own true [] = refl
-picks-own true (x ∷ xs) = ap (λ (l : List Item). x ∷ l) (picks-own true xs)
+picks-own true (x ∷ xs) = ap (λ (l : List RequestItem). x ∷ l) (picks-own true xs)
 picks-own false [] = refl
-picks-own false (x ∷ xs) = ap (λ (l : List Item). x ∷ l) (picks-own false xs)
+picks-own false (x ∷ xs) = ap (λ (l : List RequestItem). x ∷ l) (picks-own false xs)
 
-picks-other : (xs : List Item) → filter_map (of-sort true) (map (sorted false) xs) ≡ []
+picks-other : (xs : List RequestItem) → filter_map (of-sort true) (map (sorted false) xs) ≡ []
 picks-other [] = refl
 picks-other (x ∷ xs) = picks-other xs
 
-picks-another : (xs : List Item) → filter_map (of-sort false) (map (sorted true) xs) ≡ []
+picks-another : (xs : List RequestItem) → filter_map (of-sort false) (map (sorted true) xs) ≡ []
 picks-another [] = refl
 picks-another (x ∷ xs) = picks-another xs
 
-abbrev joined : List Item → List Item → List Sorted
+abbrev joined : List RequestItem → List RequestItem → List Sorted
 joined peers port = map (sorted false) peers ++ map (sorted true) port
 
-first-part : (peers port : List Item) → filter_map (of-sort false) (joined peers port) ≡ peers
+first-part : (peers port : List RequestItem)
+    → filter_map (of-sort false) (joined peers port) ≡ peers
 first-part peers port =
     filter_map-append (of-sort false) (map (sorted false) peers) (map (sorted true) port)
     ∙ ((λ i. picks-own false peers i ++ picks-another port i) ∙ append-nil peers)
 
-second-part : (peers port : List Item) → filter_map (of-sort true) (joined peers port) ≡ port
+second-part : (peers port : List RequestItem)
+    → filter_map (of-sort true) (joined peers port) ≡ port
 second-part peers port =
     filter_map-append (of-sort true) (map (sorted false) peers) (map (sorted true) port)
     ∙ (λ i. picks-other peers i ++ picks-own true port i)
 
-pub parts-same : (peers port peers' port' : List Item) → joined peers port ≡ joined peers' port'
+pub parts-same : (peers port peers' port' : List RequestItem)
+    → joined peers port ≡ joined peers' port'
     → (peers ≡ peers') × (port ≡ port')
 parts-same peers port peers' port' e = (
   sym (first-part peers port) ∙ (ap (filter_map (of-sort false)) e ∙ first-part peers' port'),

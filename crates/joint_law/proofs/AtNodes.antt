@@ -104,7 +104,7 @@ hosts-all plant joint sound sections P all =
 
 pub members-low : (plant : Plant) → IsPlant plant → All (λ m. m < addresses) plant.net.members
 members-low plant sound k d low =
-    let n = sound.net.members k d low in let t = n.to in omega (arith, t)
+    let n = sound.net.members.each k d low in let t = n.to in omega (arith, t)
 
 members-in : (xs : List ℕ) → All (Contains xs) xs
 members-in xs k d low = (k, low, get_or_default xs k (get_or xs k d) d low)

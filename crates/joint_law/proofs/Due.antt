@@ -36,7 +36,7 @@ stats-rest (reply ∷ rest) given = given.1
 due-length : (ts : List Taken) (P L : List (Option (List ℕ))) → AreGiven L
     → length (due_replies ts P L) ≡ due_count ts P
 due-length [] P L given = refl
-due-length (Plain id pdu ∷ ts) P L given =
+due-length (Plain id rest pdu ∷ ts) P L given =
     due-one id (first_reply P) (due_replies ts (rest_of P) L)
     ∙ ap (λ (n : ℕ). one_due (first_reply P) + n) (due-length ts (rest_of P) L given)
 due-length (ForStats id pdu ∷ ts) P L given =
@@ -80,7 +80,7 @@ due-counted ts P b = due-length ts P (replies_in (port_answers b)) (port-given b
 pub due_count-append : (ts us : List Taken) (P : List (Option (List ℕ)))
     → due_count (ts ++ us) P ≡ due_count ts P + due_count us (left_plain ts P)
 due_count-append [] us P = omega arith
-due_count-append (Plain id pdu ∷ ts) us P = omega (arith, due_count-append ts us (rest_of P))
+due_count-append (Plain id rest pdu ∷ ts) us P = omega (arith, due_count-append ts us (rest_of P))
 due_count-append (ForStats id pdu ∷ ts) us P = omega (arith, due_count-append ts us P)
 
 one-few : (answer : Option (Option (List ℕ))) → one_due answer ≤ 1
@@ -91,6 +91,6 @@ one-few (Some (Some reply)) = omega arith
 -- no more Replies are due than Requests were taken
 pub due-few : (ts : List Taken) (P : List (Option (List ℕ))) → due_count ts P ≤ length ts
 due-few [] P = omega arith
-due-few (Plain id pdu ∷ ts) P =
+due-few (Plain id rest pdu ∷ ts) P =
     omega (arith, due-few ts (rest_of P), one-few (first_reply P))
 due-few (ForStats id pdu ∷ ts) P = omega (arith, due-few ts P)

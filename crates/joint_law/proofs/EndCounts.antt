@@ -46,7 +46,7 @@ end-id kinds (entries.Finish id result) = refl
 
 host-end-id : (kinds : CallId → Option Kind) (e : HostEntry)
     → map id_of_end (cons_option (host_end_with kinds e) []) ≡ cons_option (host_end_id_in e) []
-host-end-id kinds (host_entries.Ask id to pdu) = refl
+host-end-id kinds (host_entries.Ask id route pdu) = refl
 host-end-id kinds (host_entries.Answer id result) = refl
 host-end-id kinds (host_entries.Served id request reply) = refl
 

@@ -47,7 +47,7 @@ pub fails-of : (es : List Entry) → (items_of es).fails ≡ count_by is_fail es
 fails-of es = omega (arith, fails-counted no_items es)
 
 host-next-fails : (a : Items) (e : HostEntry) → (host_item_next a e).fails ≡ a.fails
-host-next-fails a (host_entries.Ask id to pdu) = refl
+host-next-fails a (host_entries.Ask id route pdu) = refl
 host-next-fails a (host_entries.Answer id result) = refl
 host-next-fails a (host_entries.Served id request reply) = refl
 

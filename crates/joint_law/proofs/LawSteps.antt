@@ -5,7 +5,7 @@ use Rattle.std.proofs.Common.{refl, sym, ap, subst, ◌∙◌, ⊎_elim, arith}
 use Rattle.std.specs.List.{All, Any}
 use Rattle.std.proofs.lemmas.Bool.{cases_lt}
 use Rattle.std.proofs.Math.ListN.{get_or-map}
-use Rattle.std.proofs.lemmas.List.{get_or_read, get_or_append_left, get_or-append-add}
+use Rattle.std.proofs.lemmas.List.{get_or_read, get_or-append-add}
 use Rattle.std.proofs.lemmas.List.{length-append, length-map}
 use Rattle.std.proofs.lemmas.List.Elements.{All-append, All-map}
 use Rattle.ring_core.specs.declared.entry.RingEntry.{RingEntry}
@@ -92,17 +92,6 @@ logs-any bound P logs i x low is here = (
 pub none-of : {X : Type 0} (o : Option X) → ((x : X) → o ≡ Some x → ⊥) → o ≡ None
 none-of None no' = refl
 none-of (Some x) no' = absurd (no' x refl)
-
--- stations of both sorts
-any-left : {X : Type 0} (P : X → Type 0) (xs ys : List X) → Any P xs → Any P (xs ++ ys)
-any-left P xs ys a = (
-  a.0,
-  a.1,
-  let n = length-append xs ys in let l = a.2 in
-      omega (arith, n, l),
-  get_or_append_left xs ys a.1 a.0 a.2 ∙ a.3,
-  a.4,
-)
 
 any-right : {X : Type 0} (P : X → Type 0) (xs ys : List X) → Any P ys → Any P (xs ++ ys)
 any-right P xs ys a = (

@@ -125,19 +125,19 @@ next-ends a (entries.Finish id result) = refl
 
 host-next-calls : (a : Items) (e : HostEntry)
     → (host_item_next a e).calls ≡ a.calls ++ cons_option (host_call_in e) []
-host-next-calls a (host_entries.Ask id to pdu) = refl
+host-next-calls a (host_entries.Ask id route pdu) = refl
 host-next-calls a (host_entries.Answer id result) = sym (append-nil a.calls)
 host-next-calls a (host_entries.Served id request reply) = sym (append-nil a.calls)
 
 host-next-answers : (a : Items) (e : HostEntry)
     → (host_item_next a e).answers ≡ a.answers ++ cons_option (host_answer_in e) []
-host-next-answers a (host_entries.Ask id to pdu) = sym (append-nil a.answers)
+host-next-answers a (host_entries.Ask id route pdu) = sym (append-nil a.answers)
 host-next-answers a (host_entries.Answer id result) = sym (append-nil a.answers)
 host-next-answers a (host_entries.Served id request reply) = refl
 
 host-next-ends : (a : Items) (e : HostEntry)
     → (host_item_next a e).ends ≡ a.ends ++ cons_option (host_end_with (kind_in a.calls) e) []
-host-next-ends a (host_entries.Ask id to pdu) = sym (append-nil a.ends)
+host-next-ends a (host_entries.Ask id route pdu) = sym (append-nil a.ends)
 host-next-ends a (host_entries.Answer id result) = refl
 host-next-ends a (host_entries.Served id request reply) = sym (append-nil a.ends)
 

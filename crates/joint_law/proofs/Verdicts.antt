@@ -6,7 +6,7 @@ use Rattle.std.specs.List.{All, AllZip, Any, zip}
 use Rattle.std.proofs.Math.ListN.{get_or-map}
 use Rattle.std.proofs.lemmas.List.{get_or-append-add, get_or_append_left, length-append}
 use Rattle.std.proofs.lemmas.List.{length-map}
-use Rattle.std.proofs.lemmas.List.{map-append, take-append-drop}
+use Rattle.std.proofs.lemmas.List.{take-append-drop}
 use Rattle.std.proofs.lemmas.List.Elements.{All-append, All-map, filter_map-append}
 use Rattle.std.proofs.lemmas.Slice.Zip.{get_or-zip, length-zip}
 use Rattle.plant_types.specs.declared.net.HostPlan.{HostPlan}
@@ -20,8 +20,7 @@ use Rattle.ring_core.specs.Legal.{IsLegalRing, IsRun}
 use Rattle.controller_core.specs.Controller.{IsLegal}
 use Rattle.controller_core.specs.Laws.{FrontsAreLegal}
 use Rattle.host_port.specs.declared.entry.HostEntry.{HostEntry}
-use Rattle.host_port.specs.Calls.{request_by, requests_in}
-use Rattle.host_port.specs.Legal.{IsHostHistory, Question, question_of, questions_in}
+use Rattle.host_port.specs.Legal.{IsHostHistory, Question, question_by, questions_in}
 use Rattle.joint_history.specs.declared.joint.ControllerLog.{ControllerLog}
 use Rattle.joint_history.specs.declared.joint.HostLog.{HostLog}
 use Rattle.joint_history.specs.declared.joint.Joint.{Joint}
@@ -207,8 +206,7 @@ pub host-front : (plan : HostPlan) (front rest : List HostEntry)
 host-front plan front rest h = record {
   order =
       let split : questions_in (front ++ rest) ≡ questions_in front ++ questions_in rest =
-      ap (map question_of) (filter_map-append request_by front rest)
-      ∙ map-append question_of (requests_in front) (requests_in rest) in (
+      filter_map-append question_by front rest in (
         questions_in rest ++ h.order.0,
         sym
             (append_assoc (questions_in front) (questions_in rest) h.order.0)

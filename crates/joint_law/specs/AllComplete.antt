@@ -1,7 +1,6 @@
 -- Which stations were done. This project's own.
 use Rattle.std.specs.Prelude.{◌≡◌, ℕ, ◌<◌, Bool, true, false, List, [], ◌∷◌, get_or, length}
 use Rattle.std.specs.Prelude.{count_by, Option, Some, None}
-use Rattle.std.specs.List.{list_any}
 use Rattle.plant_types.specs.declared.net.HostPlan.{HostPlan}
 use Rattle.plant_types.specs.declared.net.NetPlan.{NetPlan}
 use Rattle.plant_types.specs.declared.plan.Plant.{Plant}
@@ -12,7 +11,7 @@ use Rattle.ring_core.specs.declared.status.NodeStatus.{NodeStatus}
 use Rattle.ring_core.specs.declared.status.NodeStatus.TheVariants.{In, Away, Asking, Gone}
 use Rattle.controller_core.specs.declared.entry.Entry.{Entry}
 use Rattle.controller_core.specs.declared.entry.Entry.TheVariants.{Begin, Fail}
-use Rattle.tied_lists.specs.Items.{latest_down, replies_in}
+use Rattle.tied_lists.specs.Items.{replies_in}
 use Rattle.tied_lists.specs.Waits.{status_at}
 use Rattle.joint_history.specs.declared.joint.ControllerLog.{ControllerLog}
 use Rattle.joint_history.specs.declared.joint.HostLog.{HostLog}
@@ -20,7 +19,7 @@ use Rattle.joint_history.specs.declared.joint.Joint.{Joint}
 use Rattle.joint_history.specs.Complete.{is_scan_end}
 use Rattle.joint_history.specs.Reading.{host_items_of, items_of}
 use Rattle.joint_law.specs.AllCourses.{AreDone, AreHostsDone}
-use Rattle.joint_law.specs.Completing.{EachAllows, HostAllows, NodeAllows, is_ended}
+use Rattle.joint_law.specs.Completing.{EachAllows, HasNoticed, HostAllows, NodeAllows}
 use Rattle.joint_law.specs.Failing.{is_fail}
 use Rattle.joint_law.specs.Picked.{AreOfNode, picked}
 use Rattle.joint_law.specs.RingFollowing.{IsRingBehind}
@@ -50,7 +49,7 @@ pub record IsStandingOf (joint : Joint) (net : NetPlan) (node : ℕ) (on : Stand
 pub record IsNodeDone (answers : List (Option (List ℕ))) (fails : ℕ) (b : List RingEntry)
     : Type 0 where
   pub fits : EachAllows (NodeAllows answers) b
-  pub noticed : list_any is_ended b ≡ true → fails ≡ latest_down b
+  pub noticed : HasNoticed fails b
 
 -- There is power behind an entry, or none.
 abbrev pub powered_next : Bool → Entry → Bool
@@ -105,6 +104,26 @@ abbrev pub AreHostNodesDone : List HostPlan → List HostLog → List Bool → �
 AreHostNodesDone plans logs done node status b = (k : ℕ) (p : HostPlan) (d : HostLog)
     → k < length logs → (get_or logs k d).node ≡ node
     → IsHostNodeDone (get_or plans k p) status (get_or logs k d) (get_or done k false) b
+
+-- A controller was done, and its node on the ring, if it is this node.
+abbrev pub IsControllerDoneOn : ℕ → Standing → ControllerLog → Bool → Type 0
+IsControllerDoneOn scans on log is_done = log.node ≡ on.node
+    → IsControllerDone scans on.status log is_done (entries_on on)
+
+-- Each controller of this node was.
+abbrev pub AreControllersDoneOn : ℕ → Standing → List ControllerLog → List Bool → Type 0
+AreControllersDoneOn scans on logs done =
+    AreControllersDone scans logs done on.node on.status (entries_on on)
+
+-- A host was done, its node on the ring, and it asked nothing too early, if it is this node.
+abbrev pub IsHostNodeDoneOn : HostPlan → Standing → HostLog → Bool → Type 0
+IsHostNodeDoneOn plan on log is_done = log.node ≡ on.node
+    → IsHostNodeDone plan on.status log is_done (entries_on on)
+
+-- Each host of this node was.
+abbrev pub AreHostNodesDoneOn : List HostPlan → Standing → List HostLog → List Bool → Type 0
+AreHostNodesDoneOn plans on logs done =
+    AreHostNodesDone plans logs done on.node on.status (entries_on on)
 
 -- The first node whose stations are not complete; none where all are.
 abbrev pub IsFirstIncomplete : Plant → ℕ → Joint → Option ℕ → Type 0

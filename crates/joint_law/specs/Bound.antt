@@ -1,10 +1,11 @@
 -- The five laws of a station, by what each compares. This project's own.
-use Rattle.std.specs.Prelude.{ℕ, Bool, true, false, List, [], ◌++◌, map, filter_map}
+use Rattle.std.specs.Prelude.{ℕ, Bool, true, false, List, [], ◌++◌, map, filter_map, Option}
+use Rattle.std.specs.List.{cons_option}
 use Rattle.ring_core.specs.declared.entry.RingEntry.{RingEntry}
 use Rattle.tied_lists.specs.Own.{own}
-use Rattle.tied_lists.specs.Items.{AController, AHost, Answered, Item, Items, Station, asked_by}
-use Rattle.tied_lists.specs.Items.{downs_by}
-use Rattle.tied_lists.specs.Items.{due_replies, ended_by, item_of, net_ask, plain_items}
+use Rattle.tied_lists.specs.Items.{AController, AHost, Answered, Items, RequestItem, Station}
+use Rattle.tied_lists.specs.Items.{asked_by, downs_by}
+use Rattle.tied_lists.specs.Items.{Taken, ended_by, item_of, net_ask, plain_items}
 use Rattle.tied_lists.specs.Items.{port_answers, replied_by, replies_in, stats_items, taken_by}
 use Rattle.tied_lists.specs.Tied.{AsksAreCalls, PeersAreTaken, PortIsTaken, RepliesAreDue}
 use Rattle.tied_lists.specs.Tied.{EndsAreMet, DownsAreFails}
@@ -14,6 +15,8 @@ use Rattle.joint_history.specs.declared.joint.Joint.{Joint}
 use Rattle.joint_history.specs.Reading.{items_of, host_items_of}
 use Rattle.joint_law.specs.Differing.{BreaksAt, DifferAt}
 use Rattle.joint_law.specs.Failing.{AreFounded}
+use Rattle.joint_law.specs.Picked.{picked}
+use Rattle.joint_law.specs.Taking.{due_behind, items_for}
 use Rattle.joint_law.specs.declared.law.Law.{Law}
 use Rattle.joint_law.specs.declared.law.Law.TheVariants.{Asks, Answers, Replies, Ends, Downs}
 
@@ -59,20 +62,35 @@ number_of Downs = 5
 -- A request that was answered, and whether it asked for statistics.
 pub record Sorted : Type 0 where
   pub statistics : Bool
-  pub item : Item
+  pub item : RequestItem
 
 -- An item, and whether it is for statistics.
-abbrev pub sorted : Bool → Item → Sorted
+abbrev pub sorted : Bool → RequestItem → Sorted
 sorted statistics item = record { statistics = statistics; item = item }
 
 -- The item of an answer.
 abbrev pub sorted_answer : Bool → Answered → Sorted
 sorted_answer statistics a = sorted statistics (item_of a)
 
+-- The item of an answer, if there is one.
+abbrev pub sorted_answers : Bool → Option Answered → List Sorted
+sorted_answers statistics answer = map (sorted_answer statistics) (cons_option answer [])
+
+-- The items of what a port answered.
+abbrev pub port_items : List RingEntry → List Sorted
+port_items ring = map (sorted_answer true) (port_answers ring)
+
 -- What was answered by a station, and then by its port.
 abbrev pub answered_in_order : List Answered → List RingEntry → List Sorted
-answered_in_order answers ring =
-    map (sorted_answer false) answers ++ map (sorted_answer true) (port_answers ring)
+answered_in_order answers ring = map (sorted_answer false) answers ++ port_items ring
+
+-- The items of what was taken for a port, or for its station.
+abbrev pub sorted_taken : Bool → List Taken → List Sorted
+sorted_taken statistics taken = map (sorted statistics) (items_for statistics taken)
+
+-- The same of what a node took at these places.
+abbrev pub taken_places : Bool → List RingEntry → List ℕ → List Sorted
+taken_places statistics ring places = sorted_taken statistics (taken_by (picked ring places))
 
 -- What was taken for a station, and then for its port.
 abbrev pub taken_in_order : List RingEntry → List Sorted
@@ -95,8 +113,6 @@ BreaksLaw Asks s place = DifferAt (asked_by s.ring) (filter_map net_ask s.items.
 BreaksLaw Answers s place =
     DifferAt (answered_in_order s.items.answers s.ring) (taken_in_order s.ring) place
 BreaksLaw Replies s place =
-    DifferAt (replied_by s.ring)
-    (due_replies (taken_by s.ring) (replies_in s.items.answers) (replies_in (port_answers s.ring)))
-    place
+    DifferAt (replied_by s.ring) (due_behind (replies_in s.items.answers) s.ring) place
 BreaksLaw Ends s place = DifferAt s.items.ends (ended_by s.station [] s.ring) place
 BreaksLaw Downs s place = BreaksAt (AreFounded s.items.fails) (downs_by s.ring) place

@@ -1,15 +1,25 @@
 -- What comes of comparing the two lists of a law. This project's own.
-use Rattle.std.specs.Prelude.{◌≡◌, ℕ, ◌+◌, List, Option, Some, None}
+use Rattle.std.specs.Prelude.{◌≡◌, ◌++◌, ℕ, ◌+◌, List, Option, Some, None}
 use Rattle.ring_core.specs.declared.entry.RingEntry.{RingEntry}
-use Rattle.tied_lists.specs.Items.{Items, Station}
-use Rattle.joint_law.specs.Bound.{Bound, BreaksLaw, KeepsLaw}
+use Rattle.tied_lists.specs.Items.{Items, Station, replied_by}
+use Rattle.joint_law.specs.Bound.{Bound, BreaksLaw, KeepsLaw, Sorted, port_items, taken_in_order}
 use Rattle.joint_law.specs.Differing.{DifferAt}
+use Rattle.joint_law.specs.Taking.{due_behind}
 use Rattle.joint_law.specs.declared.law.Law.{Law}
 
 -- Two lists are one, or differ first at a place counted from 0.
 abbrev pub Compared : {A : Type 0} → List A → List A → Option ℕ → Type 0
 Compared xs ys None = xs ≡ ys
 Compared xs ys (Some place) = DifferAt xs ys (place + 1)
+
+-- What a station and then its port answered, compared with what was taken for each.
+abbrev pub ComparesAnswers : List Sorted → List RingEntry → Option ℕ → Type 0
+ComparesAnswers answers b = Compared (answers ++ port_items b) (taken_in_order b)
+
+-- The Replies that a node posted, compared with those that were due, whose station gave such
+-- replies.
+abbrev pub ComparesReplies : List (Option (List ℕ)) → List RingEntry → Option ℕ → Type 0
+ComparesReplies peers b = Compared (replied_by b) (due_behind peers b)
 
 -- A station, whatever its address.
 abbrev pub any_bound : Station → Items → List RingEntry → Bound

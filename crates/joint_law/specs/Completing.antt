@@ -10,7 +10,7 @@ use Rattle.ring_core.specs.declared.entry.LeaveCause.{LeaveCause}
 use Rattle.ring_core.specs.declared.entry.LeaveCause.TheVariants.{Ended, Spent, Down}
 use Rattle.ring_core.specs.declared.entry.RingEntry.{RingEntry}
 use Rattle.ring_core.specs.declared.entry.RingEntry.TheVariants.{Leave, Pass, Post, Take}
-use Rattle.tied_lists.specs.Items.{asked_by, replied_by, taken_by, taken_in}
+use Rattle.tied_lists.specs.Items.{asked_by, latest_down, replied_by, taken_by, taken_in}
 use Rattle.joint_history.specs.Complete.{IsOfDone, StandsIn, is_pass}
 use Rattle.joint_law.specs.Taking.{due_count}
 use Rattle.joint_law.specs.declared.completing.Progress.{Progress}
@@ -29,6 +29,10 @@ is_all_done (Down number) = false
 abbrev pub is_ended : RingEntry → Bool
 is_ended (Leave n cause) = is_all_done cause
 is_ended _ = false
+
+-- A node that left as all was done had noticed so many power failures.
+abbrev pub HasNoticed : ℕ → List RingEntry → Type 0
+HasNoticed fails b = list_any is_ended b ≡ true → fails ≡ latest_down b
 
 -- What a node has done by these entries, whose station gives such replies.
 abbrev pub progress_of : List (Option (List ℕ)) → List RingEntry → Progress

@@ -1,5 +1,6 @@
 -- Ends of calls, where calls and requests are found by their names. This project's own.
-use Rattle.std.specs.Prelude.{◌≡◌, ℕ, if◌then◌else◌, List, Option, Some, None}
+use Rattle.std.specs.Prelude.{◌≡◌, ℕ, if◌then◌else◌, List, [], Option, Some, None}
+use Rattle.std.specs.List.{cons_option}
 use Rattle.std.specs.Option.{option_map}
 use Rattle.mstr_block.specs.Call.{is_same_call}
 use Rattle.mstr_block.specs.declared.call.CallId.{CallId}
@@ -12,13 +13,14 @@ use Rattle.controller_core.specs.declared.entry.Entry.{Entry}
 use Rattle.controller_core.specs.declared.entry.Entry.TheVariants as entries
 use Rattle.host_port.specs.declared.entry.HostEntry.{HostEntry}
 use Rattle.host_port.specs.declared.entry.HostEntry.TheVariants as host_entries
-use Rattle.tied_lists.specs.Items.{Asked, Called, Came, Ended, Kind, NetCall, Station}
+use Rattle.tied_lists.specs.Items.{Asked, Called, Came, Ended, Kind, NetCall, Outcome, Station}
 use Rattle.tied_lists.specs.Items.{ended_at_home, kind_in, outcome_of_reply}
 use Rattle.tied_lists.specs.Items.{or_some, outcome_of_word}
 use Rattle.joint_history.specs.Reading.{outcome_of}
 use Rattle.joint_law.specs.declared.by_call.ByCall.{ByCall}
 use Rattle.joint_law.specs.declared.ending.EndKind.{EndKind}
-use Rattle.joint_law.specs.Kinds.{kind_as}
+use Rattle.joint_law.specs.declared.ending.Sort.{Sort}
+use Rattle.joint_law.specs.Kinds.{kind_as, station_of}
 use Rattle.joint_law.specs.Named.{value_of_call}
 
 -- The kind of a call that was noted.
@@ -82,3 +84,24 @@ ring_end_with station asked (GiveUp id word) = Some (record {
   outcome = outcome_of_word station word;
 })
 ring_end_with station asked _ = None
+
+-- The end that an entry tells, by the calls that were noted before it, if it tells one.
+abbrev pub told_ends : ByCall EndKind → Entry → List Ended
+told_ends kinds e = cons_option (end_with (kind_at kinds) e) []
+
+-- The end that an entry of a host tells, by the calls that were noted before it.
+abbrev pub host_told_ends : ByCall EndKind → HostEntry → List Ended
+host_told_ends kinds e = cons_option (host_end_with (kind_at kinds) e) []
+
+-- The end that an entry of the ring gives, by the requests that were noted before it.
+abbrev pub ring_ends : Sort → ByCall (List ℕ) → RingEntry → List Ended
+ring_ends sort asked e = cons_option (ring_end_with (station_of sort) (value_of_call asked) e) []
+
+-- The end that a frame gives which was taken, by the requests that were noted.
+abbrev pub frame_end : Sort → ByCall (List ℕ) → Frame → Option Ended
+frame_end sort asked f = frame_end_with (station_of sort) (value_of_call asked) f.kind f
+
+-- What a reply comes to, by the request of its name that was noted.
+abbrev pub reply_outcome : Sort → ByCall (List ℕ) → CallId → List ℕ → Outcome
+reply_outcome sort asked id reply =
+    outcome_of_reply (station_of sort) (value_of_call asked id) reply

@@ -1,11 +1,12 @@
 -- What each entry of a station's list adds to what the laws read of it. This project's own.
-use Rattle.std.specs.Prelude.{List, [], map, Option, Some, None}
+use Rattle.std.specs.Prelude.{ℕ, List, [], map, Option, Some, None, ◌∷◌}
+use Rattle.std.specs.List.{cons_option}
 use Rattle.controller_core.specs.declared.entry.Entry.{Entry}
 use Rattle.controller_core.specs.declared.entry.Entry.TheVariants as entries
 use Rattle.host_port.specs.declared.entry.HostEntry.{HostEntry}
 use Rattle.host_port.specs.declared.entry.HostEntry.TheVariants as host_entries
-use Rattle.tied_lists.specs.Items.{Answered, Called, OverNet}
-use Rattle.joint_history.specs.Reading.{called_of}
+use Rattle.tied_lists.specs.Items.{Answered, Called, OverNet, replies_in}
+use Rattle.joint_history.specs.Reading.{answered_here, called_of}
 
 -- The calls that an entry of a controller adds.
 abbrev pub calls_in : Entry → List Called
@@ -14,19 +15,32 @@ calls_in _ = []
 
 -- The call that an entry of a host adds.
 abbrev pub host_call_in : HostEntry → Option Called
-host_call_in (host_entries.Ask id to pdu) = Some (record { id = id; sort = OverNet to pdu })
+host_call_in (host_entries.Ask id route pdu) =
+    Some (record { id = id; sort = OverNet route pdu })
 host_call_in _ = None
 
 -- The answer that an entry of a controller adds.
 abbrev pub answer_in : Entry → Option Answered
 answer_in (entries.Peer id request reply) =
-    Some (record { id = id; request = Some request; reply = Some reply })
-answer_in (entries.Off id request) =
-    Some (record { id = id; request = Some request; reply = None })
+    Some (answered_here id request (Some reply))
+answer_in (entries.Off id request) = Some (answered_here id request None)
 answer_in _ = None
 
 -- The answer that an entry of a host adds.
 abbrev pub host_answer_in : HostEntry → Option Answered
 host_answer_in (host_entries.Served id request reply) =
-    Some (record { id = id; request = Some request; reply = Some reply })
+    Some (answered_here id request (Some reply))
 host_answer_in _ = None
+
+-- The same as a list of one, or of none.
+abbrev pub host_calls_in : HostEntry → List Called
+host_calls_in e = cons_option (host_call_in e) []
+
+-- The reply of an answer, if there is one.
+abbrev pub replies_if : Option Answered → List (Option (List ℕ))
+replies_if answer = replies_in (cons_option answer [])
+
+-- A route by its first address and those behind it, or none.
+abbrev pub route_by : Option (ℕ × List ℕ) → List ℕ
+route_by None = []
+route_by (Some parts) = parts.0 ∷ parts.1

@@ -1,21 +1,20 @@
 //! The second law: what a station and its port answered is what was taken for each.
 ghost use Rattle.std.specs.Prelude.{◌≡◌, ◌++◌, [], true, false, Some, IfOk, OnOk, map};
-ghost use Rattle.std.specs.List.{cons_option};
-ghost use Rattle.tied_lists.specs.Items.{answered_of, port_answers, request_of, taken_by};
-ghost use Rattle.tied_lists.specs.Items.{taken_in, taken_of};
+ghost use Rattle.tied_lists.specs.Items.{answered_of, request_of};
 ghost use Rattle.joint_history.specs.Reading.{host_items_of, items_of};
-ghost use Rattle.joint_law.specs.Bound.{sorted, sorted_answer, taken_in_order};
+ghost use Rattle.joint_law.specs.Bound.{port_items, sorted, sorted_answer, sorted_answers};
+ghost use Rattle.joint_law.specs.Bound.{sorted_taken, taken_in_order, taken_places};
 ghost use Rattle.joint_law.specs.Readings.{answer_in, host_answer_in};
 ghost use Rattle.joint_law.specs.Picked.{AreWithin, picked};
-ghost use Rattle.joint_law.specs.Taking.{items_for};
+ghost use Rattle.joint_law.specs.Taking.{entry_taken, frame_taken};
 
 use crate::differing::Same;
 use crate::same::same_bytes;
 use controller_core::Entry;
 use host_port::HostEntry;
 use mstr_block::CallId;
-use plant_types::{Copied, Pdu};
-use ring_core::{CLEAR_STATISTICS, Frame, FrameKind, GET_STATISTICS, LocalOp, RingEntry, is_stats};
+use plant_types::{Copied, Pdu, Route};
+use ring_core::{CLEAR_STATISTICS, Frame, FrameKind, GET_STATISTICS, LocalOp, RingEntry};
 use std::alloc::{AllocError, Global};
 use std::marker::Model;
 
@@ -24,6 +23,8 @@ use std::marker::Model;
 pub(crate) struct Served {
     statistics: bool,
     id: CallId,
+    /// The addresses behind the station, to which the request was still to go.
+    rest: Route,
     request: Option<Pdu>,
 }
 
@@ -32,34 +33,54 @@ impl Model for Served {
 
     ghost Value = { Sorted };
 
-    ghost view = { λ s. record { statistics = s.statistics; item = (s.id, s.request) } };
+    ghost view = { λ s. record {
+      statistics = s.statistics;
+      item = record { id = s.id; rest = s.rest; request = s.request };
+    } };
 }
 
 impl Same for Served {
     fn is_same(&self, other: &Self) -> bool {
         self.statistics == other.statistics
             && self.id == other.id
+            && self.rest.addresses() == other.rest.addresses()
             && same_bytes(&self.request, &other.request)
     }
 }
 
-fn serving(alloc: Global, statistics: bool, id: CallId, request: &Pdu) -> Result<Served, AllocError>
-    ensures { IfOk result (λ made. made ≡ sorted statistics (id, Some request.now)) }
+fn serving(
+    alloc: Global,
+    statistics: bool,
+    id: CallId,
+    rest: Route,
+    request: &Pdu,
+) -> Result<Served, AllocError>
+    ensures { IfOk result (λ made. made
+        ≡ sorted statistics (record { id = id; rest = rest; request = Some request.now })) }
 {
     Ok(Served {
         statistics,
         id,
+        rest,
         request: Some(request.copied(alloc)?),
     })
 }
 
+/// A request that a controller or a host answered: it goes no further.
+fn served_here(alloc: Global, id: CallId, request: &Pdu) -> Result<Served, AllocError>
+    ensures { IfOk result (λ made. made
+        ≡ sorted false (record { id = id; rest = []; request = Some request.now })) }
+{
+    serving(alloc, false, id, Route::of(&[]), request)
+}
+
 fn add_answer(alloc: Global, list: &mut Vec<Served>, entry: &Entry) -> Result<(), AllocError>
-    ensures { OnOk result (list.new.items
-        ≡ list.old.items ++ map (sorted_answer false) (cons_option (answer_in entry.now) [])) }
+    ensures { OnOk result
+        (list.new.items ≡ list.old.items ++ sorted_answers false (answer_in entry.now)) }
 {
     match entry {
         Entry::Peer { id, request, .. } | Entry::Off { id, request } => {
-            list.push(serving(alloc, false, *id, request)?)?;
+            list.push(served_here(alloc, *id, request)?)?;
             Ok(())
         }
         _ => Ok(()),
@@ -83,12 +104,12 @@ fn add_host_answer(
     list: &mut Vec<Served>,
     entry: &HostEntry,
 ) -> Result<(), AllocError>
-    ensures { OnOk result (list.new.items ≡ list.old.items
-        ++ map (sorted_answer false) (cons_option (host_answer_in entry.now) [])) }
+    ensures { OnOk result
+        (list.new.items ≡ list.old.items ++ sorted_answers false (host_answer_in entry.now)) }
 {
     match entry {
         HostEntry::Served { id, request, .. } => {
-            list.push(serving(alloc, false, *id, request)?)?;
+            list.push(served_here(alloc, *id, request)?)?;
             Ok(())
         }
         _ => Ok(()),
@@ -123,8 +144,8 @@ fn add_port_answer(
     list: &mut Vec<Served>,
     entry: &RingEntry,
 ) -> Result<(), AllocError>
-    ensures { OnOk result (list.new.items ≡ list.old.items
-        ++ map (sorted_answer true) (cons_option (answered_of entry.now) [])) }
+    ensures { OnOk result
+        (list.new.items ≡ list.old.items ++ sorted_answers true (answered_of entry.now)) }
 {
     let RingEntry::Local { node, id, op, .. } = entry else {
         return Ok(());
@@ -136,6 +157,7 @@ fn add_port_answer(
     list.push(Served {
         statistics: true,
         id: *id,
+        rest: Route::of(&[]),
         request,
     })?;
     Ok(())
@@ -149,8 +171,8 @@ pub(crate) fn add_port_answers(
     places: &[usize],
 ) -> Result<(), AllocError>
     requires { AreWithin ring.now places.now }
-    ensures { OnOk result (list.new.items ≡ list.old.items
-        ++ map (sorted_answer true) (port_answers (picked ring.now places.now))) }
+    ensures { OnOk result
+        (list.new.items ≡ list.old.items ++ port_items (picked ring.now places.now)) }
 {
     for place in places {
         add_port_answer(alloc, list, &ring[*place])?;
@@ -164,17 +186,17 @@ fn add_taken_frame(
     list: &mut Vec<Served>,
     frame: &Frame,
 ) -> Result<(), AllocError>
-    ensures { OnOk result (list.new.items ≡ list.old.items
-        ++ map (sorted statistics) (items_for statistics
-        (cons_option (taken_in frame.now.kind frame.now) []))) }
+    ensures { OnOk result
+        (list.new.items ≡ list.old.items ++ sorted_taken statistics (frame_taken frame.now)) }
 {
     if let FrameKind::Reply = frame.kind {
         return Ok(());
     }
-    if is_stats(&frame.pdu) != statistics {
+    if frame.is_for_stats() != statistics {
         return Ok(());
     }
-    list.push(serving(alloc, statistics, frame.id, &frame.pdu)?)?;
+    let made = serving(alloc, statistics, frame.id, frame.rest, &frame.pdu)?;
+    list.push(made)?;
     Ok(())
 }
 
@@ -184,9 +206,8 @@ fn add_taken(
     list: &mut Vec<Served>,
     entry: &RingEntry,
 ) -> Result<(), AllocError>
-    ensures { OnOk result (list.new.items ≡ list.old.items
-        ++ map (sorted statistics)
-        (items_for statistics (cons_option (taken_of entry.now) []))) }
+    ensures { OnOk result
+        (list.new.items ≡ list.old.items ++ sorted_taken statistics (entry_taken entry.now)) }
 {
     match entry {
         RingEntry::Take { frame, .. } => add_taken_frame(alloc, statistics, list, frame),
@@ -203,8 +224,8 @@ pub(crate) fn add_all_taken(
     places: &[usize],
 ) -> Result<(), AllocError>
     requires { AreWithin ring.now places.now }
-    ensures { OnOk result (list.new.items ≡ list.old.items ++ map (sorted statistics)
-        (items_for statistics (taken_by (picked ring.now places.now)))) }
+    ensures { OnOk result
+        (list.new.items ≡ list.old.items ++ taken_places statistics ring.now places.now) }
 {
     for place in places {
         add_taken(alloc, statistics, list, &ring[*place])?;

@@ -3,14 +3,15 @@ ghost use Rattle.std.specs.Prelude.{◌≡◌, ◌++◌, [], ◌+◌, None, IfOk
 ghost use Rattle.std.specs.List.{cons_option};
 ghost use Rattle.tied_lists.specs.Items.{asked_by, asked_of, net_ask};
 ghost use Rattle.joint_history.specs.Reading.{called_of, host_items_of, items_of};
-ghost use Rattle.joint_law.specs.Readings.{calls_in, host_call_in};
+ghost use Rattle.joint_law.specs.Readings.{calls_in, host_calls_in};
 ghost use Rattle.joint_law.specs.Picked.{AreWithin, picked};
 
 use crate::differing::Same;
+use crate::same::same_way;
 use controller_core::{Call, CallKind, Entry};
 use host_port::HostEntry;
 use mstr_block::CallId;
-use plant_types::{Copied, Pdu};
+use plant_types::{Copied, Pdu, Route};
 use ring_core::{FrameKind, RingEntry};
 use std::alloc::{AllocError, Global};
 use std::marker::Model;
@@ -19,21 +20,25 @@ use std::marker::Model;
 #[derive(Drop)]
 pub(crate) struct Asking {
     id: CallId,
-    to: u8,
+    /// The first address of its route, and those behind it; none where it has no address.
+    way: Option<(u8, Route)>,
     pdu: Pdu,
 }
 
 impl Model for Asking {
     ghost use Rattle.tied_lists.specs.Items.{Asked};
+    ghost use Rattle.joint_law.specs.Readings.{route_by};
 
     ghost Value = { Asked };
 
-    ghost view = { λ a. record { id = a.id; to = a.to; pdu = a.pdu } };
+    ghost view = { λ a. record { id = a.id; route = route_by a.way; pdu = a.pdu } };
 }
 
 impl Same for Asking {
     fn is_same(&self, other: &Self) -> bool {
-        self.id == other.id && self.to == other.to && self.pdu.bytes() == other.pdu.bytes()
+        self.id == other.id
+            && same_way(&self.way, &other.way)
+            && self.pdu.bytes() == other.pdu.bytes()
     }
 }
 
@@ -50,7 +55,7 @@ fn add_posted(alloc: Global, list: &mut Vec<Asking>, entry: &RingEntry) -> Resul
     let pdu = frame.pdu.copied(alloc)?;
     list.push(Asking {
         id: frame.id,
-        to: frame.to,
+        way: Some((frame.to, frame.rest)),
         pdu,
     })?;
     Ok(())
@@ -72,18 +77,24 @@ pub(crate) fn asked(
     Ok(list)
 }
 
+/// What a call asks by a route.
+fn ask_along(alloc: Global, id: CallId, route: Route, pdu: &Pdu) -> Result<Asking, AllocError>
+    ensures { IfOk result (λ made. made ≡ record { id = id; route = route; pdu = pdu.now }) }
+{
+    Ok(Asking {
+        id,
+        way: route.split_first(),
+        pdu: pdu.copied(alloc)?,
+    })
+}
+
 fn add_call(alloc: Global, list: &mut Vec<Asking>, call: &Call) -> Result<(), AllocError>
     ensures { OnOk result (list.new.items
         ≡ list.old.items ++ cons_option (net_ask (called_of call.now)) []) }
 {
     match &call.kind {
-        CallKind::Net { to, pdu } => {
-            let pdu = pdu.copied(alloc)?;
-            list.push(Asking {
-                id: call.id,
-                to: *to,
-                pdu,
-            })?;
+        CallKind::Net { route, pdu } => {
+            list.push(ask_along(alloc, call.id, *route, pdu)?)?;
             Ok(())
         }
         CallKind::Local(_) => Ok(()),
@@ -128,16 +139,11 @@ fn add_host_entry(
     entry: &HostEntry,
 ) -> Result<(), AllocError>
     ensures { OnOk result (list.new.items
-        ≡ list.old.items ++ filter_map net_ask (cons_option (host_call_in entry.now) [])) }
+        ≡ list.old.items ++ filter_map net_ask (host_calls_in entry.now)) }
 {
     match entry {
-        HostEntry::Ask { id, to, pdu } => {
-            let pdu = pdu.copied(alloc)?;
-            list.push(Asking {
-                id: *id,
-                to: *to,
-                pdu,
-            })?;
+        HostEntry::Ask { id, route, pdu } => {
+            list.push(ask_along(alloc, *id, *route, pdu)?)?;
             Ok(())
         }
         _ => Ok(()),

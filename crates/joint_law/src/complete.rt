@@ -4,9 +4,9 @@ ghost use Rattle.plant_types.specs.Plans.{IsPlant};
 ghost use Rattle.ring_core.specs.Bare.{IsBehind, bare_net};
 ghost use Rattle.ring_core.specs.Legal.{IsMember};
 ghost use Rattle.tied_lists.specs.Waits.{status_at};
-ghost use Rattle.joint_law.specs.AllComplete.{AreControllersDone, AreHostNodesDone};
-ghost use Rattle.joint_law.specs.AllComplete.{IsControllerDone};
-ghost use Rattle.joint_law.specs.AllComplete.{IsFirstIncomplete, IsFollowed, IsHostNodeDone};
+ghost use Rattle.joint_law.specs.AllComplete.{AreControllersDoneOn, AreHostNodesDoneOn};
+ghost use Rattle.joint_law.specs.AllComplete.{IsControllerDoneOn, IsHostNodeDoneOn};
+ghost use Rattle.joint_law.specs.AllComplete.{IsFirstIncomplete, IsFollowed};
 ghost use Rattle.joint_law.specs.AllComplete.{IsNodeDone, IsOutBy, IsStandingOf, entries_on};
 ghost use Rattle.joint_law.specs.AllComplete.{powered_from};
 ghost use Rattle.joint_law.specs.Spots.{HasSections, IsCompleteAt};
@@ -101,8 +101,8 @@ fn controller_is_done(
     is_done: bool,
 ) -> Result<bool, AllocError>
     requires { AreWithin on.ring.now on.places.now }
-    ensures { IfOk result (λ done. IsTrue done ↔ (log.now.node ≡ on.entry.node
-        → IsControllerDone scans on.entry.status log.now is_done (entries_on on.entry))) }
+    ensures { IfOk result
+        (λ done. IsTrue done ↔ IsControllerDoneOn scans on.entry log.now is_done) }
 {
     if log.node != on.node {
         return Ok(true);
@@ -124,9 +124,8 @@ fn controllers_are_done(
 ) -> Result<bool, AllocError>
     requires places { AreWithin on.ring.now on.places.now }
     requires done { length done.now ≡ length logs.now }
-    ensures { IfOk result (λ all. IsTrue all
-        ↔ AreControllersDone scans logs.now done.now on.entry.node on.entry.status
-        (entries_on on.entry)) }
+    ensures { IfOk result
+        (λ all. IsTrue all ↔ AreControllersDoneOn scans on.entry logs.now done.now) }
 {
     for at in 0..logs.len() {
         if !controller_is_done(alloc, on, scans, &logs[at], done[at])? {
@@ -145,8 +144,8 @@ fn host_is_done(
     is_done: bool,
 ) -> Result<bool, AllocError>
     requires { AreWithin on.ring.now on.places.now }
-    ensures { IfOk result (λ done. IsTrue done ↔ (log.now.node ≡ on.entry.node
-        → IsHostNodeDone plan.now on.entry.status log.now is_done (entries_on on.entry))) }
+    ensures { IfOk result
+        (λ done. IsTrue done ↔ IsHostNodeDoneOn plan.now on.entry log.now is_done) }
 {
     if log.node != on.node {
         return Ok(true);
@@ -171,9 +170,8 @@ fn hosts_are_done(
     requires places { AreWithin on.ring.now on.places.now }
     requires plans { length plans.now ≡ length logs.now }
     requires done { length done.now ≡ length logs.now }
-    ensures { IfOk result (λ all. IsTrue all
-        ↔ AreHostNodesDone plans.now logs.now done.now on.entry.node on.entry.status
-        (entries_on on.entry)) }
+    ensures { IfOk result
+        (λ all. IsTrue all ↔ AreHostNodesDoneOn plans.now on.entry logs.now done.now) }
 {
     for at in 0..logs.len() {
         if !host_is_done(alloc, on, &plans[at], &logs[at], done[at])? {

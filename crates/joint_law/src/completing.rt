@@ -1,20 +1,20 @@
 //! Whether a node was done on the ring.
-ghost use Rattle.std.specs.Prelude.{◌≡◌, ◌↔◌, ◌≤◌, ℕ, List, Option, [], true, IfOk, IsTrue};
-ghost use Rattle.std.specs.List.{cons_option, list_any};
+ghost use Rattle.std.specs.Prelude.{◌≡◌, ◌↔◌, ◌≤◌, ℕ, List, Option, [], IfOk, IsTrue};
+ghost use Rattle.std.specs.List.{list_any};
 ghost use Rattle.joint_history.specs.Complete.{IsOfDone};
-ghost use Rattle.tied_lists.specs.Items.{first_reply, last_from, latest_down, rest_of, taken_in};
-ghost use Rattle.tied_lists.specs.Items.{taken_of};
-ghost use Rattle.joint_law.specs.Completing.{EachAllows, HostAllows, HostFits, IsInHold};
+ghost use Rattle.tied_lists.specs.Items.{first_reply, last_from, rest_of};
+ghost use Rattle.joint_law.specs.Completing.{EachAllows, HasNoticed, HostAllows, HostFits};
+ghost use Rattle.joint_law.specs.Completing.{IsInHold};
 ghost use Rattle.joint_law.specs.Completing.{IsShort, NodeAllows, NodeFits, is_ended};
 ghost use Rattle.joint_law.specs.Completing.{passed_next, posted_next, progress_next};
 ghost use Rattle.joint_law.specs.Completing.{progress_of, taken_next};
 ghost use Rattle.joint_law.specs.Picked.{AreWithin, picked};
-ghost use Rattle.joint_law.specs.Taking.{due_count, left_plain, one_due};
+ghost use Rattle.joint_law.specs.Taking.{due_count, entry_taken, frame_taken, left_plain, one_due};
 
 use crate::failing::downs;
 use crate::replying::Replies;
 use plant_types::HostPlan;
-use ring_core::{Frame, FrameKind, LeaveCause, RingEntry, is_stats};
+use ring_core::{Frame, FrameKind, LeaveCause, RingEntry};
 use std::alloc::{AllocError, Global};
 use std::collections::VecDeque;
 
@@ -66,15 +66,13 @@ fn due_next(answers: &mut Replies) -> u64
 
 /// How many Replies a Request makes due: one where it is for the port.
 fn due_for(answers: &mut Replies, frame: &Frame) -> u64
-    ensures due { result
-        ≡ due_count (cons_option (taken_in frame.now.kind frame.now) []) answers.old.items }
-    ensures left { answers.new.items
-        ≡ left_plain (cons_option (taken_in frame.now.kind frame.now) []) answers.old.items }
+    ensures due { result ≡ due_count (frame_taken frame.now) answers.old.items }
+    ensures left { answers.new.items ≡ left_plain (frame_taken frame.now) answers.old.items }
 {
     match frame.kind {
         FrameKind::Reply => 0,
         FrameKind::Request => {
-            if is_stats(&frame.pdu) {
+            if frame.is_for_stats() {
                 1
             } else {
                 due_next(answers)
@@ -106,7 +104,7 @@ fn next(progress: Progress, answers: &mut Replies, entry: &RingEntry) -> Progres
     requires { IsShort progress }
     ensures next { result ≡ progress_next answers.old.items progress entry.now }
     ensures left { answers.new.items
-        ≡ left_plain (cons_option (taken_of entry.now) []) answers.old.items }
+        ≡ left_plain (entry_taken entry.now) answers.old.items }
 {
     match entry {
         RingEntry::Post { frame, .. } => posted(progress, frame.kind),
@@ -203,9 +201,8 @@ pub(crate) fn notices(
     fails: usize,
 ) -> Result<bool, AllocError>
     requires { AreWithin ring.now places.now }
-    ensures { IfOk result (λ all. IsTrue all
-        ↔ (list_any is_ended (picked ring.now places.now) ≡ true
-        → fails ≡ latest_down (picked ring.now places.now))) }
+    ensures { IfOk result
+        (λ all. IsTrue all ↔ HasNoticed fails (picked ring.now places.now)) }
 {
     if !has_ended(ring, places) {
         return Ok(true);

@@ -6,7 +6,7 @@ ghost use Rattle.joint_history.specs.Reading.{called_of, host_items_of, items_of
 ghost use Rattle.joint_law.specs.Ends.{CountsEnds, EndsOnce, NotesEnd, end_id_in, host_end_id_in};
 ghost use Rattle.joint_law.specs.Ends.{id_of_call, id_of_end};
 ghost use Rattle.joint_law.specs.Named.{value_of_call};
-ghost use Rattle.joint_law.specs.Readings.{calls_in, host_call_in};
+ghost use Rattle.joint_law.specs.Readings.{calls_in, host_calls_in};
 
 use crate::by_call::ByCall;
 use controller_core::{Call, Entry};
@@ -115,7 +115,7 @@ pub(crate) fn ends_each_call(alloc: Global, entries: &[Entry]) -> Result<bool, A
 
 fn add_host_call_id(list: &mut Vec<CallId>, entry: &HostEntry) -> Result<(), AllocError>
     ensures { OnOk result (list.new.items
-        ≡ list.old.items ++ map id_of_call (cons_option (host_call_in entry.now) [])) }
+        ≡ list.old.items ++ map id_of_call (host_calls_in entry.now)) }
 {
     if let HostEntry::Ask { id, .. } = entry {
         list.push(*id)?;

@@ -1,16 +1,16 @@
 //! The fourth law: what a station's calls ended with is what came of them on the ring.
 ghost use Rattle.std.specs.Prelude.{◌≡◌, ◌↔◌, ◌++◌, [], IfOk, IsTrue, OnOk, map};
-ghost use Rattle.std.specs.List.{cons_option};
 ghost use Rattle.std.specs.Option.{option_map};
 ghost use Rattle.tied_lists.specs.Items.{asked_of, ended_at_home, ended_by, kind_of_sort};
-ghost use Rattle.tied_lists.specs.Items.{outcome_of_reply, outcome_of_word};
+ghost use Rattle.tied_lists.specs.Items.{outcome_of_word};
 ghost use Rattle.joint_history.specs.Reading.{called_of, host_items_of, items_of, outcome_of};
 ghost use Rattle.joint_history.specs.Reading.{sort_of};
-ghost use Rattle.joint_law.specs.Endings.{NotesAsk, NotesCalls, NotesKind, end_with};
-ghost use Rattle.joint_law.specs.Endings.{ring_end_with, frame_end_with, host_end_with, kind_at};
+ghost use Rattle.joint_law.specs.Endings.{NotesAsk, NotesCalls, NotesKind, frame_end};
+ghost use Rattle.joint_law.specs.Endings.{host_told_ends, kind_at, reply_outcome};
+ghost use Rattle.joint_law.specs.Endings.{ring_end_with, ring_ends, told_ends};
 ghost use Rattle.joint_law.specs.Kinds.{kind_as, outcome_as, station_of};
 ghost use Rattle.joint_law.specs.Named.{value_of_call};
-ghost use Rattle.joint_law.specs.Readings.{calls_in, host_call_in};
+ghost use Rattle.joint_law.specs.Readings.{calls_in, host_calls_in};
 ghost use Rattle.joint_law.specs.Picked.{AreWithin, picked};
 
 use crate::by_call::ByCall;
@@ -182,7 +182,7 @@ fn add_end(
 ) -> Result<(), AllocError>
     ensures kinds { OnOk result (NotesCalls kinds.old (calls_in entry.now) kinds.new) }
     ensures ends { OnOk result (list.new.items
-        ≡ list.old.items ++ cons_option (end_with (kind_at kinds.old) entry.now) []) }
+        ≡ list.old.items ++ told_ends kinds.old entry.now) }
 {
     match entry {
         Entry::Collect(calls) => note_calls(alloc, kinds, calls.as_slice()),
@@ -227,10 +227,9 @@ fn add_host_end(
     list: &mut Vec<Ending>,
     entry: &HostEntry,
 ) -> Result<(), AllocError>
-    ensures kinds { OnOk result
-        (NotesCalls kinds.old (cons_option (host_call_in entry.now) []) kinds.new) }
+    ensures kinds { OnOk result (NotesCalls kinds.old (host_calls_in entry.now) kinds.new) }
     ensures ends { OnOk result (list.new.items
-        ≡ list.old.items ++ cons_option (host_end_with (kind_at kinds.old) entry.now) []) }
+        ≡ list.old.items ++ host_told_ends kinds.old entry.now) }
 {
     match entry {
         HostEntry::Ask { id, .. } => note_kind(kinds, *id, EndKind::Net),
@@ -268,8 +267,8 @@ fn outcome_of_reply(
     id: CallId,
     reply: &Pdu,
 ) -> Result<Outcome, AllocError>
-    ensures { IfOk result (λ outcome. outcome_as outcome
-        ≡ outcome_of_reply (station_of sort) (value_of_call asked.now id) reply.now) }
+    ensures { IfOk result
+        (λ outcome. outcome_as outcome ≡ reply_outcome sort asked.now id reply.now) }
 {
     match sort {
         Sort::Host => Ok(Outcome::Replied(reply.copied(alloc)?)),
@@ -296,8 +295,7 @@ fn end_of_frame(
     asked: &ByCall<Pdu>,
     frame: &Frame,
 ) -> Result<Option<Ending>, AllocError>
-    ensures { IfOk result (λ end. end
-        ≡ frame_end_with (station_of sort) (value_of_call asked.now) frame.now.kind frame.now) }
+    ensures { IfOk result (λ end. end ≡ frame_end sort asked.now frame.now) }
 {
     if let FrameKind::Request = frame.kind {
         return Ok(None);
@@ -380,8 +378,8 @@ fn add_met(
     entry: &RingEntry,
 ) -> Result<(), AllocError>
     ensures asked { OnOk result (NotesAsk asked.old (asked_of entry.now) asked.new) }
-    ensures ends { OnOk result (list.new.items ≡ list.old.items
-        ++ cons_option (ring_end_with (station_of sort) (value_of_call asked.old) entry.now) []) }
+    ensures ends { OnOk result
+        (list.new.items ≡ list.old.items ++ ring_ends sort asked.old entry.now) }
 {
     if let Some(end) = end_of(alloc, sort, asked, entry)? {
         list.push(end)?;

@@ -4,10 +4,10 @@ ghost use Rattle.plant_types.specs.Plans.{IsHostPlan};
 ghost use Rattle.controller_core.specs.Controller.{IsLegal};
 ghost use Rattle.controller_core.specs.Machine.{IsRunnable};
 ghost use Rattle.host_port.specs.Legal.{IsHostHistory};
-ghost use Rattle.joint_history.specs.Complete.{ControllerIsComplete, EndsEachCall, is_scan_end};
+ghost use Rattle.joint_history.specs.Complete.{ControllerIsComplete, is_scan_end};
 ghost use Rattle.joint_history.specs.JointLaws.{fixed_of};
-ghost use Rattle.joint_history.specs.Reading.{host_items_of};
-ghost use Rattle.joint_law.specs.Courses.{FollowedTo, HasFollowed, IsControllerCourse, IsCourse};
+ghost use Rattle.joint_law.specs.Courses.{FollowedTo, HasFollowed, IsControllerCourse};
+ghost use Rattle.joint_law.specs.Courses.{IsHostCourse, IsLegalCourse};
 
 use crate::ended::{ends_each_call, host_ends_each_call};
 use controller_core::{Controller, Entry, Notes, notes_ask_no_scans};
@@ -93,8 +93,7 @@ fn follow_to_end(
 ) -> Result<Course, AllocError>
     requires history { controller.old.history ≡ [] }
     requires scans { controller.old.fixed.scans ≡ scans }
-    ensures course { IfOk result (IsCourse (IsLegal controller.old.fixed)
-        (ControllerIsComplete controller.old.fixed entries.now) entries.now) }
+    ensures course { IfOk result (IsLegalCourse controller.old.fixed entries.now) }
     ensures history { IfOk result (HasFollowed entries.now controller.new.history) }
     ensures fixed { controller.new.fixed ≡ controller.old.fixed }
 {
@@ -161,8 +160,7 @@ pub(crate) fn host_course(
     entries: &[HostEntry],
 ) -> Result<Course, AllocError>
     requires { IsHostPlan plan.now }
-    ensures { IfOk result (IsCourse (IsHostHistory plan.now)
-        (EndsEachCall (host_items_of entries.now)) entries.now) }
+    ensures { IfOk result (IsHostCourse plan.now entries.now) }
 {
     match follow_host(alloc, net, plan, entries)? {
         Some(place) => Ok(Course::Breaks(place)),

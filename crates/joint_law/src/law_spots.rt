@@ -181,3 +181,12 @@ pub(crate) fn laws_spot(
     }
     law_spot(alloc, Law::Downs, joint, own)
 }
+
+/// The first law between the lists that is broken, each over all nodes, whether each list by itself
+/// is legal or not; None exactly where all are kept.
+pub fn broken_law(alloc: Global, joint: &Joint) -> Result<Option<Spot>, AllocError>
+    ensures { IfOk result (IsLawsEnd (bounds_of joint.now)) }
+{
+    let own = OwnPlaces::of(alloc, joint.ring.as_slice())?;
+    laws_spot(alloc, joint, &own)
+}

@@ -26,5 +26,6 @@ mod verdict;
 
 pub use judging::{judge, judge_noted};
 pub use law::Law;
+pub use law_spots::broken_law;
 pub use laws::verdicts_agree;
 pub use verdict::{Judgement, Spot, Verdict};

@@ -2,13 +2,12 @@
 ghost use Rattle.std.specs.Prelude.{◌≡◌, ◌++◌, ◌∷◌, [], IfOk, OnOk};
 ghost use Rattle.modbus_pdu.specs.Bytes.{words_bytes};
 ghost use Rattle.std.specs.List.{cons_option};
-ghost use Rattle.tied_lists.specs.Items.{answered_of, due_replies, due_reply, port_answers};
-ghost use Rattle.tied_lists.specs.Items.{replied_by, replied_of, replies_in, reply_of, taken_by};
-ghost use Rattle.tied_lists.specs.Items.{taken_in, taken_of};
+ghost use Rattle.tied_lists.specs.Items.{answered_of, due_reply, port_answers};
+ghost use Rattle.tied_lists.specs.Items.{replied_by, replied_of, replies_in, reply_of};
 ghost use Rattle.joint_history.specs.Reading.{host_items_of, items_of};
-ghost use Rattle.joint_law.specs.Readings.{answer_in, host_answer_in};
+ghost use Rattle.joint_law.specs.Readings.{answer_in, host_answer_in, replies_if};
 ghost use Rattle.joint_law.specs.Picked.{AreWithin, picked};
-ghost use Rattle.joint_law.specs.Taking.{DueNext, left_plain, left_stats};
+ghost use Rattle.joint_law.specs.Taking.{DueNext, due_at, due_behind, entry_taken, frame_taken};
 
 use crate::differing::Same;
 use crate::same::same_bytes;
@@ -16,7 +15,7 @@ use controller_core::Entry;
 use host_port::HostEntry;
 use mstr_block::{CallId, MstrResult};
 use plant_types::{Copied, Pdu};
-use ring_core::{Frame, FrameKind, RingEntry, is_stats};
+use ring_core::{Frame, FrameKind, RingEntry};
 use std::alloc::{AllocError, Global};
 use std::collections::VecDeque;
 use std::marker::Model;
@@ -91,7 +90,7 @@ fn push(list: &mut Replies, reply: Option<Pdu>) -> Result<(), AllocError>
 
 fn add_answer(alloc: Global, list: &mut Replies, entry: &Entry) -> Result<(), AllocError>
     ensures { OnOk result (list.new.items
-        ≡ list.old.items ++ replies_in (cons_option (answer_in entry.now) [])) }
+        ≡ list.old.items ++ replies_if (answer_in entry.now)) }
 {
     match entry {
         Entry::Peer { reply, .. } => push(list, Some(reply.copied(alloc)?)),
@@ -113,7 +112,7 @@ pub(crate) fn answers(alloc: Global, entries: &[Entry]) -> Result<Replies, Alloc
 
 fn add_host_answer(alloc: Global, list: &mut Replies, entry: &HostEntry) -> Result<(), AllocError>
     ensures { OnOk result (list.new.items
-        ≡ list.old.items ++ replies_in (cons_option (host_answer_in entry.now) [])) }
+        ≡ list.old.items ++ replies_if (host_answer_in entry.now)) }
 {
     match entry {
         HostEntry::Served { reply, .. } => push(list, Some(reply.copied(alloc)?)),
@@ -160,7 +159,7 @@ fn reply_of(alloc: Global, outcome: &MstrResult) -> Result<Pdu, AllocError>
 
 fn add_port_answer(alloc: Global, list: &mut Replies, entry: &RingEntry) -> Result<(), AllocError>
     ensures { OnOk result (list.new.items
-        ≡ list.old.items ++ replies_in (cons_option (answered_of entry.now) [])) }
+        ≡ list.old.items ++ replies_if (answered_of entry.now)) }
 {
     let RingEntry::Local {
         node,
@@ -215,14 +214,14 @@ fn add_due_to(
     locals: &mut Replies,
     frame: &Frame,
 ) -> Result<(), AllocError>
-    ensures { OnOk result (DueNext (cons_option (taken_in frame.now.kind frame.now) [])
+    ensures { OnOk result (DueNext (frame_taken frame.now)
         list.old.items peers.old.items locals.old.items
         list.new.items peers.new.items locals.new.items) }
 {
     if let FrameKind::Reply = frame.kind {
         return Ok(());
     }
-    let answer = if is_stats(&frame.pdu) {
+    let answer = if frame.is_for_stats() {
         locals.pop_front()
     } else {
         peers.pop_front()
@@ -236,7 +235,7 @@ fn add_due(
     locals: &mut Replies,
     entry: &RingEntry,
 ) -> Result<(), AllocError>
-    ensures { OnOk result (DueNext (cons_option (taken_of entry.now) [])
+    ensures { OnOk result (DueNext (entry_taken entry.now)
         list.old.items peers.old.items locals.old.items
         list.new.items peers.new.items locals.new.items) }
 {
@@ -255,8 +254,8 @@ fn due_of(
     mut locals: Replies,
 ) -> Result<Vec<Replying>, AllocError>
     requires { AreWithin ring.now places.now }
-    ensures { IfOk result (λ list. list.items
-        ≡ due_replies (taken_by (picked ring.now places.now)) peers.items locals.items) }
+    ensures { IfOk result
+        (λ list. list.items ≡ due_at ring.now places.now peers.items locals.items) }
 {
     let mut list = Vec::new(alloc);
     for place in places {
@@ -273,9 +272,8 @@ pub(crate) fn due(
     peers: Replies,
 ) -> Result<Vec<Replying>, AllocError>
     requires { AreWithin ring.now places.now }
-    ensures { IfOk result (λ list. list.items
-        ≡ due_replies (taken_by (picked ring.now places.now)) peers.items
-        (replies_in (port_answers (picked ring.now places.now)))) }
+    ensures { IfOk result
+        (λ list. list.items ≡ due_behind peers.items (picked ring.now places.now)) }
 {
     let locals = port_answers(alloc, ring, places)?;
     due_of(alloc, ring, places, peers, locals)

@@ -1,11 +1,10 @@
 //! The laws at one station.
-ghost use Rattle.std.specs.Prelude.{◌≡◌, ◌++◌, [], true, map, IfOk};
-ghost use Rattle.tied_lists.specs.Items.{AController, AHost, asked_by, downs_by, due_replies};
-ghost use Rattle.tied_lists.specs.Items.{ended_by, port_answers, replied_by, replies_in, taken_by};
+ghost use Rattle.std.specs.Prelude.{[], IfOk};
+ghost use Rattle.tied_lists.specs.Items.{AController, AHost, asked_by, downs_by};
+ghost use Rattle.tied_lists.specs.Items.{ended_by};
 ghost use Rattle.joint_history.specs.Reading.{host_items_of, items_of};
-ghost use Rattle.joint_law.specs.Bound.{sorted_answer, taken_in_order};
 ghost use Rattle.joint_law.specs.Failing.{GoUpTo};
-ghost use Rattle.joint_law.specs.Comparing.{Compared, IsLawEnd};
+ghost use Rattle.joint_law.specs.Comparing.{Compared, ComparesAnswers, ComparesReplies, IsLawEnd};
 ghost use Rattle.joint_law.specs.Kinds.{station_of};
 ghost use Rattle.joint_law.specs.Picked.{AreWithin, picked};
 
@@ -41,9 +40,7 @@ fn compare_answers(
     mut answers: Vec<Served>,
 ) -> Result<Option<usize>, AllocError>
     requires { AreWithin ring.now places.now }
-    ensures { IfOk result (Compared
-        (answers.items ++ map (sorted_answer true) (port_answers (picked ring.now places.now)))
-        (taken_in_order (picked ring.now places.now))) }
+    ensures { IfOk result (ComparesAnswers answers.items (picked ring.now places.now)) }
 {
     add_port_answers(alloc, &mut answers, ring, places)?;
     let taken = taken_in_order(alloc, ring, places)?;
@@ -57,9 +54,7 @@ fn compare_replies(
     peers: Replies,
 ) -> Result<Option<usize>, AllocError>
     requires { AreWithin ring.now places.now }
-    ensures { IfOk result (Compared (replied_by (picked ring.now places.now))
-        (due_replies (taken_by (picked ring.now places.now)) peers.items
-        (replies_in (port_answers (picked ring.now places.now))))) }
+    ensures { IfOk result (ComparesReplies peers.items (picked ring.now places.now)) }
 {
     let posted = replied(alloc, ring, places)?;
     let due = due(alloc, ring, places, peers)?;

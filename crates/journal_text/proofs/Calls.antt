@@ -1,16 +1,15 @@
 -- Operations, results and calls are read as they are written.
 use Rattle.std.proofs.Common.{◌≡◌, ◌≢◌, ℕ, true, false, cond, inl, inr, List, [], ◌∷◌, ◌++◌, length}
 use Rattle.std.proofs.Common.{Some, None, All, map, refl, sym, ap, subst, ◌∙◌, arith, append_assoc}
-use Rattle.std.specs.Prelude.{codes, ◌==◌, slice_index}
+use Rattle.std.specs.Prelude.{codes, slice_index}
 use Rattle.std.specs.Fmt.{decimal}
-use Rattle.std.specs.List.{flat_map, join_with_byte, slice_split, AllByRecursion}
+use Rattle.std.specs.List.{flat_map, join_with_byte, AllByRecursion}
 use Rattle.std.specs.Str.{bytes_eq}
 use Rattle.std.proofs.lemmas.Bool.{and_parts}
 use Rattle.std.proofs.lemmas.Fmt.{decimal_nonempty}
 use Rattle.std.proofs.lemmas.List.{append-nil}
-use Rattle.std.proofs.lemmas.List.Splits.{join_with_byte-slice_split, length-slice_split}
 use Rattle.std.proofs.lemmas.List.Concat.{flat_map-cons}
-use Rattle.std.proofs.lemmas.List.Elements.{All-nil, All-cons, All-head, All-tail}
+use Rattle.std.proofs.lemmas.List.Elements.{All-head}
 use Rattle.plant_types.specs.Numerals.{is_digit}
 use Rattle.mstr_block.specs.declared.call.MstrResult.{MstrResult}
 use Rattle.mstr_block.specs.declared.call.MstrResult.TheVariants.{Good, Bad}
@@ -19,22 +18,26 @@ use Rattle.ring_core.specs.declared.entry.LocalOp.TheVariants as ops
 use Rattle.controller_core.specs.declared.call.Call.{Call}
 use Rattle.controller_core.specs.declared.call.CallKind.{CallKind}
 use Rattle.controller_core.specs.declared.call.CallKind.TheVariants.{Net, Local}
-use Rattle.journal_text.specs.Fields.{hex_bytes, id_text, op_text, call_result_text}
+use Rattle.journal_text.specs.Fields.{behind_point, hex_bytes, id_text, op_text, call_result_text}
+use Rattle.journal_text.specs.Fields.{route_text}
 use Rattle.journal_text.specs.Lines.{kind_text, call_text}
 use Rattle.journal_text.specs.Journal.{IsOwnOp, IsPlainKind, IsPlainCall}
 use Rattle.journal_text.specs.Sizes.{IsId, IsPdu, IsSmall, IsWord, FitsOp, FitsResult, FitsKind}
 use Rattle.journal_text.specs.Sizes.{FitsCall}
-use Rattle.journal_text.specs.Reading.{◌>>=◌, behind, read_pair, read_small, read_word, read_pdu}
+use Rattle.journal_text.specs.Reading.{behind, read_pair, read_route, read_small, read_word}
+use Rattle.journal_text.specs.Reading.{read_id, read_pdu}
 use Rattle.journal_text.specs.ReadLines.{own_op_forms, read_bare_op, read_own_op, read_op}
 use Rattle.journal_text.specs.ReadLines.{result_forms, read_result, read_net_kind, read_local_kind}
-use Rattle.journal_text.specs.ReadLines.{read_kind, call_from, read_call, read_each, read_calls}
-use Rattle.journal_text.specs.ReadLines.{read_served, read_asked, read_named}
-use Rattle.journal_text.proofs.Ranges.{chosen, lies, all_lie, all-append, all-flat_map, outside}
+use Rattle.journal_text.specs.ReadLines.{read_kind, call_from, read_call, read_calls, read_onward}
+use Rattle.journal_text.specs.ReadLines.{read_served, read_asked, read_named, read_posted}
+use Rattle.journal_text.proofs.Ranges.{chosen, lies, all_lie}
 use Rattle.journal_text.proofs.Cuts.{some_is, bind_some, none_some, text_is}
 use Rattle.journal_text.proofs.ReadLaws.{IsField, IsForm, two_fields, made_field, lie_in}
 use Rattle.journal_text.proofs.ReadLaws.{form_of_field, first_takes}
 use Rattle.journal_text.proofs.Numbers.{small_field, word_number_field, id_field}
 use Rattle.journal_text.proofs.Digits.{pdu_field, words_field, word_field, block_field}
+use Rattle.journal_text.proofs.Parts.{IsOnward, IsSomeRoute, IsWay, joined_parts, onward_body}
+use Rattle.journal_text.proofs.Parts.{onward_field, parts_field, route_field, way_field, way_text}
 
 -- what is asked of the own port for the own station
 abbrev IsOwn : LocalOp → Type 0
@@ -168,12 +171,13 @@ result_field = record {
 abbrev IsKindOf : CallKind → Type 0
 IsKindOf kind = FitsKind kind × IsPlainKind kind
 
-net_parts : IsField (read_pair read_small read_pdu 58) (λ p. decimal p.0 ++ 58 ∷ hex_bytes p.1)
-    (λ p. IsSmall p.0 × IsPdu p.1) 48 102
-net_parts = two_fields 58 48 102 small_field pdu_field refl refl refl refl
+net_parts : IsField (read_pair read_route read_pdu 58) (λ p. route_text p.0 ++ 58 ∷ hex_bytes p.1)
+    (λ p. IsSomeRoute p.0 × IsPdu p.1) 46 102
+net_parts = two_fields 58 46 102 route_field pdu_field refl refl refl refl
 
-net_text : (to : ℕ) (pdu : List ℕ) → decimal to ++ 58 ∷ hex_bytes pdu ≡ kind_text (Net to pdu)
-net_text to pdu = simp append_assoc
+net_text : (route pdu : List ℕ)
+    → route_text route ++ 58 ∷ hex_bytes pdu ≡ kind_text (Net route pdu)
+net_text route pdu = simp append_assoc
 
 kind_takes : (text : List ℕ) (kind : CallKind) → read_kind text ≡ Some kind
     → (text ≡ kind_text kind) × IsKindOf kind
@@ -182,11 +186,12 @@ kind_takes text kind e =
     elim (chosen (is_digit (slice_index text 0)) (read_net_kind text) (read_local_kind text)
     (Some kind) e) [
       | inl net ↦
-          let p = bind_some (read_pair read_small read_pdu 58 text)
+          let p = bind_some (read_pair read_route read_pdu 58 text)
           (λ parts. Some (Net parts.0 parts.1)) kind net.1 in
           let t = net_parts.takes text p.0 p.1 in
           subst (λ (k : CallKind). (text ≡ kind_text k) × IsKindOf k)
-          (some_is (Net p.0.0 p.0.1) kind p.2) (t.0 ∙ net_text p.0.0 p.0.1, (t.1, tt))
+          (some_is (Net p.0.0 p.0.1) kind p.2)
+          (t.0 ∙ net_text p.0.0 p.0.1, ((t.1.0.1, t.1.1), t.1.0.0))
       | inr own ↦
           let p = bind_some (read_own_op text) (λ op. Some (Local op)) kind own.1 in
           let t = own_op_takes text p.0 p.1 in
@@ -203,6 +208,18 @@ some_digits : (n : ℕ) → IsSmall n → decimal n ≢ []
 some_digits n less none =
     let some = decimal_nonempty n (omega arith) in let size = ap length none in absurd (omega arith)
 
+route_first : (route rest : List ℕ) → route ≢ [] → All IsSmall route
+    → is_digit (slice_index (route_text route ++ rest) 0) ≡ true
+route_first [] rest some each = absurd (some refl)
+route_first (to ∷ route) rest some each =
+    let less = All-head IsSmall to route each in
+    let behind = flat_map behind_point route in
+    let text : route_text (to ∷ route) ++ rest ≡ decimal to ++ (behind ++ rest) =
+    ap (λ (t : List ℕ). t ++ rest) (joined_parts decimal 46 to route)
+    ∙ append_assoc (decimal to) behind rest in
+    subst (λ (t : List ℕ). is_digit (slice_index t 0) ≡ true) (sym text)
+    (digit_first (decimal to) (behind ++ rest) (small_field.lie to less) (some_digits to less))
+
 op_first : (op : LocalOp) → is_digit (slice_index (op_text op) 0) ≡ false
 op_first ops.GetStats = refl
 op_first ops.ClearStats = refl
@@ -214,16 +231,16 @@ op_first ops.RemoteClear = refl
 
 kind_again : (kind : CallKind) → IsKindOf kind → read_kind (kind_text kind) ≡ Some kind
 unfolding read_kind
-kind_again (Net to pdu) is =
-    let first = digit_first (decimal to) (58 ∷ hex_bytes pdu) (small_field.lie to is.0.0)
-    (some_digits to is.0.0) in
-    subst (λ (t : List ℕ). read_kind t ≡ Some (Net to pdu)) (net_text to pdu)
-    (rw (first, net_parts.again (to, pdu) is.0) refl)
+kind_again (Net route pdu) is =
+    let first = route_first route (58 ∷ hex_bytes pdu) is.1 is.0.0.each in
+    subst (λ (t : List ℕ). read_kind t ≡ Some (Net route pdu)) (net_text route pdu)
+    (rw (first, net_parts.again (route, pdu) ((is.1, is.0.0), is.0.1)) refl)
 kind_again (Local op) is = rw (op_first op, own_op_again op is) refl
 
 kind_lie : (kind : CallKind) → IsKindOf kind → all_lie 45 102 (kind_text kind) ≡ true
-kind_lie (Net to pdu) is = subst (λ (t : List ℕ). all_lie 45 102 t ≡ true) (net_text to pdu)
-    (lie_in net_parts 45 102 refl (to, pdu) is.0)
+kind_lie (Net route pdu) is =
+    subst (λ (t : List ℕ). all_lie 45 102 t ≡ true) (net_text route pdu)
+    (lie_in net_parts 45 102 refl (route, pdu) ((is.1, is.0.0), is.0.1))
 kind_lie (Local op) is = op_lie op is.0
 
 kind_field : IsField read_kind kind_text IsKindOf 45 102
@@ -244,117 +261,26 @@ call_field =
     (λ parts fits. ((fits.0, fits.1.0), fits.1.1)) (λ call is. (is.0.0, (is.0.1, is.1)))
     (λ call. refl)
 
--- a blank that is not there parts nothing
-split_none : (text : List ℕ) → all_lie 45 102 text ≡ true
-    → slice_split (λ byte. byte == 32) text ≡ text ∷ []
-split_none [] lie = refl
-split_none (b ∷ text) lie =
-    let (here, more) = and_parts (lies 45 102 b) (all_lie 45 102 text) lie in
-    rw (outside 45 102 32 b (inl (omega arith)) here, split_none text more) refl
-
-split_blank : (text rest : List ℕ) → all_lie 45 102 text ≡ true
-    → slice_split (λ byte. byte == 32) (text ++ 32 ∷ rest)
-    ≡ text ∷ slice_split (λ byte. byte == 32) rest
-split_blank [] rest lie = refl
-split_blank (b ∷ text) rest lie =
-    let (here, more) = and_parts (lies 45 102 b) (all_lie 45 102 text) lie in
-    rw (outside 45 102 32 b (inl (omega arith)) here, split_blank text rest more) refl
-
--- calls behind the first blank
+-- calls with a blank between each two
 abbrev pub calls_body : List Call → List ℕ
-calls_body [] = []
-calls_body (call ∷ calls) = call_body call ++ flat_map call_text calls
+calls_body calls = join_with_byte 32 (map call_body calls)
 
 abbrev pub AreCalls : List Call → Type 0
 AreCalls calls = (calls ≢ []) × All IsCall calls
 
-pub call_is : (call : Call) → call_text call ≡ 32 ∷ call_body call
+call_is : (call : Call) → call_text call ≡ 32 ∷ call_body call
 call_is call = simp append_assoc
 
 pub next_is : (call : Call) (calls : List Call)
     → flat_map call_text (call ∷ calls) ≡ 32 ∷ calls_body (call ∷ calls)
-next_is call calls = flat_map-cons call_text call calls
-    ∙ ap (λ (t : List ℕ). t ++ flat_map call_text calls) (call_is call)
-
-split_calls : (call : Call) (calls : List Call) → All IsCall (call ∷ calls)
-    → slice_split (λ byte. byte == 32) (calls_body (call ∷ calls)) ≡ map call_body (call ∷ calls)
-split_calls call [] each =
-    ap (slice_split (λ byte. byte == 32)) (append-nil (call_body call))
-    ∙ split_none (call_body call) (call_field.lie call (All-head IsCall call [] each))
-split_calls call (next ∷ calls) each =
-    let lie = call_field.lie call (All-head IsCall call (next ∷ calls) each) in
-    ap (λ (t : List ℕ). slice_split (λ byte. byte == 32) (call_body call ++ t)) (next_is next calls)
-    ∙ split_blank (call_body call) (calls_body (next ∷ calls)) lie
-    ∙ ap (λ (texts : List (List ℕ)). call_body call ∷ texts)
-    (split_calls next calls (All-tail IsCall call (next ∷ calls) each))
-
-each_again : (calls : List Call) → All IsCall calls
-    → read_each read_call (map call_body calls) ≡ Some calls
-each_again [] each = refl
-each_again (call ∷ calls) each =
-    rw (
-      call_field.again call (All-head IsCall call calls each),
-      each_again calls (All-tail IsCall call calls each),
-    ) refl
-
-calls_again : (calls : List Call) → AreCalls calls → read_calls (calls_body calls) ≡ Some calls
-unfolding read_calls
-calls_again [] are = absurd (are.0 refl)
-calls_again (call ∷ calls) are = rw (split_calls call calls are.1) (each_again (call ∷ calls) are.1)
-
--- what is read as calls is their text
-each_takes : (texts : List (List ℕ)) (calls : List Call) → read_each read_call texts ≡ Some calls
-    → (texts ≡ map call_body calls) × All IsCall calls
-each_takes [] calls e =
-    subst (λ (cs : List Call). ([] ≡ map call_body cs) × All IsCall cs) (some_is [] calls e)
-    (refl, All-nil IsCall)
-each_takes (text ∷ texts) calls e =
-    let p = bind_some (read_call text)
-    (λ call. read_each read_call texts >>= λ more. Some (call ∷ more)) calls e in
-    let q = bind_some (read_each read_call texts) (λ more. Some (p.0 ∷ more)) calls p.2 in
-    let one = call_field.takes text p.0 p.1 in
-    let rest = each_takes texts q.0 q.1 in
-    let same : (text ∷ texts) ≡ map call_body (p.0 ∷ q.0) = λ i. one.0 i ∷ rest.0 i in
-    subst (λ (cs : List Call). (text ∷ texts ≡ map call_body cs) × All IsCall cs)
-    (some_is (p.0 ∷ q.0) calls q.2)
-    (same, All-cons IsCall p.0 q.0 one.1 rest.1)
-
-join_calls : (call : Call) (calls : List Call)
-    → join_with_byte 32 (map call_body (call ∷ calls)) ≡ calls_body (call ∷ calls)
-join_calls call [] = sym (append-nil (call_body call))
-join_calls call (next ∷ calls) =
-    ap (λ (t : List ℕ). call_body call ++ 32 ∷ t) (join_calls next calls)
-    ∙ ap (λ (t : List ℕ). call_body call ++ t) (sym (next_is next calls))
-
-some_calls : (text : List ℕ) (calls : List Call)
-    → slice_split (λ byte. byte == 32) text ≡ map call_body calls
-    → (text ≡ calls_body calls) × (calls ≢ [])
-some_calls text [] e = absurd (let size = ap length e in
-    let one = length-slice_split (λ byte. byte == 32) text in omega arith)
-some_calls text (call ∷ calls) e = (
-  sym (join_with_byte-slice_split 32 text) ∙ ap (join_with_byte 32) e ∙ join_calls call calls,
-  λ none. cc,
-)
-
-calls_takes : (text : List ℕ) (calls : List Call) → read_calls text ≡ Some calls
-    → (text ≡ calls_body calls) × AreCalls calls
-unfolding read_calls
-calls_takes text calls e =
-    let read = each_takes (slice_split (λ byte. byte == 32) text) calls e in
-    let some = some_calls text calls read.0 in
-    (some.0, (some.1, read.1))
-
-calls_lie : (calls : List Call) → AreCalls calls → all_lie 32 102 (calls_body calls) ≡ true
-calls_lie [] are = refl
-calls_lie (call ∷ calls) are =
-    all-append (lies 32 102) (call_body call) (flat_map call_text calls)
-    (lie_in call_field 32 102 refl call (All-head IsCall call calls are.1))
-    (all-flat_map (lies 32 102) call_text IsCall
-    (λ c is. subst (λ (t : List ℕ). all_lie 32 102 t ≡ true) (sym (call_is c))
-    (lie_in call_field 32 102 refl c is)) calls (All-tail IsCall call calls are.1))
+next_is call [] = flat_map-cons call_text call [] ∙ append-nil (call_text call) ∙ call_is call
+next_is call (next ∷ calls) = flat_map-cons call_text call (next ∷ calls)
+    ∙ ap (λ (t : List ℕ). t ++ flat_map call_text (next ∷ calls)) (call_is call)
+    ∙ ap (λ (t : List ℕ). 32 ∷ (call_body call ++ t)) (next_is next calls)
 
 pub calls_field : IsField read_calls calls_body AreCalls 32 102
-calls_field = record { takes = calls_takes; again = calls_again; lie = calls_lie }
+unfolding read_calls
+calls_field = parts_field call_field 32 32 102 refl refl refl
 
 -- what stands behind names
 pub named_field : IsField read_named (λ p. id_text p.0 ++ 32 ∷ hex_bytes p.1)
@@ -371,9 +297,21 @@ served_field =
     two_fields 32 32 102 id_field last refl refl refl refl
 
 pub asked_field : IsField read_asked
-    (λ p. id_text p.0 ++ 32 ∷ (decimal p.1.0 ++ 32 ∷ hex_bytes p.1.1))
-    (λ p. IsId p.0 × (IsSmall p.1.0 × IsPdu p.1.1)) 32 102
+    (λ p. id_text p.0 ++ 32 ∷ (route_text p.1.0 ++ 32 ∷ hex_bytes p.1.1))
+    (λ p. IsId p.0 × (IsSomeRoute p.1.0 × IsPdu p.1.1)) 32 102
 unfolding read_asked
 asked_field =
-    let last = two_fields 32 32 102 small_field pdu_field refl refl refl refl in
+    let last = two_fields 32 32 102 route_field pdu_field refl refl refl refl in
     two_fields 32 32 102 id_field last refl refl refl refl
+
+pub posted_field : IsField read_posted
+    (λ p. id_text p.0 ++ 32 ∷ (way_text p.1.0 ++ 32 ∷ hex_bytes p.1.1))
+    (λ p. IsId p.0 × (IsWay p.1.0 × IsPdu p.1.1)) 32 102
+unfolding read_posted
+posted_field =
+    let last = two_fields 32 32 102 way_field pdu_field refl refl refl refl in
+    two_fields 32 32 102 id_field last refl refl refl refl
+
+pub going_field : IsField (read_pair read_id read_onward 32)
+    (λ p. id_text p.0 ++ 32 ∷ onward_body p.1) (λ p. IsId p.0 × IsOnward p.1) 32 102
+going_field = two_fields 32 32 102 id_field onward_field refl refl refl refl

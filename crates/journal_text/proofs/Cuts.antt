@@ -29,9 +29,9 @@ pub bind_none : {A B : Type 0} (o : Option A) (f : A → B)
 bind_none (Some x) f e = absurd cc
 bind_none None f e = refl
 
-pub else_some : {V : Type 0} (o : Option (List ℕ)) (f : List ℕ → Option V) (other : Option V)
-    (y : V) → read_or o f other ≡ Some y
-    → ((rest : List ℕ) × (o ≡ Some rest) × (f rest ≡ Some y)) ⊎ (other ≡ Some y)
+pub else_some : {A V : Type 0} (o : Option A) (f : A → Option V) (other : Option V) (y : V)
+    → read_or o f other ≡ Some y
+    → ((rest : A) × (o ≡ Some rest) × (f rest ≡ Some y)) ⊎ (other ≡ Some y)
 else_some (Some rest) f other y e = inl (rest, refl, e)
 else_some None f other y e = inr e
 
@@ -45,7 +45,7 @@ same_byte b at e = grind (arith, nat_tests)
 other_byte : (b at : ℕ) → (b == at) ≡ false → b ≢ at
 other_byte b at e = grind (arith, nat_tests)
 
-byte_self : (at : ℕ) → (at == at) ≡ true
+pub byte_self : (at : ℕ) → (at == at) ≡ true
 byte_self at = grind (arith, nat_tests)
 
 pub record IsCut (at : ℕ) (text : List ℕ) (parts : List ℕ × List ℕ) : Type 0 where
@@ -96,6 +96,14 @@ pub cut_range : (low high at : ℕ) → ((at < low) ⊎ (high < at)) → (xs ys 
     → all_lie low high xs ≡ true → cut at (xs ++ at ∷ ys) ≡ Some (xs, ys)
 cut_range low high at out xs ys lie =
     cut_again at (lies low high) (λ b. outside low high at b out) xs ys lie
+
+pub cut_none : (low high at : ℕ) → ((at < low) ⊎ (high < at)) → (xs : List ℕ)
+    → all_lie low high xs ≡ true → cut at xs ≡ None
+unfolding cut
+cut_none low high at out [] lie = refl
+cut_none low high at out (x ∷ xs) lie =
+    let (here, more) = and_parts (lies low high x) (all_lie low high xs) lie in
+    rw (outside low high at x out here, cut_none low high at out xs more) refl
 
 -- the same at bytes that differ
 differ : (b at : ℕ) → b ≢ at → (b == at) ≡ false

@@ -1,14 +1,16 @@
 -- Each legal joint history is plain.
-use Rattle.std.proofs.Common.{◌≡◌, ◌≢◌, ℕ, zero, suc, ◌++◌, true, List, [], ◌∷◌, map, is_some, refl}
-use Rattle.std.proofs.Common.{sym, ◌∙◌, subst, arith, inr}
+use Rattle.std.proofs.Common.{◌≡◌, ◌≢◌, ℕ, zero, suc, ◌≤◌, ◌++◌, true, List, [], ◌∷◌, length, map}
+use Rattle.std.proofs.Common.{is_some, refl, sym, ◌∙◌, subst, arith, append_assoc, inr}
 use Rattle.std.specs.List.{All, AllZip, Contains, slice_get, slice_index_or}
 use Rattle.std.specs.List.Sorted.{IsStrictlyIncreasing}
 use Rattle.std.proofs.lemmas.Bool.{false≢true}
-use Rattle.std.proofs.lemmas.List.Elements.{Contains-get_or}
+use Rattle.std.proofs.lemmas.List.Elements.{All-contains, All-head, All-tail, Contains-get_or}
 use Rattle.plant_types.specs.declared.net.NetPlan.{NetPlan}
 use Rattle.plant_types.specs.declared.net.HostPlan.{HostPlan}
 use Rattle.plant_types.specs.declared.plan.ControllerPlan.{ControllerPlan}
 use Rattle.plant_types.specs.declared.plan.Plant.{Plant}
+use Rattle.plant_types.specs.Plans.{IsHostPlan}
+use Rattle.mstr_block.specs.declared.call.CallId.{CallId}
 use Rattle.mstr_block.specs.declared.call.MstrAsk.{MstrAsk}
 use Rattle.mstr_block.specs.declared.call.MstrAsk.TheVariants.{Write, Read, LocalStats, ClearLocal}
 use Rattle.mstr_block.specs.declared.call.MstrAsk.TheVariants.{PutGlobal, GetGlobal, RemoteStats}
@@ -29,13 +31,22 @@ use Rattle.controller_core.specs.declared.fixed.Fixed.{Fixed}
 use Rattle.controller_core.specs.declared.entry.Entry.{Entry}
 use Rattle.controller_core.specs.declared.entry.Entry.TheVariants as entries
 use Rattle.controller_core.specs.Calls.{call_of, calls_of, kind_of}
-use Rattle.controller_core.specs.Controller.{EachFits, Fits}
-use Rattle.controller_core.specs.Replay.{ControllerState, apply, start, table_of}
+use Rattle.controller_core.specs.Controller.{Fits, IsLegal}
+use Rattle.controller_core.specs.Replay.{replay, table_of}
+use Rattle.controller_core.proofs.NextEntry.{front_legal, fits_last}
+use Rattle.host_port.specs.declared.entry.HostEntry.{HostEntry}
+use Rattle.host_port.specs.declared.entry.HostEntry.TheVariants.{Ask, Answer, Served}
+use Rattle.host_port.specs.Legal.{IsHostHistory}
+use Rattle.host_port.proofs.Planned.{ask-planned}
+use Rattle.tied_lists.specs.Calls.{AreNewCalls, FitsSort, LeadsAway}
+use Rattle.tied_lists.specs.Items.{Called, Ended}
 use Rattle.joint_history.specs.declared.joint.ControllerLog.{ControllerLog}
 use Rattle.joint_history.specs.declared.joint.HostLog.{HostLog}
-use Rattle.joint_history.specs.JointLaws.{IsLegalLog, IsLegalHostLog}
+use Rattle.joint_history.specs.JointLaws.{IsLegalLog, IsLegalHostLog, fixed_of}
+use Rattle.joint_history.specs.Reading.{called_of, controller_at, items_of, sort_of}
+use Rattle.joint_history.proofs.Collected.{CallLaws, collected-new}
 use Rattle.journal_text.specs.Journal.{IsPlainCall, IsPlainEntry, IsPlainFrame, IsPlainGot}
-use Rattle.journal_text.specs.Journal.{IsPlainKind, IsPlainRing}
+use Rattle.journal_text.specs.Journal.{IsPlainHostEntry, IsPlainKind, IsPlainRing}
 use Rattle.journal_text.specs.Laws.{LegalIsPlain}
 
 -- what stations' lists have as nodes
@@ -48,21 +59,31 @@ same_nodes R plan_node log_node same (p ∷ ps) [] all = absurd all
 same_nodes R plan_node log_node same (p ∷ ps) (l ∷ ls) all =
     λ i. same p l all.0 i ∷ same_nodes R plan_node log_node same ps ls all.1 i
 
--- what is asked of the own port is asked for nobody else
-plain_ask : (ask : MstrAsk) → IsPlainKind (kind_of ask)
-plain_ask (Write to start words) = tt
-plain_ask (Read to start count) = tt
-plain_ask LocalStats = tt
-plain_ask ClearLocal = tt
-plain_ask (PutGlobal words) = tt
-plain_ask (GetGlobal node count) = tt
-plain_ask (RemoteStats to) = tt
-plain_ask (ClearRemote to) = tt
+-- a route that leads away has an address
+some_route : (n : ℕ) (route : List ℕ) → LeadsAway n route → route ≢ []
+some_route n [] away = absurd away
+some_route n (to ∷ rest) away = λ none. cc
 
-plain_calls : (calls : List MstrCall) → All IsPlainCall (map call_of calls)
-plain_calls [] k d within = absurd (omega arith)
-plain_calls (c ∷ cs) zero d within = plain_ask c.ask
-plain_calls (c ∷ cs) (suc k) d within = plain_calls cs k d (omega arith)
+-- what is asked of the own port is asked for nobody else, and what is asked of others has a route
+plain_ask : (n : ℕ) (earlier : List Called) (id : CallId) (ask : MstrAsk)
+    → FitsSort n earlier id (sort_of (kind_of ask)) → IsPlainKind (kind_of ask)
+plain_ask n earlier id (Write route start words) fits = some_route n route fits.0
+plain_ask n earlier id (Read route start count) fits = some_route n route fits.0
+plain_ask n earlier id LocalStats fits = tt
+plain_ask n earlier id ClearLocal fits = tt
+plain_ask n earlier id (PutGlobal words) fits = tt
+plain_ask n earlier id (GetGlobal node count) fits = tt
+plain_ask n earlier id (RemoteStats route) fits = some_route n route fits.0
+plain_ask n earlier id (ClearRemote route) fits = some_route n route fits.0
+
+plain_calls : (n : ℕ) (earlier : List Called) (ends : List Ended) (calls : List MstrCall)
+    → AreNewCalls n earlier ends (map called_of (map call_of calls))
+    → All IsPlainCall (map call_of calls)
+plain_calls n earlier ends [] new k d within = absurd (omega arith)
+plain_calls n earlier ends (c ∷ cs) new zero d within =
+    plain_ask n earlier c.id c.ask new.0.fits
+plain_calls n earlier ends (c ∷ cs) new (suc k) d within =
+    plain_calls n (earlier ++ called_of (call_of c) ∷ []) ends cs new.1 k d (omega arith)
 
 -- where a call was started there is one to hand on
 nothing_started : (calls : List MstrCall) → map call_of calls ≡ []
@@ -75,42 +96,77 @@ some_calls : CallsAreTakenInOrder → (table : BlockTable) → has_untaken table
 some_calls order table started none =
     nothing_started (started_calls table) none (sym (order table).any ∙ started)
 
--- an entry that fits is plain, and so is each of a legal list
-plain_entry : CallsAreTakenInOrder → (fixed : Fixed) (s : ControllerState) (entry : Entry)
-    → Fits fixed s entry → IsPlainEntry entry
-plain_entry order fixed s entries.Begin fits = tt
-plain_entry order fixed s (entries.Input row) fits = tt
-plain_entry order fixed s (entries.Solve row) fits = tt
-plain_entry order fixed s (entries.Output row words) fits = tt
-plain_entry order fixed s entries.End fits = tt
-plain_entry order fixed s entries.Fail fits = tt
-plain_entry order fixed s entries.Dark fits = tt
-plain_entry order fixed s (entries.Collect calls) fits =
-    subst (λ (cs : List Call). (cs ≢ []) × All IsPlainCall cs) (sym fits.1)
-    (some_calls order (table_of s) fits.0, plain_calls (started_calls (table_of s)))
-plain_entry order fixed s (entries.Peer id request reply) fits = tt
-plain_entry order fixed s (entries.Off id request) fits = tt
-plain_entry order fixed s (entries.Finish id result) fits = tt
+-- an entry that fits behind a legal list is plain, and so is each of a legal list
+plain_entry : CallLaws → (fixed : Fixed) (past : List Entry) (entry : Entry)
+    → IsLegal fixed past → Fits fixed (replay fixed past) entry → IsPlainEntry entry
+plain_entry laws fixed past entries.Begin legal fits = tt
+plain_entry laws fixed past (entries.Input row) legal fits = tt
+plain_entry laws fixed past (entries.Solve row) legal fits = tt
+plain_entry laws fixed past (entries.Output row words) legal fits = tt
+plain_entry laws fixed past entries.End legal fits = tt
+plain_entry laws fixed past entries.Fail legal fits = tt
+plain_entry laws fixed past entries.Dark legal fits = tt
+plain_entry laws fixed past (entries.Collect calls) legal fits =
+    let table = table_of (replay fixed past) in
+    subst (λ (cs : List Call). (cs ≢ []) × All IsPlainCall cs) (sym fits.1) (
+      some_calls laws.taking table fits.0,
+      plain_calls fixed.plan.node (items_of past).calls (items_of past).ends
+          (started_calls table) (collected-new laws fixed past legal),
+    )
+plain_entry laws fixed past (entries.Peer id request reply) legal fits = tt
+plain_entry laws fixed past (entries.Off id request) legal fits = tt
+plain_entry laws fixed past (entries.Finish id result) legal fits = tt
 
-plain_entries : CallsAreTakenInOrder → (fixed : Fixed) (s : ControllerState) (list : List Entry)
-    → EachFits fixed s list → All IsPlainEntry list
-unfolding EachFits
-plain_entries order fixed s [] each k d within = absurd (omega arith)
-plain_entries order fixed s (e ∷ es) each zero d within = plain_entry order fixed s e each.0
-plain_entries order fixed s (e ∷ es) each (suc k) d within =
-    plain_entries order fixed (apply fixed s e) es each.1 k d (omega arith)
+plain_entries : CallLaws → (fixed : Fixed) (past list : List Entry)
+    → IsLegal fixed (past ++ list) → All IsPlainEntry list
+plain_entries laws fixed past [] legal k d within = absurd (omega arith)
+plain_entries laws fixed past (e ∷ es) legal zero d within =
+    let whole = subst (IsLegal fixed) (sym (append_assoc past (e ∷ []) es)) legal in
+    plain_entry laws fixed past e (front_legal fixed past (e ∷ es) legal)
+    (fits_last (controller_at fixed past) e (front_legal fixed (past ++ e ∷ []) es whole))
+plain_entries laws fixed past (e ∷ es) legal (suc k) d within =
+    plain_entries laws fixed (past ++ e ∷ []) es
+    (subst (IsLegal fixed) (sym (append_assoc past (e ∷ []) es)) legal) k d (omega arith)
 
-plain_logs : CallsAreTakenInOrder → (plant : Plant) (scans : ℕ)
+plain_logs : CallLaws → (plant : Plant) (scans : ℕ)
     (ps : List ControllerPlan) (ls : List ControllerLog)
     → AllZip (IsLegalLog plant scans) ps ls
     → All (λ (log : ControllerLog). All IsPlainEntry log.entries) ls
-plain_logs order plant scans [] [] all k d within = absurd (omega arith)
-plain_logs order plant scans [] (l ∷ ls) all k d within = absurd all
-plain_logs order plant scans (p ∷ ps) [] all k d within = absurd all
-plain_logs order plant scans (p ∷ ps) (l ∷ ls) all zero d within =
-    plain_entries order _ (start p) l.entries all.0.1.each
-plain_logs order plant scans (p ∷ ps) (l ∷ ls) all (suc k) d within =
-    plain_logs order plant scans ps ls all.1 k d (omega arith)
+plain_logs laws plant scans [] [] all k d within = absurd (omega arith)
+plain_logs laws plant scans [] (l ∷ ls) all k d within = absurd all
+plain_logs laws plant scans (p ∷ ps) [] all k d within = absurd all
+plain_logs laws plant scans (p ∷ ps) (l ∷ ls) all zero d within =
+    plain_entries laws (fixed_of plant scans p) [] l.entries all.0.1
+plain_logs laws plant scans (p ∷ ps) (l ∷ ls) all (suc k) d within =
+    plain_logs laws plant scans ps ls all.1 k d (omega arith)
+
+-- what a host asks has the route that its plan has
+some_addresses : (route : List ℕ) → 1 ≤ length route → route ≢ []
+some_addresses [] some = absurd (omega (arith, some))
+some_addresses (to ∷ rest) some = λ none. cc
+
+plain_asks : (plan : HostPlan) (list : List HostEntry) → IsHostPlan plan
+    → IsHostHistory plan list → All IsPlainHostEntry list
+plain_asks plan list is legal k d within =
+    of (slice_index_or list k d) (Contains-get_or list k d within)
+  where
+    of : (entry : HostEntry) → Contains list entry → IsPlainHostEntry entry
+    of (Ask id route pdu) there =
+        let planned = ask-planned plan list id route pdu is legal there in
+        some_addresses route planned.some
+    of (Answer id result) there = tt
+    of (Served id request reply) there = tt
+
+plain_host_logs : (ps : List HostPlan) (ls : List HostLog) → All IsHostPlan ps
+    → AllZip IsLegalHostLog ps ls
+    → All (λ (log : HostLog). All IsPlainHostEntry log.entries) ls
+plain_host_logs [] [] is all k d within = absurd (omega arith)
+plain_host_logs [] (l ∷ ls) is all k d within = absurd all
+plain_host_logs (p ∷ ps) [] is all k d within = absurd all
+plain_host_logs (p ∷ ps) (l ∷ ls) is all zero d within =
+    plain_asks p l.entries (All-head IsHostPlan p ps is) all.0.1
+plain_host_logs (p ∷ ps) (l ∷ ls) is all (suc k) d within =
+    plain_host_logs ps ls (All-tail IsHostPlan p ps is) all.1 k d (omega arith)
 
 -- each entry of a legal history of the ring is lawful
 lawful : (net : NetPlan) (past list : List RingEntry) → IsRun net past list
@@ -122,7 +178,15 @@ lawful net past (e ∷ es) run (suc k) d within =
 
 plain_frame : (n : ℕ) (kind : FrameKind) (f : Frame) → IsFrom n kind f → IsPlainFrame kind f
 plain_frame n Request f from = tt
-plain_frame n Reply f from = from.0
+plain_frame n Reply f from = (from.0, from.2)
+
+-- a Reply that was posted goes no further
+posted_end : (net : NetPlan) (history : List RingEntry) (m : ℕ) (f : Frame)
+    → IsRingHistory net history → Contains history (Post m f) → f.kind ≡ Reply → f.rest ≡ []
+posted_end net history m f is there kind =
+    let law =
+    All-contains (IsLawful net) history (Post m f) (lawful net [] history is.legal) there in
+    (subst (λ (k : FrameKind). IsFrom m k f) kind law.1).2
 
 plain_got : (net : NetPlan) (history : List RingEntry) (n : ℕ) (f : Frame) (kind : FrameKind)
     → OnlyItsTarget → ReplyToItsCaller → IsRingHistory net history
@@ -131,7 +195,7 @@ plain_got net history n f Request target caller is there kind =
     (target net history n f is (inr there) kind).0
 plain_got net history n f Reply target caller is there kind =
     let facts = caller net history n f is (inr there) kind in
-    facts.0 ∙ sym facts.1
+    (facts.0 ∙ sym facts.1, posted_end net history facts.3.0 f is facts.3.2 kind)
 
 plain_ring : (net : NetPlan) (history : List RingEntry) (e : RingEntry) → OnlyItsTarget
     → ReplyToItsCaller → IsRingHistory net history
@@ -146,11 +210,11 @@ plain_ring net history (Pass n done words) target caller is there law = tt
 plain_ring net history (Leave n cause) target caller is there law = tt
 plain_ring net history (Join n) target caller is there law = tt
 
-pub legal-is_plain : CallsAreTakenInOrder → OnlyItsTarget → ReplyToItsCaller → LegalIsPlain
-legal-is_plain order target caller plant scans joint is legal =
+pub legal-is_plain : CallLaws → OnlyItsTarget → ReplyToItsCaller → LegalIsPlain
+legal-is_plain laws target caller plant scans joint is legal =
     let history : IsRingHistory plant.net joint.ring = record {
-      members =
-          λ k d within. (let node = is.net.members k d within in let most = node.to in omega arith);
+      members = λ k d within.
+          (let node = is.net.members.each k d within in let most = node.to in omega arith);
       legal = legal.ring;
     } in
     record {
@@ -161,8 +225,9 @@ legal-is_plain order target caller plant scans joint is legal =
       hosts = subst IsStrictlyIncreasing
           (sym (same_nodes IsLegalHostLog (λ (p : HostPlan). p.node) (λ (l : HostLog). l.node)
           (λ p l r. r.0) plant.hosts joint.hosts legal.hosts)) is.hosts_rise;
-      entries = plain_logs order plant scans plant.controllers joint.controllers
+      entries = plain_logs laws plant scans plant.controllers joint.controllers
           legal.controllers;
+      asks = plain_host_logs plant.hosts joint.hosts is.hosts legal.hosts;
       ring = λ k d within. plain_ring plant.net joint.ring (slice_index_or joint.ring k d) target
           caller history
           (Contains-get_or joint.ring k d within)

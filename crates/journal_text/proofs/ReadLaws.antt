@@ -34,7 +34,7 @@ lt_of m n e = grind (arith, nat_tests)
 le_of : (m n : ℕ) → nat_le m n ≡ true → m ≤ n
 le_of m n e = grind (arith, nat_tests)
 
-out_of : (low high at : ℕ) → is_out low high at ≡ true → (at < low) ⊎ (high < at)
+pub out_of : (low high at : ℕ) → is_out low high at ≡ true → (at < low) ⊎ (high < at)
 out_of low high at e =
     one_of (nat_lt at low) (nat_lt high at) (λ h. lt_of at low h) (λ h. lt_of high at h) e
 

@@ -15,18 +15,20 @@ use Rattle.ring_core.specs.declared.entry.LeaveCause.{LeaveCause}
 use Rattle.ring_core.specs.declared.entry.LeaveCause.TheVariants.{Ended, Spent, Down}
 use Rattle.ring_core.specs.declared.entry.RingEntry.{RingEntry}
 use Rattle.ring_core.specs.declared.entry.RingEntry.TheVariants as ring
+use Rattle.ring_core.specs.Words.{frame_route}
 use Rattle.journal_text.specs.Fields.{hex_bytes, hex_words, hex_word, id_text, op_text}
-use Rattle.journal_text.specs.Fields.{call_result_text}
+use Rattle.journal_text.specs.Fields.{call_result_text, route_text}
 use Rattle.journal_text.specs.Lines.{sent_text, got_text, heard_text, cause_text, done_text}
 use Rattle.journal_text.specs.Lines.{ring_line}
-use Rattle.journal_text.specs.Journal.{IsPlainFrame, IsPlainGot, IsPlainRing}
+use Rattle.journal_text.specs.Journal.{IsPlainFrame, IsPlainGot, IsPlainReply, IsPlainRing}
 use Rattle.journal_text.specs.Sizes.{IsId, IsPdu, IsSmall, IsWord, AreWords, FitsOp, FitsResult}
 use Rattle.journal_text.specs.Sizes.{FitsCause, FitsFrame, FitsRingEntry}
 use Rattle.journal_text.specs.Fronts.{with_feed}
 use Rattle.journal_text.specs.Reading.{behind, read_pair, read_small, read_id, read_hex_word}
 use Rattle.journal_text.specs.Reading.{read_hex_words}
-use Rattle.journal_text.specs.ReadLines.{read_op, read_result, sent_forms, read_sent, got_from}
-use Rattle.journal_text.specs.ReadLines.{got_forms, read_got, target_of, taken, sent_request}
+use Rattle.journal_text.specs.ReadLines.{Got, read_op, read_result, sent_forms, read_sent}
+use Rattle.journal_text.specs.ReadLines.{got_forms, got_reply, got_request, read_got, target_of}
+use Rattle.journal_text.specs.ReadLines.{taken, sent_request}
 use Rattle.journal_text.specs.ReadLines.{sent_reply, read_heard, read_cause, read_done, ring_forms}
 use Rattle.journal_text.specs.ReadLines.{read_bare_cause, cause_forms, read_ring_entry}
 use Rattle.journal_text.proofs.Ranges.{chosen, all_lie}
@@ -35,102 +37,130 @@ use Rattle.journal_text.proofs.ReadLaws.{IsField, IsForm, two_fields, form_of_fi
 use Rattle.journal_text.proofs.ReadLaws.{lie_in}
 use Rattle.journal_text.proofs.Numbers.{small_field, long_field, id_field}
 use Rattle.journal_text.proofs.Digits.{words_field, word_field}
-use Rattle.journal_text.proofs.Calls.{op_field, result_field, named_field, asked_field}
+use Rattle.journal_text.proofs.Calls.{op_field, result_field, named_field, posted_field}
+use Rattle.journal_text.proofs.Calls.{going_field}
+use Rattle.journal_text.proofs.Parts.{IsOnward, no_route, onward_body}
 
 -- frames that are posted
-abbrev sent_parts : FrameKind → CallId → ℕ → List ℕ → List ℕ
-sent_parts Request id to pdu = codes "Q " ++ (id_text id ++ 32 ∷ (decimal to ++ 32 ∷ hex_bytes pdu))
-sent_parts Reply id to pdu = codes "R " ++ (id_text id ++ 32 ∷ hex_bytes pdu)
+abbrev named_body : Frame → List ℕ
+named_body frame = id_text frame.id ++ 32 ∷ hex_bytes frame.pdu
 
-sent_is : (kind : FrameKind) (id : CallId) (to : ℕ) (pdu : List ℕ)
-    → sent_text kind id to pdu ≡ sent_parts kind id to pdu
-sent_is Request id to pdu = simp append_assoc
-sent_is Reply id to pdu = simp append_assoc
+abbrev sent_parts : FrameKind → Frame → List ℕ
+sent_parts Request frame =
+    codes "Q "
+    ++ (id_text frame.id ++ 32 ∷ (route_text (frame_route frame) ++ 32 ∷ hex_bytes frame.pdu))
+sent_parts Reply frame = codes "R " ++ named_body frame
+
+sent_is : (kind : FrameKind) (frame : Frame) → sent_text kind frame ≡ sent_parts kind frame
+sent_is Request frame = simp append_assoc
+sent_is Reply frame = simp append_assoc
 
 abbrev sent_body : Frame → List ℕ
-sent_body frame = sent_parts frame.kind frame.id frame.to frame.pdu
+sent_body frame = sent_parts frame.kind frame
 
 abbrev IsSent : Frame → Type 0
 IsSent frame = FitsFrame frame × IsPlainFrame frame.kind frame
 
 sent_kinds_take : AllByRecursion (IsForm sent_body IsSent) sent_forms
 sent_kinds_take = (
-  form_of_field asked_field sent_body IsSent (codes "Q ") sent_request (λ p fits. refl)
-      (λ p fits. ((fits.1.0, fits.0, fits.1.1), tt)),
+  form_of_field posted_field sent_body IsSent (codes "Q ") sent_request (λ p fits. refl)
+      (λ p fits. ((fits.1.0.0, fits.1.0.1, fits.0, fits.1.1), tt)),
   (
     form_of_field named_field sent_body IsSent (codes "R ") sent_reply (λ p fits. refl)
-        (λ p fits. ((fits.0.node, fits.0, fits.1), refl)),
+        (λ p fits. ((fits.0.node, no_route, fits.0, fits.1), (refl, refl))),
     tt,
   ),
 )
 
-abbrev framed : FrameKind → ℕ → CallId → List ℕ → Frame
-framed kind to id pdu = record { kind = kind; to = to; id = id; pdu = pdu }
+abbrev framed : FrameKind → Frame → Frame
+framed kind frame = record frame { kind = kind }
 
-sent_again : (kind : FrameKind) (to : ℕ) (id : CallId) (pdu : List ℕ) → IsSent
-    (framed kind to id pdu) → read_sent (sent_parts kind id to pdu) ≡ Some (framed kind to id pdu)
+-- a Reply is what its name and its bytes say
+reply_is : (frame : Frame) → IsPlainReply frame
+    → sent_reply (frame.id, frame.pdu) ≡ framed Reply frame
+reply_is frame plain =
+    let target = sym plain.0 in
+    let none = sym plain.1 in
+    λ i. record {
+      kind = Reply;
+      to = target i;
+      rest = none i;
+      id = frame.id;
+      pdu = frame.pdu;
+    }
+
+sent_again : (kind : FrameKind) (frame : Frame) → IsSent (framed kind frame)
+    → read_sent (sent_parts kind frame) ≡ Some (framed kind frame)
 unfolding read_sent behind
-sent_again Request to id pdu is =
-    rw (asked_field.again (id, (to, pdu)) (is.0.1, (is.0.0, is.0.2))) refl
-sent_again Reply to id pdu is =
-    let target : to ≡ id.node = is.1 in
-    rw (named_field.again (id, pdu) (is.0.1, is.0.2))
-    (ap (λ (n : ℕ). Some (framed Reply n id pdu)) (sym target))
+sent_again Request frame is =
+    rw (posted_field.again (frame.id, ((frame.to, frame.rest), frame.pdu))
+    (is.0.2, ((is.0.0, is.0.1), is.0.3))) refl
+sent_again Reply frame is =
+    rw (named_field.again (frame.id, frame.pdu) (is.0.2, is.0.3))
+    (ap (λ (f : Frame). Some f) (reply_is frame is.1))
 
-sent_lie : (kind : FrameKind) (to : ℕ) (id : CallId) (pdu : List ℕ) → IsSent (framed kind to id pdu)
-    → all_lie 32 102 (sent_parts kind id to pdu) ≡ true
-sent_lie Request to id pdu is = asked_field.lie (id, (to, pdu)) (is.0.1, (is.0.0, is.0.2))
-sent_lie Reply to id pdu is = named_field.lie (id, pdu) (is.0.1, is.0.2)
+sent_lie : (kind : FrameKind) (frame : Frame) → IsSent (framed kind frame)
+    → all_lie 32 102 (sent_parts kind frame) ≡ true
+sent_lie Request frame is =
+    posted_field.lie (frame.id, ((frame.to, frame.rest), frame.pdu))
+    (is.0.2, ((is.0.0, is.0.1), is.0.3))
+sent_lie Reply frame is = named_field.lie (frame.id, frame.pdu) (is.0.2, is.0.3)
 
 sent_field : IsField read_sent sent_body IsSent 32 102
 unfolding read_sent
 sent_field = record {
   takes = λ text f e. first_takes sent_body IsSent sent_forms None text f sent_kinds_take
       (none_some ((text ≡ sent_body f) × IsSent f) f) e;
-  again = λ f is. sent_again f.kind f.to f.id f.pdu is;
-  lie = λ f is. sent_lie f.kind f.to f.id f.pdu is;
+  again = λ f is. sent_again f.kind f is;
+  lie = λ f is. sent_lie f.kind f is;
 }
 
 -- frames that are taken, but for their target
-abbrev Got : Type 0
-Got = FrameKind × (CallId × List ℕ)
+abbrev got_parts : FrameKind → CallId × (List ℕ × List ℕ) → List ℕ
+got_parts Request parts = codes "Q " ++ (id_text parts.0 ++ 32 ∷ onward_body parts.1)
+got_parts Reply parts = codes "R " ++ (id_text parts.0 ++ 32 ∷ hex_bytes parts.1.0)
 
-abbrev got_parts : FrameKind → CallId → List ℕ → List ℕ
-got_parts Request id pdu = codes "Q " ++ (id_text id ++ 32 ∷ hex_bytes pdu)
-got_parts Reply id pdu = codes "R " ++ (id_text id ++ 32 ∷ hex_bytes pdu)
+abbrev parts_of : Frame → CallId × (List ℕ × List ℕ)
+parts_of frame = (frame.id, (frame.pdu, frame.rest))
 
-got_is : (kind : FrameKind) (id : CallId) (pdu : List ℕ)
-    → got_text kind id pdu ≡ got_parts kind id pdu
-got_is Request id pdu = simp append_assoc
-got_is Reply id pdu = simp append_assoc
+got_is : (kind : FrameKind) (frame : Frame) → got_text kind frame ≡ got_parts kind (parts_of frame)
+got_is Request frame = simp append_assoc
+got_is Reply frame = simp append_assoc
 
 abbrev got_body : Got → List ℕ
-got_body got = got_parts got.0 got.1.0 got.1.1
+got_body got = got_parts got.0 got.1
+
+-- a Reply goes no further
+abbrev IsEnd : FrameKind → List ℕ → Type 0
+IsEnd Request rest = Unit {0}
+IsEnd Reply rest = rest ≡ []
 
 abbrev IsGot : Got → Type 0
-IsGot got = IsId got.1.0 × IsPdu got.1.1
+IsGot got = (IsId got.1.0 × IsOnward got.1.1) × IsEnd got.0 got.1.1.1
 
 got_kinds_take : AllByRecursion (IsForm got_body IsGot) got_forms
 got_kinds_take = (
-  form_of_field named_field got_body IsGot (codes "Q ") (got_from Request) (λ p fits. refl)
-      (λ p fits. fits),
+  form_of_field going_field got_body IsGot (codes "Q ") got_request (λ p fits. refl)
+      (λ p fits. (fits, tt)),
   (
-    form_of_field named_field got_body IsGot (codes "R ") (got_from Reply) (λ p fits. refl)
-        (λ p fits. fits),
+    form_of_field named_field got_body IsGot (codes "R ") got_reply (λ p fits. refl)
+        (λ p fits. ((fits.0, (fits.1, no_route)), refl)),
     tt,
   ),
 )
 
-got_again : (kind : FrameKind) (named : CallId × List ℕ) → IsId named.0 × IsPdu named.1
-    → read_got (got_parts kind named.0 named.1) ≡ Some (kind, named)
+got_again : (kind : FrameKind) (parts : CallId × (List ℕ × List ℕ)) → IsGot (kind, parts)
+    → read_got (got_parts kind parts) ≡ Some (kind, parts)
 unfolding read_got behind
-got_again Request named is = rw (named_field.again named is) refl
-got_again Reply named is = rw (named_field.again named is) refl
+got_again Request parts is = rw (going_field.again parts is.0) refl
+got_again Reply parts is =
+    rw (named_field.again (parts.0, parts.1.0) (is.0.0, is.0.1.0))
+    (ap (λ (rest : List ℕ). Some (Reply, (parts.0, (parts.1.0, rest)))) (sym is.1))
 
-got_lie : (kind : FrameKind) (named : CallId × List ℕ) → IsId named.0 × IsPdu named.1
-    → all_lie 32 102 (got_parts kind named.0 named.1) ≡ true
-got_lie Request named is = named_field.lie named is
-got_lie Reply named is = named_field.lie named is
+got_lie : (kind : FrameKind) (parts : CallId × (List ℕ × List ℕ)) → IsGot (kind, parts)
+    → all_lie 32 102 (got_parts kind parts) ≡ true
+got_lie Request parts is = going_field.lie parts is.0
+got_lie Reply parts is = named_field.lie (parts.0, parts.1.0) (is.0.0, is.0.1.0)
 
 got_field : IsField read_got got_body IsGot 32 102
 unfolding read_got
@@ -252,7 +282,7 @@ abbrev pub ring_body : RingEntry → List ℕ
 ring_body (ring.Post node frame) = codes "PO " ++ (decimal node ++ 32 ∷ sent_body frame)
 ring_body (ring.Send node heard) = codes "SE " ++ (decimal node ++ 32 ∷ heard_text heard)
 ring_body (ring.Take node frame) =
-    codes "TA " ++ (decimal node ++ 32 ∷ got_parts frame.kind frame.id frame.pdu)
+    codes "TA " ++ (decimal node ++ 32 ∷ got_parts frame.kind (parts_of frame))
 ring_body (ring.Local node id op result) =
     codes "LO "
     ++ (decimal node ++ 32 ∷ (id_text id ++ 32 ∷ (op_text op ++ 32 ∷ call_result_text result)))
@@ -281,14 +311,14 @@ parts_four front a b d f = simp append_assoc
 
 pub ring_ended : (entry : RingEntry) → ring_line entry ≡ with_feed (ring_body entry)
 ring_ended (ring.Post node frame) =
-    parts (codes "PO ") (decimal node) (sent_text frame.kind frame.id frame.to frame.pdu)
+    parts (codes "PO ") (decimal node) (sent_text frame.kind frame)
     ∙ ap (λ (t : List ℕ). with_feed (codes "PO " ++ (decimal node ++ 32 ∷ t)))
-    (sent_is frame.kind frame.id frame.to frame.pdu)
+    (sent_is frame.kind frame)
 ring_ended (ring.Send node heard) = parts (codes "SE ") (decimal node) (heard_text heard)
 ring_ended (ring.Take node frame) =
-    parts (codes "TA ") (decimal node) (got_text frame.kind frame.id frame.pdu)
+    parts (codes "TA ") (decimal node) (got_text frame.kind frame)
     ∙ ap (λ (t : List ℕ). with_feed (codes "TA " ++ (decimal node ++ 32 ∷ t)))
-    (got_is frame.kind frame.id frame.pdu)
+    (got_is frame.kind frame)
 ring_ended (ring.Local node id op result) =
     parts_four (codes "LO ") (decimal node) (id_text id) (op_text op) (call_result_text result)
 ring_ended (ring.GiveUp id word) = parts (codes "GU ") (id_text id) (hex_word word)
@@ -341,15 +371,24 @@ target_fits : (kind : FrameKind) (node : ℕ) (id : CallId) → IsSmall node →
 target_fits Request node id less is = less
 target_fits Reply node id less is = is.node
 
-plain_got : (kind : FrameKind) (node : ℕ) (id : CallId) (pdu : List ℕ)
-    → IsPlainGot node kind (framed kind (target_of kind node id) id pdu)
-plain_got Request node id pdu = refl
-plain_got Reply node id pdu = refl
+abbrev taken_as : FrameKind → ℕ → CallId × (List ℕ × List ℕ) → Frame
+taken_as kind node parts = record {
+  kind = kind;
+  to = target_of kind node parts.0;
+  rest = parts.1.1;
+  id = parts.0;
+  pdu = parts.1.0;
+}
+
+plain_got : (kind : FrameKind) (node : ℕ) (parts : CallId × (List ℕ × List ℕ))
+    → IsEnd kind parts.1.1 → IsPlainGot node kind (taken_as kind node parts)
+plain_got Request node parts end' = refl
+plain_got Reply node parts end' = (refl, end')
 
 taken_fits : (node : ℕ) (got : Got) → IsSmall node → IsGot got → IsRingEntry (taken node got)
 taken_fits node got less is = (
-  (less, (target_fits got.0 node got.1.0 less is.0, is.0, is.1)),
-  plain_got got.0 node got.1.0 got.1.1,
+  (less, (target_fits got.0 node got.1.0 less is.0.0, is.0.1.1, is.0.0, is.0.1.0)),
+  plain_got got.0 node got.1 is.1,
 )
 
 ring_kinds_take : AllByRecursion (IsForm ring_body IsRingEntry) ring_forms
@@ -389,10 +428,15 @@ ring_kinds_take = (
 )
 
 -- what was taken has its target
-target_is : (kind : FrameKind) (node to : ℕ) (id : CallId) (pdu : List ℕ)
-    → IsPlainGot node kind (framed kind to id pdu) → target_of kind node id ≡ to
-target_is Request node to id pdu plain = sym plain
-target_is Reply node to id pdu plain = sym plain
+target_is : (kind : FrameKind) (node : ℕ) (frame : Frame) → IsPlainGot node kind frame
+    → target_of kind node frame.id ≡ frame.to
+target_is Request node frame plain = sym plain
+target_is Reply node frame plain = sym plain.0
+
+got_of : (kind : FrameKind) (node : ℕ) (frame : Frame) → FitsFrame frame
+    → IsPlainGot node kind frame → IsGot (kind, parts_of frame)
+got_of Request node frame fits plain = ((fits.2, (fits.3, fits.1)), tt)
+got_of Reply node frame fits plain = ((fits.2, (fits.3, fits.1)), plain.1)
 
 ring_again : (entry : RingEntry) → IsRingEntry entry
     → read_ring_entry (ring_body entry) ≡ Some entry
@@ -401,10 +445,10 @@ ring_again (ring.Post node frame) is =
     rw (post_field.again (node, frame) (is.0.0, (is.0.1, is.1))) refl
 ring_again (ring.Send node heard) is = rw (send_field.again (node, heard) (is.0, tt)) refl
 ring_again (ring.Take node frame) is =
-    let target : target_of frame.kind node frame.id ≡ frame.to =
-    target_is frame.kind node frame.to frame.id frame.pdu is.1 in
-    rw (take_field.again (node, (frame.kind, (frame.id, frame.pdu))) (is.0.0, (is.0.1.1, is.0.1.2)))
-    (ap (λ (to : ℕ). Some (ring.Take node (framed frame.kind to frame.id frame.pdu))) target)
+    rw (take_field.again (node, (frame.kind, parts_of frame))
+    (is.0.0, got_of frame.kind node frame is.0.1 is.1))
+    (ap (λ (to : ℕ). Some (ring.Take node (record frame { to = to })))
+    (target_is frame.kind node frame is.1))
 ring_again (ring.Local node id op result) is =
     rw (local_field.again (node, (id, (op, result))) (is.0.0, (is.0.1, (is.0.2, is.0.3)))) refl
 ring_again (ring.GiveUp id word) is = rw (give_up_field.again (id, word) is.0) refl
@@ -417,7 +461,8 @@ ring_lie : (entry : RingEntry) → IsRingEntry entry → all_lie 32 102 (ring_bo
 ring_lie (ring.Post node frame) is = post_field.lie (node, frame) (is.0.0, (is.0.1, is.1))
 ring_lie (ring.Send node heard) is = send_field.lie (node, heard) (is.0, tt)
 ring_lie (ring.Take node frame) is =
-    take_field.lie (node, (frame.kind, (frame.id, frame.pdu))) (is.0.0, (is.0.1.1, is.0.1.2))
+    take_field.lie (node, (frame.kind, parts_of frame))
+    (is.0.0, got_of frame.kind node frame is.0.1 is.1)
 ring_lie (ring.Local node id op result) is =
     local_field.lie (node, (id, (op, result))) (is.0.0, (is.0.1, (is.0.2, is.0.3)))
 ring_lie (ring.GiveUp id word) is = give_up_field.lie (id, word) is.0

@@ -14,9 +14,9 @@ use Rattle.host_port.specs.declared.entry.HostResult.{HostResult}
 use Rattle.host_port.specs.declared.entry.HostResult.TheVariants as host_results
 use Rattle.host_port.specs.declared.entry.HostEntry.{HostEntry}
 use Rattle.host_port.specs.declared.entry.HostEntry.TheVariants as host_entries
-use Rattle.journal_text.specs.Fields.{hex_bytes, hex_words, id_text, call_result_text}
+use Rattle.journal_text.specs.Fields.{hex_bytes, hex_words, id_text, call_result_text, route_text}
 use Rattle.journal_text.specs.Lines.{call_text, controller_line, answer_text, host_line}
-use Rattle.journal_text.specs.Journal.{IsPlainCall, IsPlainEntry}
+use Rattle.journal_text.specs.Journal.{IsPlainCall, IsPlainEntry, IsPlainHostEntry}
 use Rattle.journal_text.specs.Sizes.{IsId, IsWord, AreBlockWords, FitsCall, FitsEntry, FitsResult}
 use Rattle.journal_text.specs.Sizes.{FitsAnswer, FitsHostEntry}
 use Rattle.journal_text.specs.Fronts.{with_feed}
@@ -225,13 +225,16 @@ outcome_field = record {
 
 -- the kinds of a host's lines
 abbrev pub host_body : HostEntry → List ℕ
-host_body (host_entries.Ask id to pdu) =
-    codes "Q " ++ (id_text id ++ 32 ∷ (decimal to ++ 32 ∷ hex_bytes pdu))
+host_body (host_entries.Ask id route pdu) =
+    codes "Q " ++ (id_text id ++ 32 ∷ (route_text route ++ 32 ∷ hex_bytes pdu))
 host_body (host_entries.Answer id result) = codes "A " ++ (id_text id ++ 32 ∷ answer_text result)
 host_body (host_entries.Served id request reply) = peer_body id request reply
 
+abbrev pub IsHostEntry : HostEntry → Type 0
+IsHostEntry entry = FitsHostEntry entry × IsPlainHostEntry entry
+
 pub host_ended : (entry : HostEntry) → host_line entry ≡ with_feed (host_body entry)
-host_ended (host_entries.Ask id to pdu) = simp append_assoc
+host_ended (host_entries.Ask id route pdu) = simp append_assoc
 host_ended (host_entries.Answer id result) = simp append_assoc
 host_ended (host_entries.Served id request reply) = simp append_assoc
 
@@ -239,41 +242,43 @@ answer_field : IsField (read_pair read_id read_outcome 32)
     (λ p. id_text p.0 ++ 32 ∷ answer_text p.1) (λ p. IsId p.0 × FitsAnswer p.1) 32 102
 answer_field = two_fields 32 32 102 id_field outcome_field refl refl refl refl
 
-host_kinds_take : AllByRecursion (IsForm host_body FitsHostEntry) host_forms
+host_kinds_take : AllByRecursion (IsForm host_body IsHostEntry) host_forms
 host_kinds_take = (
-  form_of_field asked_field host_body FitsHostEntry (codes "Q ") (λ p.
-      host_entries.Ask p.0 p.1.0 p.1.1) (λ p fits. refl) (λ p fits. (fits.0, fits.1.0, fits.1.1)),
+  form_of_field asked_field host_body IsHostEntry (codes "Q ") (λ p.
+      host_entries.Ask p.0 p.1.0 p.1.1) (λ p fits. refl)
+      (λ p fits. ((fits.0, fits.1.0.1, fits.1.1), fits.1.0.0)),
   (
-    form_of_field answer_field host_body FitsHostEntry (codes "A ")
-        (λ p. host_entries.Answer p.0 p.1) (λ p fits. refl) (λ p fits. fits),
+    form_of_field answer_field host_body IsHostEntry (codes "A ")
+        (λ p. host_entries.Answer p.0 p.1) (λ p fits. refl) (λ p fits. (fits, tt)),
     (
-      form_of_field served_field host_body FitsHostEntry (codes "P ") (λ p. host_entries.Served p.0
-          p.1.0 p.1.1) (λ p fits. refl) (λ p fits. (fits.0, fits.1.0, fits.1.1)),
+      form_of_field served_field host_body IsHostEntry (codes "P ") (λ p. host_entries.Served p.0
+          p.1.0 p.1.1) (λ p fits. refl) (λ p fits. ((fits.0, fits.1.0, fits.1.1), tt)),
       tt,
     ),
   ),
 )
 
-host_again : (entry : HostEntry) → FitsHostEntry entry
+host_again : (entry : HostEntry) → IsHostEntry entry
     → read_host_entry (host_body entry) ≡ Some entry
 unfolding read_host_entry behind
-host_again (host_entries.Ask id to pdu) is =
-    rw (asked_field.again (id, (to, pdu)) (is.0, (is.1, is.2))) refl
-host_again (host_entries.Answer id result) is = rw (answer_field.again (id, result) is) refl
+host_again (host_entries.Ask id route pdu) is =
+    rw (asked_field.again (id, (route, pdu)) (is.0.0, ((is.1, is.0.1), is.0.2))) refl
+host_again (host_entries.Answer id result) is = rw (answer_field.again (id, result) is.0) refl
 host_again (host_entries.Served id request reply) is =
-    rw (served_field.again (id, (request, reply)) (is.0, (is.1, is.2))) refl
+    rw (served_field.again (id, (request, reply)) (is.0.0, (is.0.1, is.0.2))) refl
 
-host_lie : (entry : HostEntry) → FitsHostEntry entry → all_lie 32 102 (host_body entry) ≡ true
-host_lie (host_entries.Ask id to pdu) is = asked_field.lie (id, (to, pdu)) (is.0, (is.1, is.2))
-host_lie (host_entries.Answer id result) is = answer_field.lie (id, result) is
+host_lie : (entry : HostEntry) → IsHostEntry entry → all_lie 32 102 (host_body entry) ≡ true
+host_lie (host_entries.Ask id route pdu) is =
+    asked_field.lie (id, (route, pdu)) (is.0.0, ((is.1, is.0.1), is.0.2))
+host_lie (host_entries.Answer id result) is = answer_field.lie (id, result) is.0
 host_lie (host_entries.Served id request reply) is =
-    served_field.lie (id, (request, reply)) (is.0, (is.1, is.2))
+    served_field.lie (id, (request, reply)) (is.0.0, (is.0.1, is.0.2))
 
-pub host_field : IsField read_host_entry host_body FitsHostEntry 32 102
+pub host_field : IsField read_host_entry host_body IsHostEntry 32 102
 unfolding read_host_entry
 host_field = record {
-  takes = λ line entry e. first_takes host_body FitsHostEntry host_forms None line entry
-      host_kinds_take (none_some ((line ≡ host_body entry) × FitsHostEntry entry) entry) e;
+  takes = λ line entry e. first_takes host_body IsHostEntry host_forms None line entry
+      host_kinds_take (none_some ((line ≡ host_body entry) × IsHostEntry entry) entry) e;
   again = host_again;
   lie = host_lie;
 }

@@ -23,7 +23,8 @@ use Rattle.journal_text.specs.declared.draft.Head.TheVariants as heads
 use Rattle.journal_text.specs.declared.draft.Draft.{Draft}
 use Rattle.journal_text.specs.declared.draft.Draft.TheVariants as drafts
 use Rattle.journal_text.specs.Lines.{controller_line, host_line, ring_line}
-use Rattle.journal_text.specs.Journal.{IsPlainEntry, IsPlainRing, controller_section, host_section}
+use Rattle.journal_text.specs.Journal.{IsPlainEntry, IsPlainHostEntry, IsPlainRing}
+use Rattle.journal_text.specs.Journal.{controller_section, host_section}
 use Rattle.journal_text.specs.Journal.{journal}
 use Rattle.journal_text.specs.Sizes.{FitsLog, FitsHostLog, FitsEntry, FitsHostEntry, FitsRingEntry}
 use Rattle.journal_text.specs.Fronts.{IsLine, with_feed}
@@ -40,7 +41,8 @@ use Rattle.journal_text.proofs.StationLines.{entry_body, entry_ended, entry_fiel
 use Rattle.journal_text.proofs.StationLines.{host_ended, host_field}
 use Rattle.journal_text.proofs.RingLines.{ring_body, ring_ended, ring_field}
 use Rattle.journal_text.proofs.Steps.{controller_node, host_node, Rises, rises_next, all_back}
-use Rattle.journal_text.proofs.Steps.{PlainLog, IsHistory, journal_parts, ring_part, host_part}
+use Rattle.journal_text.proofs.Steps.{PlainHostLog, PlainLog, IsHistory, journal_parts, ring_part}
+use Rattle.journal_text.proofs.Steps.{host_part}
 use Rattle.journal_text.proofs.Steps.{with_more, host_with_more, Goes}
 use Rattle.journal_text.proofs.StepTakes.{head_body, FitsHead, head_field}
 
@@ -339,13 +341,16 @@ host_next controllers done log joint line tail (entry ∷ more) logs history is 
     let all = subst (All FitsHostLog) hs history.hosts.fit in
     let fits = all_at FitsHostEntry log.entries entry more
     (all_at FitsHostLog done (host_with_more log (entry ∷ more)) logs all).1 in
+    let plains = subst (All PlainHostLog) hs history.hosts.plain in
+    let plain = all_at IsPlainHostEntry log.entries entry more
+    (all_at PlainHostLog done (host_with_more log (entry ∷ more)) logs plains) in
     let rest = flat_map host_section logs ++ ring_part joint.ring in
     let first = first_line line tail (host_body entry) (flat_map host_line more ++ rest) is
-    (host_field.lie entry fits)
+    (host_field.lie entry (fits, plain))
     (e ∙ line_text host_line host_body host_ended entry more rest) in
     let apart : read_head line ≡ None = ap read_head first.0 ∙ host_no_head entry in
     let read : read_host_entry line ≡ Some entry = ap read_host_entry first.0
-    ∙ host_field.again entry fits in
+    ∙ host_field.again entry (fits, plain) in
     record {
       new = drafts.Host controllers done (host_log_with_entry log entry);
       is = rw (apart, read) refl;

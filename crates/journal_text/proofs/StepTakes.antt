@@ -19,7 +19,8 @@ use Rattle.journal_text.specs.declared.draft.Head.TheVariants as heads
 use Rattle.journal_text.specs.declared.draft.Draft.{Draft}
 use Rattle.journal_text.specs.declared.draft.Draft.TheVariants as drafts
 use Rattle.journal_text.specs.Lines.{controller_line, host_line, ring_line}
-use Rattle.journal_text.specs.Journal.{IsPlainEntry, IsPlainRing, controller_section, host_section}
+use Rattle.journal_text.specs.Journal.{IsPlainEntry, IsPlainHostEntry, IsPlainRing}
+use Rattle.journal_text.specs.Journal.{controller_section, host_section}
 use Rattle.journal_text.specs.Sizes.{IsSmall, FitsLog, FitsHostLog, FitsEntry, FitsHostEntry}
 use Rattle.journal_text.specs.Sizes.{FitsRingEntry}
 use Rattle.journal_text.specs.Fronts.{with_feed}
@@ -34,11 +35,12 @@ use Rattle.journal_text.proofs.Ranges.{chosen, all_lie}
 use Rattle.journal_text.proofs.Cuts.{some_is, bind_some, none_some, text_is}
 use Rattle.journal_text.proofs.ReadLaws.{IsField, IsForm, lie_in, form_of_field, first_takes}
 use Rattle.journal_text.proofs.Numbers.{small_field}
-use Rattle.journal_text.proofs.StationLines.{IsEntry, entry_ended, entry_field, host_ended}
-use Rattle.journal_text.proofs.StationLines.{host_field}
+use Rattle.journal_text.proofs.StationLines.{IsEntry, IsHostEntry, entry_ended, entry_field}
+use Rattle.journal_text.proofs.StationLines.{host_ended, host_field}
 use Rattle.journal_text.proofs.RingLines.{ring_ended, ring_field}
 use Rattle.journal_text.proofs.Steps.{controller_node, host_node, Rises, rises_more, same_last}
-use Rattle.journal_text.proofs.Steps.{all_front, all_back, PlainLog, AreControllers, AreHosts}
+use Rattle.journal_text.proofs.Steps.{all_front, all_back, PlainHostLog, PlainLog, AreControllers}
+use Rattle.journal_text.proofs.Steps.{AreHosts}
 use Rattle.journal_text.proofs.Steps.{IsHistory, text_of, IsGood, journal_parts, no_logs, no_hosts}
 use Rattle.journal_text.proofs.Steps.{no_ring}
 
@@ -161,6 +163,8 @@ one_host node less = record {
   rise = tt;
   fit = All-cons FitsHostLog (new_host_log node) [] (less, All-nil FitsHostEntry)
       (All-nil FitsHostLog);
+  plain = All-cons PlainHostLog (new_host_log node) [] (All-nil IsPlainHostEntry)
+      (All-nil PlainHostLog);
 }
 
 more_logs : (done : List ControllerLog) (log : ControllerLog) (node : ℕ)
@@ -179,6 +183,8 @@ more_hosts done log node are above less = record {
   rise = rises_more host_node done log (new_host_log node) are.rise above;
   fit = All-push FitsHostLog (done ++ log ∷ []) (new_host_log node) are.fit
       (less, All-nil FitsHostEntry);
+  plain = All-push PlainHostLog (done ++ log ∷ []) (new_host_log node) are.plain
+      (All-nil IsPlainHostEntry);
 }
 
 more_entries : (done : List ControllerLog) (log : ControllerLog) (entry : Entry)
@@ -197,16 +203,20 @@ more_entries done log entry are is =
     }
 
 more_host_entries : (done : List HostLog) (log : HostLog) (entry : HostEntry)
-    → AreHosts (done ++ log ∷ []) → FitsHostEntry entry
+    → AreHosts (done ++ log ∷ []) → IsHostEntry entry
     → AreHosts (done ++ host_log_with_entry log entry ∷ [])
 more_host_entries done log entry are is =
     let fit = All-head FitsHostLog log [] (all_back FitsHostLog done (log ∷ []) are.fit) in
+    let plain = All-head PlainHostLog log [] (all_back PlainHostLog done (log ∷ []) are.plain) in
     record {
       rise = subst Rises
           (same_last host_node done log (host_log_with_entry log entry) refl) are.rise;
       fit = All-push FitsHostLog done (host_log_with_entry log entry)
           (all_front FitsHostLog done (log ∷ []) are.fit)
-          (fit.0, All-push FitsHostEntry log.entries entry fit.1 is);
+          (fit.0, All-push FitsHostEntry log.entries entry fit.1 is.0);
+      plain = All-push PlainHostLog done (host_log_with_entry log entry)
+          (all_front PlainHostLog done (log ∷ []) are.plain)
+          (All-push IsPlainHostEntry log.entries entry plain is.1);
     }
 
 -- the first line, and the first section

@@ -15,7 +15,8 @@ use Rattle.joint_history.specs.declared.joint.Joint.{Joint}
 use Rattle.journal_text.specs.declared.draft.Draft.{Draft}
 use Rattle.journal_text.specs.declared.draft.Draft.TheVariants as drafts
 use Rattle.journal_text.specs.Lines.{controller_line, host_line, ring_line}
-use Rattle.journal_text.specs.Journal.{IsPlainEntry, IsPlainRing, controller_section, host_section}
+use Rattle.journal_text.specs.Journal.{IsPlainEntry, IsPlainHostEntry, IsPlainRing}
+use Rattle.journal_text.specs.Journal.{controller_section, host_section}
 use Rattle.journal_text.specs.Journal.{journal}
 use Rattle.journal_text.specs.Sizes.{FitsLog, FitsHostLog, FitsRingEntry}
 use Rattle.journal_text.specs.Fronts.{IsFront, IsJournalOf}
@@ -83,6 +84,9 @@ module _ {X : Type 0} (P : X → Type 0) where
 abbrev pub PlainLog : ControllerLog → Type 0
 PlainLog log = All IsPlainEntry log.entries
 
+abbrev pub PlainHostLog : HostLog → Type 0
+PlainHostLog log = All IsPlainHostEntry log.entries
+
 pub record AreControllers (logs : List ControllerLog) : Type 0 where
   pub rise : Rises (map controller_node logs)
   pub fit : All FitsLog logs
@@ -91,6 +95,7 @@ pub record AreControllers (logs : List ControllerLog) : Type 0 where
 pub record AreHosts (logs : List HostLog) : Type 0 where
   pub rise : Rises (map host_node logs)
   pub fit : All FitsHostLog logs
+  pub plain : All PlainHostLog logs
 
 pub record AreRing (entries : List RingEntry) : Type 0 where
   pub fit : All FitsRingEntry entries
@@ -108,8 +113,11 @@ history_of joint bytes is = record {
     fit = is.fits.controllers;
     plain = is.plain.entries;
   };
-  hosts =
-      record { rise = rises_by (map host_node joint.hosts) is.plain.hosts; fit = is.fits.hosts };
+  hosts = record {
+    rise = rises_by (map host_node joint.hosts) is.plain.hosts;
+    fit = is.fits.hosts;
+    plain = is.plain.asks;
+  };
   ring = record { fit = is.fits.ring; plain = is.plain.ring };
 }
 
@@ -120,6 +128,7 @@ journal_of joint bytes is text = record {
     controllers = rises_at (map controller_node joint.controllers) is.controllers.rise;
     hosts = rises_at (map host_node joint.hosts) is.hosts.rise;
     entries = is.controllers.plain;
+    asks = is.hosts.plain;
     ring = is.ring.plain;
   };
   fits = record { controllers = is.controllers.fit; hosts = is.hosts.fit; ring = is.ring.fit };
@@ -168,7 +177,7 @@ pub no_logs : AreControllers []
 no_logs = record { rise = tt; fit = All-nil FitsLog; plain = All-nil PlainLog }
 
 pub no_hosts : AreHosts []
-no_hosts = record { rise = tt; fit = All-nil FitsHostLog }
+no_hosts = record { rise = tt; fit = All-nil FitsHostLog; plain = All-nil PlainHostLog }
 
 pub no_ring : AreRing []
 no_ring = record { fit = All-nil FitsRingEntry; plain = All-nil IsPlainRing }

@@ -1,7 +1,7 @@
 -- Numbers, names, words and bytes as a journal has them. This project's own.
-use Rattle.std.specs.Prelude.{codes, false, ℕ, ◌/◌, ◌%◌, List, [], ◌∷◌, ◌++◌}
+use Rattle.std.specs.Prelude.{codes, false, ℕ, ◌/◌, ◌%◌, List, [], ◌∷◌, ◌++◌, map}
 use Rattle.std.specs.Fmt.{decimal, digits}
-use Rattle.std.specs.List.{flat_map}
+use Rattle.std.specs.List.{flat_map, join_with_byte}
 use Rattle.mstr_block.specs.declared.call.CallId.{CallId}
 use Rattle.mstr_block.specs.declared.call.MstrResult.{MstrResult}
 use Rattle.mstr_block.specs.declared.call.MstrResult.TheVariants.{Good, Bad}
@@ -32,6 +32,14 @@ hex_words (word ∷ words) = flat_map hex_word (word ∷ words)
 -- The name of a call: who calls, the path, and the number there.
 abbrev pub id_text : CallId → List ℕ
 id_text id = decimal id.node ++ codes "." ++ decimal id.path ++ codes "." ++ decimal id.seq
+
+-- A route: its addresses, with points between them.
+abbrev pub route_text : List ℕ → List ℕ
+route_text route = join_with_byte 46 (map decimal route)
+
+-- An address behind a point.
+abbrev pub behind_point : ℕ → List ℕ
+behind_point address = codes "." ++ decimal address
 
 -- What is asked of a node's own port.
 abbrev pub op_text : LocalOp → List ℕ

@@ -15,6 +15,8 @@ use Rattle.controller_core.specs.declared.call.CallKind.{CallKind}
 use Rattle.controller_core.specs.declared.call.CallKind.TheVariants.{Net, Local}
 use Rattle.controller_core.specs.declared.entry.Entry.{Entry}
 use Rattle.controller_core.specs.declared.entry.Entry.TheVariants.{Collect}
+use Rattle.host_port.specs.declared.entry.HostEntry.{HostEntry}
+use Rattle.host_port.specs.declared.entry.HostEntry.TheVariants.{Ask}
 use Rattle.joint_history.specs.declared.joint.ControllerLog.{ControllerLog}
 use Rattle.joint_history.specs.declared.joint.HostLog.{HostLog}
 use Rattle.joint_history.specs.declared.joint.Joint.{Joint}
@@ -35,14 +37,15 @@ journal joint =
     ++ flat_map host_section joint.hosts
     ++ codes "R\n" ++ flat_map ring_line joint.ring ++ codes "%END\n"
 
--- A call that a controller hands on asks nothing for another node.
+-- What a controller hands on to its own port asks nothing for another node.
 abbrev pub IsOwnOp : LocalOp → Type 0
 IsOwnOp RemoteGet = ⊥
 IsOwnOp RemoteClear = ⊥
 IsOwnOp _ = Unit {0}
 
+-- A call to another node has a route with an address.
 abbrev pub IsPlainKind : CallKind → Type 0
-IsPlainKind (Net to pdu) = Unit {0}
+IsPlainKind (Net route pdu) = route ≢ []
 IsPlainKind (Local op) = IsOwnOp op
 
 abbrev pub IsPlainCall : Call → Type 0
@@ -53,15 +56,24 @@ abbrev pub IsPlainEntry : Entry → Type 0
 IsPlainEntry (Collect calls) = (calls ≢ []) × All IsPlainCall calls
 IsPlainEntry _ = Unit {0}
 
--- A Reply that is posted goes to the node that asked.
+-- So has the request of a host.
+abbrev pub IsPlainHostEntry : HostEntry → Type 0
+IsPlainHostEntry (Ask id route pdu) = route ≢ []
+IsPlainHostEntry _ = Unit {0}
+
+-- A Reply goes to the node that asked, and no further.
+abbrev pub IsPlainReply : Frame → Type 0
+IsPlainReply frame = (frame.to ≡ frame.id.node) × (frame.rest ≡ [])
+
+-- Of a frame that is posted, that is all.
 abbrev pub IsPlainFrame : FrameKind → Frame → Type 0
 IsPlainFrame Request frame = Unit {0}
-IsPlainFrame Reply frame = frame.to ≡ frame.id.node
+IsPlainFrame Reply frame = IsPlainReply frame
 
--- A Request is taken by its target, and a Reply by the node that asked.
+-- A Request is taken by its target.
 abbrev pub IsPlainGot : ℕ → FrameKind → Frame → Type 0
 IsPlainGot node Request frame = frame.to ≡ node
-IsPlainGot node Reply frame = frame.to ≡ frame.id.node
+IsPlainGot node Reply frame = IsPlainReply frame
 
 abbrev pub IsPlainRing : RingEntry → Type 0
 IsPlainRing (Post node frame) = IsPlainFrame frame.kind frame
@@ -73,4 +85,5 @@ pub record IsPlain (joint : Joint) : Type 0 where
   pub controllers : IsStrictlyIncreasing (map (λ log. log.node) joint.controllers)
   pub hosts : IsStrictlyIncreasing (map (λ log. log.node) joint.hosts)
   pub entries : All (λ log. All IsPlainEntry log.entries) joint.controllers
+  pub asks : All (λ log. All IsPlainHostEntry log.entries) joint.hosts
   pub ring : All IsPlainRing joint.ring

@@ -1,8 +1,10 @@
 -- The lines of a journal, one of each entry. This project's own.
-use Rattle.std.specs.Prelude.{codes, Bool, true, false, ℕ, List, ◌++◌}
+use Rattle.std.specs.Prelude.{codes, Bool, true, false, ℕ, List, [], ◌∷◌, ◌++◌}
 use Rattle.std.specs.Fmt.{decimal}
 use Rattle.std.specs.List.{flat_map}
 use Rattle.mstr_block.specs.declared.call.CallId.{CallId}
+use Rattle.ring_core.specs.Words.{frame_route}
+use Rattle.ring_core.specs.declared.frame.Frame.{Frame}
 use Rattle.ring_core.specs.declared.frame.FrameKind.{FrameKind}
 use Rattle.ring_core.specs.declared.frame.FrameKind.TheVariants.{Request, Reply}
 use Rattle.ring_core.specs.declared.entry.Heard.{Heard}
@@ -21,11 +23,11 @@ use Rattle.host_port.specs.declared.entry.HostResult.TheVariants as host_results
 use Rattle.host_port.specs.declared.entry.HostEntry.{HostEntry}
 use Rattle.host_port.specs.declared.entry.HostEntry.TheVariants as host_entries
 use Rattle.journal_text.specs.Fields.{hex_word, hex_bytes, hex_words, id_text, op_text}
-use Rattle.journal_text.specs.Fields.{call_result_text}
+use Rattle.journal_text.specs.Fields.{call_result_text, route_text}
 
--- A call that a controller hands on: to another node, or to its own port.
+-- A call that a controller hands on: by a route to another node, or to its own port.
 abbrev pub kind_text : CallKind → List ℕ
-kind_text (Net to pdu) = decimal to ++ codes ":" ++ hex_bytes pdu
+kind_text (Net route pdu) = route_text route ++ codes ":" ++ hex_bytes pdu
 kind_text (Local op) = op_text op
 
 abbrev pub call_text : Call → List ℕ
@@ -59,26 +61,37 @@ abbrev pub answer_text : HostResult → List ℕ
 answer_text (host_results.Reply pdu) = codes "R " ++ hex_bytes pdu
 answer_text (host_results.Bad word) = codes "B " ++ hex_word word
 
--- A request of a host and its name, its target and its bytes.
-abbrev pub request_text : CallId → ℕ → List ℕ → List ℕ
-request_text id to pdu =
-    codes "Q " ++ id_text id ++ codes " " ++ decimal to ++ codes " " ++ hex_bytes pdu
+-- A request to another node: its name, its route and its bytes.
+abbrev pub request_text : CallId → List ℕ → List ℕ → List ℕ
+request_text id route pdu =
+    codes "Q " ++ id_text id ++ codes " " ++ route_text route ++ codes " " ++ hex_bytes pdu
 
 -- An event of a host.
 abbrev pub host_line : HostEntry → List ℕ
-host_line (host_entries.Ask id to pdu) = request_text id to pdu ++ codes "\n"
+host_line (host_entries.Ask id route pdu) = request_text id route pdu ++ codes "\n"
 host_line (host_entries.Answer id result) =
     codes "A " ++ id_text id ++ codes " " ++ answer_text result ++ codes "\n"
 host_line (host_entries.Served id request reply) = peer_line id request reply
 
--- A frame that is posted, and one that is taken: the node that takes a Request is its target.
-abbrev pub sent_text : FrameKind → CallId → ℕ → List ℕ → List ℕ
-sent_text Request id to pdu = request_text id to pdu
-sent_text Reply id to pdu = codes "R " ++ id_text id ++ codes " " ++ hex_bytes pdu
+-- A frame by its letter, its name and its bytes.
+abbrev pub named_text : List ℕ → Frame → List ℕ
+named_text letter frame =
+    letter ++ codes " " ++ id_text frame.id ++ codes " " ++ hex_bytes frame.pdu
 
-abbrev pub got_text : FrameKind → CallId → List ℕ → List ℕ
-got_text Request id pdu = codes "Q " ++ id_text id ++ codes " " ++ hex_bytes pdu
-got_text Reply id pdu = codes "R " ++ id_text id ++ codes " " ++ hex_bytes pdu
+-- A frame that is posted: the route of a Request is its target, and the addresses behind that.
+abbrev pub sent_text : FrameKind → Frame → List ℕ
+sent_text Request frame = request_text frame.id (frame_route frame) frame.pdu
+sent_text Reply frame = named_text (codes "R") frame
+
+-- The addresses to which a frame is still to go.
+abbrev pub onward_text : List ℕ → List ℕ
+onward_text [] = []
+onward_text (to ∷ rest) = codes " " ++ route_text (to ∷ rest)
+
+-- A frame that is taken: the node that takes a Request is its target.
+abbrev pub got_text : FrameKind → Frame → List ℕ
+got_text Request frame = named_text (codes "Q") frame ++ onward_text frame.rest
+got_text Reply frame = named_text (codes "R") frame
 
 -- What a sender is told, why a node leaves, and whether it is done.
 abbrev pub heard_text : Heard → List ℕ
@@ -98,13 +111,11 @@ done_text false = codes "0"
 -- An entry of the ring.
 abbrev pub ring_line : RingEntry → List ℕ
 ring_line (ring.Post node frame) =
-    codes "PO " ++ decimal node ++ codes " " ++ sent_text frame.kind frame.id frame.to frame.pdu
-    ++ codes "\n"
+    codes "PO " ++ decimal node ++ codes " " ++ sent_text frame.kind frame ++ codes "\n"
 ring_line (ring.Send node heard) =
     codes "SE " ++ decimal node ++ codes " " ++ heard_text heard ++ codes "\n"
 ring_line (ring.Take node frame) =
-    codes "TA " ++ decimal node ++ codes " " ++ got_text frame.kind frame.id frame.pdu
-    ++ codes "\n"
+    codes "TA " ++ decimal node ++ codes " " ++ got_text frame.kind frame ++ codes "\n"
 ring_line (ring.Local node id op result) =
     codes "LO " ++ decimal node ++ codes " " ++ id_text id ++ codes " " ++ op_text op
     ++ codes " " ++ call_result_text result ++ codes "\n"

@@ -1,7 +1,6 @@
 -- What the lines of a journal are read as. This project's own.
-use Rattle.std.specs.Prelude.{ℕ, ◌==◌, Bool, true, false, if◌then◌else◌, codes, List, [], ◌∷◌}
+use Rattle.std.specs.Prelude.{ℕ, Bool, true, false, if◌then◌else◌, codes, List, [], ◌∷◌}
 use Rattle.std.specs.Prelude.{slice_index, Option, Some, None}
-use Rattle.std.specs.List.{slice_split}
 use Rattle.std.specs.Str.{bytes_eq}
 use Rattle.plant_types.specs.Numerals.{is_digit}
 use Rattle.mstr_block.specs.declared.call.CallId.{CallId}
@@ -27,7 +26,8 @@ use Rattle.host_port.specs.declared.entry.HostResult.{HostResult}
 use Rattle.host_port.specs.declared.entry.HostResult.TheVariants as host_results
 use Rattle.host_port.specs.declared.entry.HostEntry.{HostEntry}
 use Rattle.host_port.specs.declared.entry.HostEntry.TheVariants as host_entries
-use Rattle.journal_text.specs.Reading.{◌>>=◌, Form, read_first, read_as, read_pair, read_small}
+use Rattle.journal_text.specs.Reading.{◌>>=◌, Form, cut, read_or, read_first, read_as, read_pair}
+use Rattle.journal_text.specs.Reading.{read_parts, read_route, read_way, read_small}
 use Rattle.journal_text.specs.Reading.{read_word, read_id, read_pdu, read_hex_words, read_hex_word}
 use Rattle.journal_text.specs.Reading.{read_block, read_long}
 
@@ -69,7 +69,7 @@ read_result text = read_first result_forms None text
 
 -- A call that a controller hands on: to another node where it begins with a digit.
 abbrev pub read_net_kind : List ℕ → Option CallKind
-read_net_kind text = read_as (λ parts. Net parts.0 parts.1) (read_pair read_small read_pdu 58) text
+read_net_kind text = read_as (λ parts. Net parts.0 parts.1) (read_pair read_route read_pdu 58) text
 
 abbrev pub read_local_kind : List ℕ → Option CallKind
 read_local_kind text = read_as (λ op. Local op) read_own_op text
@@ -84,21 +84,19 @@ unfoldable pub read_call : List ℕ → Option Call
 read_call text = read_as call_from (read_pair read_id read_kind 61) text
 
 -- Calls, separated by one space.
-abbrev pub read_each : {V : Type 0} → (List ℕ → Option V) → List (List ℕ) → Option (List V)
-read_each read [] = Some []
-read_each read (text ∷ texts) =
-    read text >>= λ value. read_each read texts >>= λ values. Some (value ∷ values)
-
 unfoldable pub read_calls : List ℕ → Option (List Call)
-read_calls text = read_each read_call (slice_split (λ byte. byte == 32) text)
+read_calls text = read_parts read_call 32 text
 
--- A request that was served with its reply, one with its target, and a request or a reply alone:
--- each behind its name.
+-- A request that was served with its reply, one with its route, one that is posted, and a request
+-- or a reply alone: each behind its name.
 unfoldable pub read_served : List ℕ → Option (CallId × (List ℕ × List ℕ))
 read_served text = read_pair read_id (read_pair read_pdu read_pdu 32) 32 text
 
-unfoldable pub read_asked : List ℕ → Option (CallId × (ℕ × List ℕ))
-read_asked text = read_pair read_id (read_pair read_small read_pdu 32) 32 text
+unfoldable pub read_asked : List ℕ → Option (CallId × (List ℕ × List ℕ))
+read_asked text = read_pair read_id (read_pair read_route read_pdu 32) 32 text
+
+unfoldable pub read_posted : List ℕ → Option (CallId × ((ℕ × List ℕ) × List ℕ))
+read_posted text = read_pair read_id (read_pair read_way read_pdu 32) 32 text
 
 unfoldable pub read_named : List ℕ → Option (CallId × List ℕ)
 read_named text = read_pair read_id read_pdu 32 text
@@ -170,40 +168,70 @@ read_host_entry line = read_first host_forms None line
 
 -- The frames that are posted and taken: a Reply goes to the node that asked, and a Request is taken
 -- by its target.
-abbrev pub sent_request : CallId × (ℕ × List ℕ) → Frame
-sent_request parts =
-    record { kind = Request; to = parts.1.0; id = parts.0; pdu = parts.1.1 }
+abbrev pub sent_request : CallId × ((ℕ × List ℕ) × List ℕ) → Frame
+sent_request parts = record {
+  kind = Request;
+  to = parts.1.0.0;
+  rest = parts.1.0.1;
+  id = parts.0;
+  pdu = parts.1.1;
+}
 
 abbrev pub sent_reply : CallId × List ℕ → Frame
-sent_reply parts = record { kind = Reply; to = parts.0.node; id = parts.0; pdu = parts.1 }
+sent_reply parts =
+    record { kind = Reply; to = parts.0.node; rest = []; id = parts.0; pdu = parts.1 }
 
 abbrev pub sent_forms : List (Form Frame)
 sent_forms =
-    (codes "Q ", read_as sent_request read_asked) ∷ (codes "R ", read_as sent_reply read_named) ∷ []
+    (codes "Q ", read_as sent_request read_posted)
+    ∷ (codes "R ", read_as sent_reply read_named)
+    ∷ []
 
 unfoldable pub read_sent : List ℕ → Option Frame
 read_sent text = read_first sent_forms None text
 
-abbrev pub got_from : FrameKind → CallId × List ℕ → FrameKind × (CallId × List ℕ)
-got_from kind named = (kind, named)
+-- The bytes of a Request that is taken, and the route on which it is still to go, if that stands
+-- behind them.
+abbrev pub read_going : List ℕ × List ℕ → Option (List ℕ × List ℕ)
+read_going parts = do
+  pdu ← read_pdu parts.0
+  rest ← read_route parts.1
+  Some (pdu, rest)
 
-abbrev pub got_forms : List (Form (FrameKind × (CallId × List ℕ)))
+unfoldable pub read_onward : List ℕ → Option (List ℕ × List ℕ)
+read_onward text = read_or (cut 32 text) read_going (read_as (λ pdu. (pdu, [])) read_pdu text)
+
+-- A frame that is taken, but for its target.
+abbrev pub Got : Type 0
+Got = FrameKind × (CallId × (List ℕ × List ℕ))
+
+abbrev pub got_request : CallId × (List ℕ × List ℕ) → Got
+got_request parts = (Request, parts)
+
+abbrev pub got_reply : CallId × List ℕ → Got
+got_reply named = (Reply, (named.0, (named.1, [])))
+
+abbrev pub got_forms : List (Form Got)
 got_forms =
-    (codes "Q ", read_as (got_from Request) read_named)
-    ∷ (codes "R ", read_as (got_from Reply) read_named)
+    (codes "Q ", read_as got_request (read_pair read_id read_onward 32))
+    ∷ (codes "R ", read_as got_reply read_named)
     ∷ []
 
-unfoldable pub read_got : List ℕ → Option (FrameKind × (CallId × List ℕ))
+unfoldable pub read_got : List ℕ → Option Got
 read_got text = read_first got_forms None text
 
 abbrev pub target_of : FrameKind → ℕ → CallId → ℕ
 target_of Request node id = node
 target_of Reply node id = id.node
 
-abbrev pub taken : ℕ → FrameKind × (CallId × List ℕ) → RingEntry
-taken node got =
-    ring.Take node
-    (record { kind = got.0; to = target_of got.0 node got.1.0; id = got.1.0; pdu = got.1.1 })
+abbrev pub taken : ℕ → Got → RingEntry
+taken node got = ring.Take node (record {
+  kind = got.0;
+  to = target_of got.0 node got.1.0;
+  rest = got.1.1.1;
+  id = got.1.0;
+  pdu = got.1.1.0;
+})
 
 -- What a sender was told, why a node leaves, and whether it is done.
 unfoldable pub read_heard : List ℕ → Option Heard

@@ -2,10 +2,11 @@
 use Rattle.std.specs.Prelude.{◌≡◌, ℕ, ◌+◌, ◌*◌, ◌==◌, ◌^◌, ◌&&◌, Bool, not, nat_le, nat_lt}
 use Rattle.std.specs.Prelude.{if◌then◌else◌, codes, List, [], ◌∷◌, length, Option, Some, None}
 use Rattle.std.specs.Prelude.{Result, Ok, Err}
-use Rattle.std.specs.List.{list_all}
+use Rattle.std.specs.List.{list_all, slice_split}
 use Rattle.std.specs.Str.{bytes_eq}
 use Rattle.hex.specs.Hex.{decode_of}
 use Rattle.plant_types.specs.Numerals.{value_of, is_numeral_up_to}
+use Rattle.plant_types.specs.Routes.{route_limit}
 use Rattle.plant_types.specs.Words.{pdu_of, most_block_words}
 use Rattle.mstr_block.specs.declared.call.CallId.{CallId}
 use Rattle.journal_text.specs.declared.cutting.LineFault.{LineFault}
@@ -39,9 +40,9 @@ behind [] text = Some text
 behind (byte ∷ front) [] = None
 behind (byte ∷ front) (first ∷ text) = if first == byte then behind front text else None
 
--- What is read behind a prefix, or else otherwise; and behind the first prefix of a table.
-abbrev pub read_or : {V : Type 0} → Option (List ℕ) → (List ℕ → Option V) → Option V → Option V
-read_or (Some text) read other = read text
+-- What is read of a value, or else otherwise; and behind the first prefix of a table.
+abbrev pub read_or : {A V : Type 0} → Option A → (A → Option V) → Option V → Option V
+read_or (Some value) read other = read value
 read_or None read other = other
 
 abbrev pub Form : Type 0 → Type 0
@@ -61,6 +62,15 @@ abbrev pub read_pair : {A B : Type 0} → (List ℕ → Option A) → (List ℕ 
 read_pair first second at text =
     cut at text >>= λ parts. first parts.0 >>= λ one. second parts.1 >>= λ other.
     Some (one, other)
+
+-- Values with a byte between each two.
+abbrev pub read_each : {V : Type 0} → (List ℕ → Option V) → List (List ℕ) → Option (List V)
+read_each read [] = Some []
+read_each read (text ∷ texts) =
+    read text >>= λ value. read_each read texts >>= λ values. Some (value ∷ values)
+
+abbrev pub read_parts : {V : Type 0} → (List ℕ → Option V) → ℕ → List ℕ → Option (List V)
+read_parts read at text = read_each read (slice_split (λ byte. byte == at) text)
 
 -- A number in decimal digits, at most ten, without a leading zero.
 abbrev pub read_number : ℕ → List ℕ → Option ℕ
@@ -82,6 +92,24 @@ id_from parts = record { node = parts.0; path = parts.1.0; seq = parts.1.1 }
 
 unfoldable pub read_id : List ℕ → Option CallId
 read_id text = read_as id_from (read_pair read_small (read_pair read_small read_long 46) 46) text
+
+-- Addresses with points between them, and how many of them a route can have.
+unfoldable pub read_addresses : List ℕ → Option (List ℕ)
+read_addresses text = read_parts read_small 46 text
+
+abbrev pub if_route : List ℕ → Option (List ℕ)
+if_route addresses = if nat_le (length addresses) route_limit then Some addresses else None
+
+unfoldable pub read_route : List ℕ → Option (List ℕ)
+read_route text = read_addresses text >>= if_route
+
+-- Where a frame goes, and a route from there on.
+abbrev pub way_from : List ℕ → Option (ℕ × List ℕ)
+way_from [] = None
+way_from (to ∷ rest) = if_route rest >>= λ route. Some (to, route)
+
+unfoldable pub read_way : List ℕ → Option (ℕ × List ℕ)
+read_way text = read_addresses text >>= way_from
 
 -- Bytes in hexadecimal digits, of which none is a capital.
 abbrev pub is_capital : ℕ → Bool

@@ -1,6 +1,7 @@
 -- What numbers and lists a joint history can have: those of its types. This project's own.
 use Rattle.std.specs.Prelude.{ℕ, ◌^◌, ◌<◌, List}
 use Rattle.std.specs.List.{All}
+use Rattle.plant_types.specs.Routes.{FitsRoute}
 use Rattle.plant_types.specs.Words.{IsPduLength, FitsBlock}
 use Rattle.mstr_block.specs.declared.call.CallId.{CallId}
 use Rattle.mstr_block.specs.declared.call.MstrResult.{MstrResult}
@@ -47,6 +48,11 @@ pub record AreBlockWords (words : List ℕ) : Type 0 where
   pub count : FitsBlock words
   pub each : AreWords words
 
+-- A route has at most five addresses.
+pub record IsRoute (route : List ℕ) : Type 0 where
+  pub count : FitsRoute route
+  pub each : All IsSmall route
+
 -- The name of a call.
 pub record IsId (id : CallId) : Type 0 where
   pub node : IsSmall id.node
@@ -65,7 +71,7 @@ FitsResult (Bad word) = IsWord word
 
 -- A call that a controller hands on.
 abbrev pub FitsKind : CallKind → Type 0
-FitsKind (Net to pdu) = IsSmall to × IsPdu pdu
+FitsKind (Net route pdu) = IsRoute route × IsPdu pdu
 FitsKind (Local op) = FitsOp op
 
 abbrev pub FitsCall : Call → Type 0
@@ -87,12 +93,12 @@ FitsAnswer (host_results.Reply pdu) = IsPdu pdu
 FitsAnswer (host_results.Bad word) = IsWord word
 
 abbrev pub FitsHostEntry : HostEntry → Type 0
-FitsHostEntry (host_entries.Ask id to pdu) = IsId id × IsSmall to × IsPdu pdu
+FitsHostEntry (host_entries.Ask id route pdu) = IsId id × IsRoute route × IsPdu pdu
 FitsHostEntry (host_entries.Answer id result) = IsId id × FitsAnswer result
 FitsHostEntry (host_entries.Served id request reply) = IsId id × IsPdu request × IsPdu reply
 
 abbrev pub FitsFrame : Frame → Type 0
-FitsFrame frame = IsSmall frame.to × IsId frame.id × IsPdu frame.pdu
+FitsFrame frame = IsSmall frame.to × IsRoute frame.rest × IsId frame.id × IsPdu frame.pdu
 
 -- Why a node leaves: its power failed so many times.
 abbrev pub FitsCause : LeaveCause → Type 0

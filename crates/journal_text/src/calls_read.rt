@@ -11,10 +11,11 @@ ghost use Rattle.journal_text.specs.ReadLines.{read_result, read_served};
 use crate::cutting::{
     LineFault, behind, cut, has_digit_first, is_text, parted, read_id, read_small, read_word,
 };
+use crate::routes_read::read_route;
 use crate::words_read::{read_block, read_hex_word, read_hex_words, read_pdu};
 use controller_core::{Call, CallKind};
 use mstr_block::{CallId, MstrResult};
-use plant_types::{List, Pdu, Words};
+use plant_types::{List, Pdu, Route, Words};
 use ring_core::LocalOp;
 use std::alloc::Global;
 
@@ -100,10 +101,10 @@ pub(crate) fn read_result(alloc: Global, text: &[u8]) -> Result<MstrResult, Line
 fn read_net_kind(alloc: Global, text: &[u8]) -> Result<CallKind, LineFault>
     ensures { Reads (λ kind. kind) result (read_net_kind text.now) }
 {
-    let (to, pdu) = cut(text, b':')?;
-    let to = read_small(to)?;
+    let (route, pdu) = cut(text, b':')?;
+    let route = read_route(alloc, route)?;
     let pdu = read_pdu(alloc, pdu)?;
-    Ok(CallKind::Net { to, pdu })
+    Ok(CallKind::Net { route, pdu })
 }
 
 fn read_local_kind(alloc: Global, text: &[u8]) -> Result<CallKind, LineFault>
@@ -170,17 +171,17 @@ pub(crate) fn read_served(alloc: Global, text: &[u8]) -> Result<(CallId, Pdu, Pd
     Ok((id, request, reply))
 }
 
-/// A request to another node, with its name and its target.
+/// A request to another node, with its name and its route.
 #[tactic(auto, unfolding(crate::specs::ReadLines::read_asked))]
-pub(crate) fn read_asked(alloc: Global, text: &[u8]) -> Result<(CallId, u8, Pdu), LineFault>
+pub(crate) fn read_asked(alloc: Global, text: &[u8]) -> Result<(CallId, Route, Pdu), LineFault>
     ensures { Reads (λ asked. (asked.0, (asked.1, asked.2))) result (read_asked text.now) }
 {
     let (id, rest) = cut(text, b' ')?;
     let id = read_id(id)?;
-    let (to, pdu) = cut(rest, b' ')?;
-    let to = read_small(to)?;
+    let (route, pdu) = cut(rest, b' ')?;
+    let route = read_route(alloc, route)?;
     let pdu = read_pdu(alloc, pdu)?;
-    Ok((id, to, pdu))
+    Ok((id, route, pdu))
 }
 
 /// A request or a reply, with its name.

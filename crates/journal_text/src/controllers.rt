@@ -3,10 +3,11 @@ ghost use Rattle.std.specs.Prelude.{codes, ◌≡◌, ◌++◌, OnOk, string_byt
 ghost use Rattle.std.specs.List.{flat_map};
 ghost use Rattle.journal_text.specs.Lines.{call_text, controller_line, kind_text, peer_line};
 ghost use Rattle.std.specs.Fmt.{decimal};
-ghost use Rattle.journal_text.specs.Fields.{hex_bytes, hex_words, id_text, call_result_text};
+ghost use Rattle.journal_text.specs.Fields.{call_result_text, hex_bytes, hex_words, id_text};
+ghost use Rattle.journal_text.specs.Fields.{route_text};
 ghost use Rattle.journal_text.specs.Journal.{controller_section};
 
-use crate::fields::{Name, push_bytes, push_op, push_result, push_words};
+use crate::fields::{Name, push_bytes, push_op, push_result, push_route, push_words};
 use controller_core::{Call, CallKind, Entry};
 use joint_history::ControllerLog;
 use mstr_block::{CallId, MstrResult};
@@ -18,8 +19,9 @@ fn push_kind(text: &mut String, kind: &CallKind) -> Result<(), AllocError>
     ensures { OnOk result (string_bytes text.new ≡ string_bytes text.old ++ kind_text kind.now) }
 {
     match kind {
-        CallKind::Net { to, pdu } => {
-            write!(text, "{to}:")?;
+        CallKind::Net { route, pdu } => {
+            push_route(text, *route)?;
+            text.push_str(":")?;
             push_bytes(text, pdu.bytes())
         }
         CallKind::Local(op) => push_op(text, op),

@@ -1,10 +1,11 @@
 //! Numbers, names, words and bytes as a journal has them.
 ghost use Rattle.std.specs.List.{flat_map};
-ghost use Rattle.std.specs.Prelude.{codes, ◌≡◌, ◌++◌, OnOk, Some, string_bytes};
+ghost use Rattle.std.specs.Prelude.{codes, ◌≡◌, ◌∷◌, ◌++◌, OnOk, Some, string_bytes};
 ghost use Rattle.journal_text.specs.Fields.{hex_byte, hex_bytes, hex_word, hex_words, id_text};
-ghost use Rattle.journal_text.specs.Fields.{op_text, call_result_text};
+ghost use Rattle.journal_text.specs.Fields.{behind_point, call_result_text, op_text, route_text};
 
 use mstr_block::{CallId, MstrResult};
+use plant_types::Route;
 use ring_core::LocalOp;
 use std::alloc::AllocError;
 use std::fmt;
@@ -84,6 +85,36 @@ pub(crate) fn push_words(text: &mut String, words: &[u16]) -> Result<(), AllocEr
         text.push_str("-")
     } else {
         push_each_word(text, words)
+    }
+}
+
+/// Addresses, each behind a point.
+fn push_behind(text: &mut String, addresses: &[u8]) -> Result<(), AllocError>
+    ensures { OnOk result (string_bytes text.new ≡ string_bytes text.old
+        ++ flat_map behind_point addresses.now) }
+{
+    for address in addresses.iter() {
+        write!(text, ".{address}")?;
+    }
+    Ok(())
+}
+
+/// A route by its first address and those behind it.
+pub(crate) fn push_way(text: &mut String, to: u8, rest: Route) -> Result<(), AllocError>
+    ensures { OnOk result (string_bytes text.new ≡ string_bytes text.old
+        ++ route_text (to ∷ rest)) }
+{
+    write!(text, "{to}")?;
+    push_behind(text, rest.addresses())?;
+    Ok(())
+}
+
+pub(crate) fn push_route(text: &mut String, route: Route) -> Result<(), AllocError>
+    ensures { OnOk result (string_bytes text.new ≡ string_bytes text.old ++ route_text route) }
+{
+    match route.split_first() {
+        Some((to, rest)) => push_way(text, to, rest),
+        None => Ok(()),
     }
 }
 

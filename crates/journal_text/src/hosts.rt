@@ -1,16 +1,16 @@
 //! The section of a host.
 ghost use Rattle.std.specs.Prelude.{codes, ◌≡◌, ◌++◌, OnOk, string_bytes};
 ghost use Rattle.std.specs.List.{flat_map};
-ghost use Rattle.journal_text.specs.Fields.{id_text};
+ghost use Rattle.journal_text.specs.Fields.{hex_bytes, id_text, route_text};
 ghost use Rattle.journal_text.specs.Lines.{answer_text, host_line, request_text};
 ghost use Rattle.journal_text.specs.Journal.{host_section};
 
 use crate::controllers::push_peer;
-use crate::fields::{HexWord, Name, push_bytes};
+use crate::fields::{HexWord, Name, push_bytes, push_route};
 use host_port::{HostEntry, HostResult};
 use joint_history::HostLog;
 use mstr_block::CallId;
-use plant_types::Pdu;
+use plant_types::{Pdu, Route};
 use std::alloc::AllocError;
 use std::fmt::Write;
 
@@ -30,25 +30,15 @@ fn push_outcome(text: &mut String, outcome: &HostResult) -> Result<(), AllocErro
     }
 }
 
-pub(crate) fn push_request(
-    text: &mut String,
-    id: CallId,
-    to: u8,
-    pdu: &Pdu,
-) -> Result<(), AllocError>
+fn push_ask(text: &mut String, id: CallId, route: Route, pdu: &Pdu) -> Result<(), AllocError>
     ensures { OnOk result (string_bytes text.new ≡ string_bytes text.old
-        ++ request_text id to pdu.now) }
+        ++ (request_text id route pdu.now ++ codes "\n")) }
 {
     let id = Name(id);
-    write!(text, "Q {id} {to} ")?;
-    push_bytes(text, pdu.bytes())
-}
-
-fn push_ask(text: &mut String, id: CallId, to: u8, pdu: &Pdu) -> Result<(), AllocError>
-    ensures { OnOk result (string_bytes text.new ≡ string_bytes text.old
-        ++ (request_text id to pdu.now ++ codes "\n")) }
-{
-    push_request(text, id, to, pdu)?;
+    write!(text, "Q {id} ")?;
+    push_route(text, route)?;
+    text.push_str(" ")?;
+    push_bytes(text, pdu.bytes())?;
     text.push_str("\n")
 }
 
@@ -66,7 +56,7 @@ fn push_entry(text: &mut String, entry: &HostEntry) -> Result<(), AllocError>
     ensures { OnOk result (string_bytes text.new ≡ string_bytes text.old ++ host_line entry.now) }
 {
     match entry {
-        HostEntry::Ask { id, to, pdu } => push_ask(text, *id, *to, pdu),
+        HostEntry::Ask { id, route, pdu } => push_ask(text, *id, *route, pdu),
         HostEntry::Answer { id, result } => push_answer(text, *id, result),
         HostEntry::Served { id, request, reply } => push_peer(text, *id, request, reply),
     }

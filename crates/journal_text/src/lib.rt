@@ -13,6 +13,7 @@ mod plain;
 mod reading;
 mod ring_read;
 mod rings;
+mod routes_read;
 mod sizes;
 mod stations_read;
 mod words_read;

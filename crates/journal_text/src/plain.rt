@@ -2,9 +2,11 @@
 ghost use Rattle.std.specs.Prelude.{◌≡◌, true, All, map};
 ghost use Rattle.std.specs.List.Sorted.{IsStrictlyIncreasing};
 ghost use Rattle.journal_text.specs.Journal.{IsOwnOp, IsPlain, IsPlainCall, IsPlainEntry};
-ghost use Rattle.journal_text.specs.Journal.{IsPlainFrame, IsPlainGot, IsPlainRing};
+ghost use Rattle.journal_text.specs.Journal.{IsPlainFrame, IsPlainGot, IsPlainHostEntry};
+ghost use Rattle.journal_text.specs.Journal.{IsPlainReply, IsPlainRing};
 
 use controller_core::{Call, CallKind, Entry};
+use host_port::HostEntry;
 use joint_history::{ControllerLog, HostLog, Joint};
 use ring_core::{Frame, FrameKind, LocalOp, RingEntry};
 
@@ -24,7 +26,7 @@ fn is_plain_call(call: &Call) -> bool
     ensures all { IsPlainCall call.now → result ≡ true }
 {
     match &call.kind {
-        CallKind::Net { .. } => true,
+        CallKind::Net { route, .. } => !route.addresses().is_empty(),
         CallKind::Local(op) => is_own_op(op),
     }
 }
@@ -78,6 +80,40 @@ fn are_plain_logs(logs: &[ControllerLog]) -> bool
     true
 }
 
+fn is_plain_host_entry(entry: &HostEntry) -> bool
+    ensures only { result ≡ true → IsPlainHostEntry entry.now }
+    ensures all { IsPlainHostEntry entry.now → result ≡ true }
+{
+    match entry {
+        HostEntry::Ask { route, .. } => !route.addresses().is_empty(),
+        _ => true,
+    }
+}
+
+fn are_plain_host_entries(entries: &[HostEntry]) -> bool
+    ensures only { result ≡ true → All IsPlainHostEntry entries.now }
+    ensures all { All IsPlainHostEntry entries.now → result ≡ true }
+{
+    for at in 0..entries.len() {
+        if !is_plain_host_entry(&entries[at]) {
+            return false;
+        }
+    }
+    true
+}
+
+fn are_plain_host_logs(logs: &[HostLog]) -> bool
+    ensures only { result ≡ true → All (λ log. All IsPlainHostEntry log.entries) logs.now }
+    ensures all { All (λ log. All IsPlainHostEntry log.entries) logs.now → result ≡ true }
+{
+    for at in 0..logs.len() {
+        if !are_plain_host_entries(logs[at].entries.as_slice()) {
+            return false;
+        }
+    }
+    true
+}
+
 fn controllers_rise(logs: &[ControllerLog]) -> bool
     ensures only { result ≡ true → IsStrictlyIncreasing (map (λ log. log.node) logs.now) }
     ensures all { IsStrictlyIncreasing (map (λ log. log.node) logs.now) → result ≡ true }
@@ -102,13 +138,20 @@ fn hosts_rise(logs: &[HostLog]) -> bool
     true
 }
 
+fn is_plain_reply(frame: &Frame) -> bool
+    ensures only { result ≡ true → IsPlainReply frame.now }
+    ensures all { IsPlainReply frame.now → result ≡ true }
+{
+    frame.to == frame.id.node && frame.rest.addresses().is_empty()
+}
+
 fn is_plain_frame(frame: &Frame) -> bool
     ensures only { result ≡ true → IsPlainFrame frame.now.kind frame.now }
     ensures all { IsPlainFrame frame.now.kind frame.now → result ≡ true }
 {
     match frame.kind {
         FrameKind::Request => true,
-        FrameKind::Reply => frame.to == frame.id.node,
+        FrameKind::Reply => is_plain_reply(frame),
     }
 }
 
@@ -118,7 +161,7 @@ fn is_plain_got(node: u8, frame: &Frame) -> bool
 {
     match frame.kind {
         FrameKind::Request => frame.to == node,
-        FrameKind::Reply => frame.to == frame.id.node,
+        FrameKind::Reply => is_plain_reply(frame),
     }
 }
 
@@ -153,5 +196,6 @@ pub fn is_plain(joint: &Joint) -> bool
     controllers_rise(joint.controllers.as_slice())
         && hosts_rise(joint.hosts.as_slice())
         && are_plain_logs(joint.controllers.as_slice())
+        && are_plain_host_logs(joint.hosts.as_slice())
         && are_plain_ring(joint.ring.as_slice())
 }

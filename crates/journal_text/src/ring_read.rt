@@ -2,28 +2,42 @@
 ghost use Rattle.std.specs.Prelude.{◌≡◌};
 ghost use Rattle.ring_core.specs.declared.entry.LeaveCause.TheVariants.{Down};
 ghost use Rattle.ring_core.specs.declared.entry.RingEntry.TheVariants as ring;
-ghost use Rattle.journal_text.specs.Reading.{Reads, read_as, read_long, read_small};
-ghost use Rattle.journal_text.specs.ReadLines.{read_asked, read_bare_cause, read_cause, read_done};
-ghost use Rattle.journal_text.specs.ReadLines.{read_give_up};
-ghost use Rattle.journal_text.specs.ReadLines.{got_from, read_got, read_heard, read_leave};
+ghost use Rattle.journal_text.specs.Reading.{Reads, read_as, read_id, read_long, read_pair};
+ghost use Rattle.journal_text.specs.Reading.{read_small};
+ghost use Rattle.journal_text.specs.ReadLines.{got_reply, got_request, read_bare_cause, read_cause};
+ghost use Rattle.journal_text.specs.ReadLines.{read_done, read_give_up, read_onward, read_posted};
+ghost use Rattle.journal_text.specs.ReadLines.{read_got, read_heard, read_leave};
 ghost use Rattle.journal_text.specs.ReadLines.{read_local, read_named, read_pass, read_post};
 ghost use Rattle.journal_text.specs.ReadLines.{sent_reply, sent_request, read_ring_entry};
 ghost use Rattle.journal_text.specs.ReadLines.{read_send, read_sent, read_take, target_of};
 
-use crate::calls_read::{read_asked, read_named, read_op, read_result};
-use crate::cutting::{LineFault, behind, cut, is_text, read_id, read_long, read_small};
-use crate::words_read::{read_hex_word, read_hex_words};
+use crate::calls_read::{read_named, read_op, read_result};
+use crate::cutting::{LineFault, behind, cut, is_text, parted, read_id, read_long, read_small};
+use crate::routes_read::{read_route, read_way};
+use crate::words_read::{read_hex_word, read_hex_words, read_pdu};
 use mstr_block::CallId;
-use plant_types::{Pdu, Words};
+use plant_types::{Pdu, Route, Words};
 use ring_core::{Frame, FrameKind, Heard, LeaveCause, RingEntry};
 use std::alloc::Global;
 
+/// A Request that is posted, with its route.
+#[tactic(auto, unfolding(crate::specs::ReadLines::read_posted))]
 fn read_sent_request(alloc: Global, text: &[u8]) -> Result<Frame, LineFault>
-    ensures { Reads (λ frame. frame) result (read_as sent_request read_asked text.now) }
+    ensures { Reads (λ frame. frame) result (read_as sent_request read_posted text.now) }
 {
-    let (id, to, pdu) = read_asked(alloc, text)?;
+    let (id, behind) = cut(text, b' ')?;
+    let id = read_id(id)?;
+    let (route, pdu) = cut(behind, b' ')?;
+    let (to, rest) = read_way(alloc, route)?;
+    let pdu = read_pdu(alloc, pdu)?;
     let kind = FrameKind::Request;
-    Ok(Frame { kind, to, id, pdu })
+    Ok(Frame {
+        kind,
+        to,
+        rest,
+        id,
+        pdu,
+    })
 }
 
 /// A Reply goes to the node that asked.
@@ -33,7 +47,14 @@ fn read_sent_reply(alloc: Global, text: &[u8]) -> Result<Frame, LineFault>
     let (id, pdu) = read_named(alloc, text)?;
     let kind = FrameKind::Reply;
     let to = id.node;
-    Ok(Frame { kind, to, id, pdu })
+    let rest = Route::of(&[]);
+    Ok(Frame {
+        kind,
+        to,
+        rest,
+        id,
+        pdu,
+    })
 }
 
 #[tactic(auto, unfolding(crate::specs::ReadLines::read_sent))]
@@ -49,28 +70,54 @@ fn read_sent(alloc: Global, text: &[u8]) -> Result<Frame, LineFault>
     Err(LineFault::Wrong)
 }
 
-fn read_got_as(
-    alloc: Global,
-    kind: FrameKind,
-    text: &[u8],
-) -> Result<(FrameKind, CallId, Pdu), LineFault>
-    ensures { Reads (λ got. (got.0, (got.1, got.2))) result
-        (read_as (got_from kind) read_named text.now) }
+/// The bytes of a Request that is taken, and the route on which it is still to go.
+#[tactic(auto, unfolding(crate::specs::ReadLines::read_onward))]
+fn read_onward(alloc: Global, text: &[u8]) -> Result<(Pdu, Route), LineFault>
+    ensures { Reads (λ parts. parts) result (read_onward text.now) }
 {
-    let (id, pdu) = read_named(alloc, text)?;
-    Ok((kind, id, pdu))
+    match parted(text, b' ') {
+        Some((pdu, rest)) => {
+            let pdu = read_pdu(alloc, pdu)?;
+            let rest = read_route(alloc, rest)?;
+            Ok((pdu, rest))
+        }
+        None => {
+            let pdu = read_pdu(alloc, text)?;
+            Ok((pdu, Route::of(&[])))
+        }
+    }
 }
 
-/// What was taken, but for its target.
+/// What was taken, but for its target: its kind, its name, its bytes, and where it is still to go.
+type Got = (FrameKind, CallId, Pdu, Route);
+
+fn read_got_request(alloc: Global, text: &[u8]) -> Result<Got, LineFault>
+    ensures { Reads (λ got. (got.0, (got.1, (got.2, got.3)))) result
+        (read_as got_request (read_pair read_id read_onward 32) text.now) }
+{
+    let (id, behind) = cut(text, b' ')?;
+    let id = read_id(id)?;
+    let (pdu, rest) = read_onward(alloc, behind)?;
+    Ok((FrameKind::Request, id, pdu, rest))
+}
+
+fn read_got_reply(alloc: Global, text: &[u8]) -> Result<Got, LineFault>
+    ensures { Reads (λ got. (got.0, (got.1, (got.2, got.3)))) result
+        (read_as got_reply read_named text.now) }
+{
+    let (id, pdu) = read_named(alloc, text)?;
+    Ok((FrameKind::Reply, id, pdu, Route::of(&[])))
+}
+
 #[tactic(auto, unfolding(crate::specs::ReadLines::read_got))]
-fn read_got(alloc: Global, text: &[u8]) -> Result<(FrameKind, CallId, Pdu), LineFault>
-    ensures { Reads (λ got. (got.0, (got.1, got.2))) result (read_got text.now) }
+fn read_got(alloc: Global, text: &[u8]) -> Result<Got, LineFault>
+    ensures { Reads (λ got. (got.0, (got.1, (got.2, got.3)))) result (read_got text.now) }
 {
     if let Some(rest) = behind(text, "Q ") {
-        return read_got_as(alloc, FrameKind::Request, rest);
+        return read_got_request(alloc, rest);
     }
     if let Some(rest) = behind(text, "R ") {
-        return read_got_as(alloc, FrameKind::Reply, rest);
+        return read_got_reply(alloc, rest);
     }
     Err(LineFault::Wrong)
 }
@@ -167,9 +214,15 @@ fn read_take(alloc: Global, text: &[u8]) -> Result<RingEntry, LineFault>
 {
     let (node, frame) = cut(text, b' ')?;
     let node = read_small(node)?;
-    let (kind, id, pdu) = read_got(alloc, frame)?;
+    let (kind, id, pdu, rest) = read_got(alloc, frame)?;
     let to = target_of(kind, node, id);
-    let frame = Frame { kind, to, id, pdu };
+    let frame = Frame {
+        kind,
+        to,
+        rest,
+        id,
+        pdu,
+    };
     Ok(RingEntry::Take { node, frame })
 }
 

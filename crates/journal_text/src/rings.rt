@@ -2,14 +2,15 @@
 ghost use Rattle.std.specs.Prelude.{codes, ◌≡◌, ◌++◌, OnOk, string_bytes};
 ghost use Rattle.std.specs.Fmt.{decimal};
 ghost use Rattle.std.specs.List.{flat_map};
+ghost use Rattle.ring_core.specs.Words.{frame_route};
 ghost use Rattle.journal_text.specs.Fields.{call_result_text, hex_bytes, hex_words, id_text};
-ghost use Rattle.journal_text.specs.Fields.{op_text};
-ghost use Rattle.journal_text.specs.Lines.{done_text, got_text, heard_text, ring_line, sent_text};
+ghost use Rattle.journal_text.specs.Fields.{op_text, route_text};
+ghost use Rattle.journal_text.specs.Lines.{done_text, got_text, heard_text, named_text, onward_text};
+ghost use Rattle.journal_text.specs.Lines.{request_text, ring_line, sent_text};
 
-use crate::fields::{HexWord, Name, push_bytes, push_op, push_result, push_words};
-use crate::hosts::push_request;
+use crate::fields::{HexWord, Name, push_bytes, push_op, push_result, push_way, push_words};
 use mstr_block::{CallId, MstrResult};
-use plant_types::Pdu;
+use plant_types::Route;
 use ring_core::{Frame, FrameKind, Heard, LeaveCause, LocalOp, RingEntry};
 use std::alloc::AllocError;
 use std::fmt::Write;
@@ -30,32 +31,58 @@ fn done_text(done: bool) -> &'static str
     if done { "1" } else { "0" }
 }
 
-fn push_named(text: &mut String, letter: &str, id: CallId, pdu: &Pdu) -> Result<(), AllocError>
+fn push_named(text: &mut String, letter: &str, frame: &Frame) -> Result<(), AllocError>
     ensures { OnOk result (string_bytes text.new ≡ string_bytes text.old
-        ++ (letter.now ++ codes " " ++ id_text id ++ codes " " ++ hex_bytes pdu.now)) }
+        ++ named_text letter.now frame.now) }
 {
-    let id = Name(id);
+    let id = Name(frame.id);
     write!(text, "{letter} {id} ")?;
-    push_bytes(text, pdu.bytes())
+    push_bytes(text, frame.pdu.bytes())
+}
+
+fn push_sent_request(text: &mut String, frame: &Frame) -> Result<(), AllocError>
+    ensures { OnOk result (string_bytes text.new ≡ string_bytes text.old
+        ++ request_text frame.now.id (frame_route frame.now) frame.now.pdu) }
+{
+    let id = Name(frame.id);
+    write!(text, "Q {id} ")?;
+    push_way(text, frame.to, frame.rest)?;
+    text.push_str(" ")?;
+    push_bytes(text, frame.pdu.bytes())
 }
 
 fn push_sent(text: &mut String, frame: &Frame) -> Result<(), AllocError>
     ensures { OnOk result (string_bytes text.new ≡ string_bytes text.old
-        ++ sent_text frame.now.kind frame.now.id frame.now.to frame.now.pdu) }
+        ++ sent_text frame.now.kind frame.now) }
 {
     match frame.kind {
-        FrameKind::Request => push_request(text, frame.id, frame.to, &frame.pdu),
-        FrameKind::Reply => push_named(text, "R", frame.id, &frame.pdu),
+        FrameKind::Request => push_sent_request(text, frame),
+        FrameKind::Reply => push_named(text, "R", frame),
+    }
+}
+
+fn push_onward(text: &mut String, rest: Route) -> Result<(), AllocError>
+    ensures { OnOk result (string_bytes text.new ≡ string_bytes text.old ++ onward_text rest) }
+{
+    match rest.split_first() {
+        Some((to, rest)) => {
+            text.push_str(" ")?;
+            push_way(text, to, rest)
+        }
+        None => Ok(()),
     }
 }
 
 fn push_got(text: &mut String, frame: &Frame) -> Result<(), AllocError>
     ensures { OnOk result (string_bytes text.new ≡ string_bytes text.old
-        ++ got_text frame.now.kind frame.now.id frame.now.pdu) }
+        ++ got_text frame.now.kind frame.now) }
 {
     match frame.kind {
-        FrameKind::Request => push_named(text, "Q", frame.id, &frame.pdu),
-        FrameKind::Reply => push_named(text, "R", frame.id, &frame.pdu),
+        FrameKind::Request => {
+            push_named(text, "Q", frame)?;
+            push_onward(text, frame.rest)
+        }
+        FrameKind::Reply => push_named(text, "R", frame),
     }
 }
 

@@ -4,13 +4,14 @@ ghost use Rattle.journal_text.specs.Sizes.{AreWords, FitsAnswer, FitsCall, FitsC
 ghost use Rattle.journal_text.specs.Sizes.{FitsFrame};
 ghost use Rattle.journal_text.specs.Sizes.{FitsHostEntry, FitsHostLog, FitsJoint, FitsKind};
 ghost use Rattle.journal_text.specs.Sizes.{FitsLog, FitsOp, FitsResult, FitsRingEntry};
-ghost use Rattle.journal_text.specs.Sizes.{AreBlockWords, IsId, IsLong, IsPdu, IsSmall, IsWord};
+ghost use Rattle.journal_text.specs.Sizes.{AreBlockWords, IsId, IsLong, IsPdu, IsRoute, IsSmall};
+ghost use Rattle.journal_text.specs.Sizes.{IsWord};
 
 use controller_core::{Call, CallKind, Entry};
 use host_port::{HostEntry, HostResult};
 use joint_history::{ControllerLog, HostLog, Joint};
 use mstr_block::{CallId, MstrResult};
-use plant_types::{Block, Pdu};
+use plant_types::{Block, Pdu, Route};
 use ring_core::{Frame, LeaveCause, LocalOp, RingEntry};
 
 fn small(number: u8)
@@ -37,6 +38,12 @@ fn pdu(pdu: &Pdu)
     ensures { IsPdu pdu.now }
 {
     bytes(pdu.bytes());
+}
+
+fn way(route: Route)
+    ensures { IsRoute route }
+{
+    bytes(route.addresses());
 }
 
 fn block(block: &Block)
@@ -79,8 +86,11 @@ fn kind(kind: &CallKind)
     ensures { FitsKind kind.now }
 {
     match kind {
-        CallKind::Net { to, pdu: request } => {
-            small(*to);
+        CallKind::Net {
+            route,
+            pdu: request,
+        } => {
+            way(*route);
             pdu(request);
         }
         CallKind::Local(local) => op(local),
@@ -167,11 +177,11 @@ fn host_entry(entry: &HostEntry)
     match entry {
         HostEntry::Ask {
             id,
-            to,
+            route,
             pdu: request,
         } => {
             name(*id);
-            small(*to);
+            way(*route);
             pdu(request);
         }
         HostEntry::Answer { id, result } => {
@@ -213,6 +223,7 @@ fn frame(frame: &Frame)
     ensures { FitsFrame frame.now }
 {
     small(frame.to);
+    way(frame.rest);
     name(frame.id);
     pdu(&frame.pdu);
 }

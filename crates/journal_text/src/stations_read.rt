@@ -152,8 +152,8 @@ fn read_outcome(alloc: Global, text: &[u8]) -> Result<HostResult, LineFault>
 fn read_ask(alloc: Global, text: &[u8]) -> Result<HostEntry, LineFault>
     ensures { Reads (λ entry. entry) result (read_ask text.now) }
 {
-    let (id, to, pdu) = read_asked(alloc, text)?;
-    Ok(HostEntry::Ask { id, to, pdu })
+    let (id, route, pdu) = read_asked(alloc, text)?;
+    Ok(HostEntry::Ask { id, route, pdu })
 }
 
 fn read_answer(alloc: Global, text: &[u8]) -> Result<HostEntry, LineFault>

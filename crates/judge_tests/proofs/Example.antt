@@ -1,10 +1,12 @@
 -- The plant of the tests can be judged.
-use Rattle.std.proofs.Common.{ℕ, zero, suc, ◌≤◌, [], ◌∷◌, refl, arith}
+use Rattle.std.proofs.Common.{◌≡◌, ℕ, zero, suc, ◌≤◌, [], ◌∷◌, refl, arith}
 use Rattle.std.specs.List.{All}
 use Rattle.std.specs.List.Sorted.{IsStrictlyIncreasing}
 use Rattle.std.proofs.lemmas.List.Sorted.{IsPermutation-refl}
 use Rattle.plant_types.specs.FirstFault.{tests_behind}
 use Rattle.plant_types.specs.Pairs.{no_two}
+use Rattle.plant_types.specs.declared.net.HostPlan.{HostPlan}
+use Rattle.plant_types.specs.declared.plan.ControllerPlan.{ControllerPlan}
 use Rattle.plant_types.specs.Plans.{IsAskOf, IsFromTo, IsHostPlan, IsNetPlan, IsNode}
 use Rattle.plant_types.specs.Plans.{PassesTests}
 use Rattle.controller_core.specs.Machine.{IsRunnable}
@@ -24,6 +26,9 @@ all-two P x y a b (suc (suc k)) d low = absurd (omega arith)
 from-to : (least most number : ℕ) → least ≤ number → number ≤ most → IsFromTo least most number
 from-to least most number a b = record { from = a; to = b }
 
+none-rises : IsStrictlyIncreasing []
+none-rises k low = absurd (omega arith)
+
 one-rises : (n : ℕ) → IsStrictlyIncreasing (n ∷ [])
 one-rises n k low = absurd (omega arith)
 
@@ -33,26 +38,36 @@ two-rise (suc k) low = absurd (omega arith)
 
 net-sound : IsNetPlan net_plan
 net-sound = record {
-  first = omega arith;
-  members =
-      all-two IsNode 1 2 (from-to 1 64 1 (omega arith) (omega arith))
-      (from-to 1 64 2 (omega arith) (omega arith));
-  rising = two-rise;
+  members = record {
+    some = omega arith;
+    each =
+        all-two IsNode 1 2 (from-to 1 64 1 (omega arith) (omega arith))
+        (from-to 1 64 2 (omega arith) (omega arith));
+    rise = two-rise;
+  };
+  bridges = record { among = λ k d low. absurd (omega arith); rise = none-rises };
   fates = from-to 1 1000 1 (omega arith) (omega arith);
-  answer = from-to 2 1000 2 (omega arith) (omega arith);
-  rotations = from-to 1 10 2 (omega arith) (omega arith);
-  rounds = from-to 1 100 1 (omega arith) (omega arith);
-  holds = from-to 1 100000 1000 (omega arith) (omega arith);
+  numbers = record {
+    number = omega arith;
+    answer = from-to 2 1000 2 (omega arith) (omega arith);
+    rotations = from-to 1 10 2 (omega arith) (omega arith);
+    rounds = from-to 1 100 1 (omega arith) (omega arith);
+    holds = from-to 1 100000 1000 (omega arith) (omega arith);
+  };
 }
 
 host-sound : IsHostPlan host_plan
 host-sound = record {
   node = from-to 1 64 2 (omega arith) (omega arith);
   few = omega arith;
-  requests = all-one (IsAskOf 2) _ (record {
+  requests = all-one (IsAskOf host_plan) _ (record {
     hold = from-to 1 10000 1 (omega arith) (omega arith);
-    to = from-to 1 64 1 (omega arith) (omega arith);
-    other = omega arith;
+    route = record {
+      some = omega arith;
+      nodes = all-one IsNode 1 (from-to 1 64 1 (omega arith) (omega arith));
+      other = λ same. (let one : ◌≡◌ {A = ℕ} 1 2 = cc in omega (arith, one));
+      alone = λ _. refl;
+    };
   });
 }
 
@@ -76,11 +91,15 @@ example-judged scans from to = record {
     scan_time = from-to 1 1000 10 (omega arith) (omega arith);
     watchdog = from-to 1 10000 500 (omega arith) (omega arith);
     net = net-sound;
+    alone = refl;
+    no_bridge = refl;
     count = from-to 1 16 1 (omega arith) (omega arith);
     controllers = all-one PassesTests controller_plan controller-passes;
+    controllers_there = all-one (λ (plan : ControllerPlan). plan.network ≡ 0) controller_plan refl;
     controllers_rise = one-rises 1;
     few = omega arith;
     hosts = all-one IsHostPlan host_plan host-sound;
+    hosts_there = all-one (λ (plan : HostPlan). plan.network ≡ 0) host_plan refl;
     hosts_rise = one-rises 2;
     members = IsPermutation-refl (1 ∷ 2 ∷ []);
   };

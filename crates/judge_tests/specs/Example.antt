@@ -10,6 +10,7 @@ use Rattle.plant_types.specs.declared.plan.Plant.{Plant}
 abbrev pub controller_plan : ControllerPlan
 controller_plan = record {
   node = 1;
+  network = 0;
   coils = 16;
   inputs = 0;
   input_registers = 0;
@@ -25,13 +26,16 @@ controller_plan = record {
 abbrev pub host_plan : HostPlan
 host_plan = record {
   node = 2;
-  requests = record { hold = 1; to = 1; pdu = 3 ∷ 0 ∷ 0 ∷ 0 ∷ 1 ∷ [] } ∷ [];
+  network = 0;
+  requests = record { hold = 1; route = 1 ∷ []; pdu = 3 ∷ 0 ∷ 0 ∷ 0 ∷ 1 ∷ [] } ∷ [];
 }
 
 -- Their network.
 abbrev pub net_plan : NetPlan
 net_plan = record {
+  number = 0;
   members = 1 ∷ 2 ∷ [];
+  bridges = [];
   fates = D ∷ [];
   answer = 2;
   rotations = 2;

@@ -10,7 +10,7 @@ use joint_history::{ControllerLog, HostLog, Joint};
 use joint_law::{Judgement, Spot, Verdict, judge, judge_noted};
 use mstr_block::CallId;
 use plant_types::{
-    ControllerPlan, Fate, HostAsk, HostPlan, List, NetPlan, Pdu, Plant, PowerRow, Words,
+    ControllerPlan, Fate, HostAsk, HostPlan, List, NetPlan, Pdu, Plant, PowerRow, Route, Words,
 };
 use ring_core::{Frame, FrameKind, Heard, LeaveCause, RingEntry};
 use std::alloc::{AllocError, Global};
@@ -43,6 +43,10 @@ enum Change {
     DownAsSecond,
     /// The same, but it replied without power.
     ReplyWithoutPower,
+    /// What the host posted is to go on from its target, so that this does not hear it.
+    Onward,
+    /// The same, but the target takes it.
+    OnwardTaken,
 }
 
 impl Change {
@@ -52,6 +56,11 @@ impl Change {
             Change::Failing | Change::DownAsSecond | Change::ReplyWithoutPower => true,
             _ => false,
         }
+    }
+
+    /// The request goes on from its target.
+    fn goes_on(self) -> bool {
+        self == Change::Onward || self == Change::OnwardTaken
     }
 
     /// How many scans it has.
@@ -67,19 +76,19 @@ impl Change {
     }
 }
 
-const CALL: CallId = CallId {
+pub(crate) const CALL: CallId = CallId {
     node: 2,
     path: 1,
     seq: 1,
 };
 
-const REQUEST: [u8; 5] = [3, 0, 0, 0, 1];
+pub(crate) const REQUEST: [u8; 5] = [3, 0, 0, 0, 1];
 
-const REPLY: [u8; 4] = [3, 2, 0, 0];
+pub(crate) const REPLY: [u8; 4] = [3, 2, 0, 0];
 
 const ANOTHER_REPLY: [u8; 4] = [3, 2, 0, 1];
 
-fn pdu_of(alloc: Global, bytes: &[u8]) -> Result<Pdu, AllocError>
+pub(crate) fn pdu_of(alloc: Global, bytes: &[u8]) -> Result<Pdu, AllocError>
     ensures { IfOk result (λ pdu. pdu ≡ bytes.now) }
 {
     match Pdu::of(alloc, bytes)? {
@@ -108,6 +117,7 @@ fn controllers(alloc: Global) -> Result<List<ControllerPlan>, AllocError>
     let power = power(alloc)?;
     plans.push(ControllerPlan {
         node: 1,
+        network: 0,
         coils: 16,
         inputs: 0,
         input_registers: 0,
@@ -129,10 +139,14 @@ fn host(alloc: Global) -> Result<HostPlan, AllocError>
     let pdu = pdu_of(alloc, &REQUEST)?;
     requests.push(HostAsk {
         hold: 1,
-        to: 1,
+        route: Route::of(&[1]),
         pdu,
     })?;
-    Ok(HostPlan { node: 2, requests })
+    Ok(HostPlan {
+        node: 2,
+        network: 0,
+        requests,
+    })
 }
 
 fn hosts(alloc: Global) -> Result<List<HostPlan>, AllocError>
@@ -152,7 +166,9 @@ fn net(alloc: Global) -> Result<NetPlan, AllocError>
     let mut fates = List::new(alloc);
     fates.push(Fate::D)?;
     Ok(NetPlan {
+        number: 0,
         members,
+        bridges: List::new(alloc),
         fates,
         answer: 2,
         rotations: 2,
@@ -208,7 +224,7 @@ fn scan(alloc: Global, change: Change) -> Result<List<Entry>, AllocError> {
     if change != Change::NoBegin {
         entries.push(Entry::Begin)?;
     }
-    if change != Change::NoPeer && !change.fails() {
+    if change != Change::NoPeer && !change.fails() && !change.goes_on() {
         entries.push(peer(alloc, change)?)?;
     }
     if change == Change::TwoPeers {
@@ -228,7 +244,7 @@ fn answer(alloc: Global, change: Change) -> Result<HostEntry, AllocError> {
         Change::AnotherAnswer | Change::AnotherPost => pdu_of(alloc, &ANOTHER_REPLY)?,
         _ => pdu_of(alloc, &REPLY)?,
     };
-    let result = if change.fails() {
+    let result = if change.fails() || change.goes_on() {
         HostResult::Bad(0x6103)
     } else {
         HostResult::Reply(pdu)
@@ -247,7 +263,8 @@ fn asking(alloc: Global, change: Change) -> Result<List<HostEntry>, AllocError> 
         _ => CALL,
     };
     let pdu = pdu_of(alloc, &REQUEST)?;
-    entries.push(HostEntry::Ask { id, to: 1, pdu })?;
+    let route = Route::of(&[1]);
+    entries.push(HostEntry::Ask { id, route, pdu })?;
     if change != Change::NoAnswer {
         entries.push(answer(alloc, change)?)?;
     }
@@ -261,6 +278,7 @@ fn request(alloc: Global) -> Result<Frame, AllocError> {
     Ok(Frame {
         kind: FrameKind::Request,
         to: 1,
+        rest: Route::of(&[]),
         id: CALL,
         pdu: pdu_of(alloc, &REQUEST)?,
     })
@@ -275,6 +293,7 @@ fn reply(alloc: Global, change: Change) -> Result<Frame, AllocError> {
     Ok(Frame {
         kind: FrameKind::Reply,
         to: 2,
+        rest: Route::of(&[]),
         id: CALL,
         pdu,
     })
@@ -351,8 +370,43 @@ fn push_down(alloc: Global, ring: &mut List<RingEntry>, change: Change) -> Resul
     ring.push(RingEntry::Leave { node: 2, cause })
 }
 
+/// The first round, where nobody hears what is to go on: the host gives up.
+fn push_onward(
+    alloc: Global,
+    ring: &mut List<RingEntry>,
+    change: Change,
+) -> Result<(), AllocError> {
+    ring.push(pass(alloc, 1, false)?)?;
+    let near = request(alloc)?;
+    let frame = Frame {
+        rest: Route::of(&[9]),
+        ..near
+    };
+    ring.push(RingEntry::Post { node: 2, frame })?;
+    let heard = Heard::Silent;
+    for _ in 0..3 {
+        ring.push(RingEntry::Send { node: 2, heard })?;
+    }
+    let word = 0x6103;
+    ring.push(RingEntry::GiveUp { id: CALL, word })?;
+    ring.push(pass(alloc, 2, true)?)?;
+    if change == Change::OnwardTaken {
+        let near = request(alloc)?;
+        let frame = Frame {
+            rest: Route::of(&[9]),
+            ..near
+        };
+        ring.push(RingEntry::Take { node: 1, frame })?;
+    }
+    Ok(())
+}
+
 fn ring(alloc: Global, change: Change) -> Result<List<RingEntry>, AllocError> {
     let mut ring = List::new(alloc);
+    if change.goes_on() {
+        push_onward(alloc, &mut ring, change)?;
+        return Ok(ring);
+    }
     push_request(alloc, &mut ring, change)?;
     if change.fails() {
         push_down(alloc, &mut ring, change)?;
@@ -394,7 +448,7 @@ fn judged(alloc: Global, change: Change) -> Result<Verdict, AllocError> {
 }
 
 /// What each change comes to.
-const SPOTS: [(Change, Spot); 19] = [
+const SPOTS: [(Change, Spot); 21] = [
     (Change::NoHost, Spot::Sections),
     (Change::AnotherHost, Spot::Sections),
     (Change::NoBegin, Spot::Controller { node: 1, entry: 2 }),
@@ -470,6 +524,15 @@ const SPOTS: [(Change, Spot); 19] = [
             place: 1,
         },
     ),
+    (
+        Change::Onward,
+        Spot::Law {
+            law: 1,
+            node: 2,
+            place: 1,
+        },
+    ),
+    (Change::OnwardTaken, Spot::Ring(8)),
 ];
 
 #[test]

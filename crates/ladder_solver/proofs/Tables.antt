@@ -174,11 +174,18 @@ module _ (Such : BlockTable → BlockTable → Type 0) (same : (t : BlockTable) 
       (networks_of segments number) 0 s
 
 pub calls-same : (t : BlockTable) → KeepsCalls t t
-calls-same t = record { node = refl; count = refl; started = λ h. h; out = λ id h. h }
+calls-same t = record {
+  node = refl;
+  routed = refl;
+  count = refl;
+  started = λ h. h;
+  out = λ id h. h;
+}
 
 pub calls-then : (a b c : BlockTable) → KeepsCalls a b → KeepsCalls b c → KeepsCalls a c
 calls-then a b c one other = record {
   node = other.node ∙ one.node;
+  routed = other.routed ∙ one.routed;
   count = other.count ∙ one.count;
   started = λ h. other.started (one.started h);
   out = λ id h. other.out id (one.out id h);

@@ -218,6 +218,7 @@ fn plan_of(alloc: Global, segments: Segments) -> Result<ControllerPlan, AllocErr
     let segments = segments_of(alloc, segments)?;
     Ok(ControllerPlan {
         node: 1,
+        network: 0,
         coils: 16,
         inputs: 16,
         input_registers: 0,
@@ -258,7 +259,7 @@ fn solver_of(alloc: Global, plan: &ControllerPlan) -> Result<Solver, AllocError>
     let grids = grids_of(alloc, plan.segments.as_slice())?;
     let ladder = Ladder::new(alloc, grids)?;
     let count = ladder.blocks();
-    let bank = MstrBank::new(alloc, plan.node, count)?;
+    let bank = MstrBank::new(alloc, plan.node, count, false)?;
     Ok(Solver { ladder, bank })
 }
 

@@ -13,6 +13,7 @@ use Rattle.comm_port.specs.Failing.{ComesBack, IsAway}
 use Rattle.comm_port.specs.HoldTurn.{VisitsEnd}
 use Rattle.comm_port.specs.Sides.{RamSideIs, RingSideIs}
 use Rattle.comm_port.specs.Stands.{RamStands}
+use Rattle.comm_port.specs.Turns.{IsNoBridge}
 use Rattle.comm_port.specs.Worker.{IsMemberWorker, Standing, WorkerIs}
 use Rattle.turn_laws.specs.KeepsOn.{KeepsOn, NoneSpent, StandsTied, is_out_of_ring}
 use Rattle.turn_laws.specs.Laws.{AwayTurnsEndWhere, AwayTurnsKeepOn, AwayTurnsSpendNothing}
@@ -62,6 +63,7 @@ came laws alone_ram alone_ring w ram known known' side ring ring' joined t went 
     let n = w.node in
     record {
       member = k.member;
+      no_bridge = k.no_bridge;
       budget = k.budget;
       standing = standing;
       stands_at = stands-came side.net n joined ring ring' (laws.where_to alone_ram alone_ring f
@@ -145,6 +147,7 @@ visited laws alone_ram alone_ring w w' ram known known' side ring ring' node bud
     subst (IsMemberWorker side.net) (sym node) k.member in
     record {
       member = member;
+      no_bridge = subst (IsNoBridge side.net) (sym node) k.no_bridge;
       budget = budget ∙ k.budget;
       standing = standing;
       stands_at = ap (λ n. has_left (status_at side.net ring' n)) node ∙ ap has_left away;

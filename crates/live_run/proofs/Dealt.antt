@@ -146,7 +146,7 @@ plant-new plant sound =
     λ m. sym (sum_by-IsPermutation (λ n. cond (m == n) 1 0) all plant.net.members sound.members) in
     new-parts [] (controller_nodes plant) (host_nodes plant)
     (new-all [] all high (λ m. let o = once_rising m plant.net.members
-    (AllPairs-from_increasing plant.net.members sound.net.rising) in
+    (AllPairs-from_increasing plant.net.members sound.net.members.rise) in
     let s = same m in omega (arith, o, s)))
   where
     high : All (λ n. 1 ≤ n) (controller_nodes plant ++ host_nodes plant)
@@ -156,7 +156,7 @@ plant-new plant sound =
         ≡ count_by (λ n. 0 == n) plant.net.members =
         sym (sum_by-IsPermutation (λ n. cond (0 == n) 1 0) whole plant.net.members sound.members) in
         positive whole k d within (same ∙ zero-none plant.net.members
-        (λ k d within. (sound.net.members k d within).from)) (get_or whole k d) refl
+        (λ k d within. (sound.net.members.each k d within).from)) (get_or whole k d) refl
 
 -- the station over a pass that was split off
 pub seat-of : {L : Type 0} (gate : GateFacts RingEntry NetPlan) (side : GatedRingIs)

@@ -1,9 +1,9 @@
 -- What workers in threads keep, while others go on and from turn to turn.
-use Rattle.std.proofs.Common.{◌≡◌, ◌⊎◌, ⊎_elim, ℕ, Bool, true, false, List, [], ◌++◌, refl}
+use Rattle.std.proofs.Common.{◌≡◌, ⊎_elim, ℕ, Bool, true, false, List, [], ◌++◌, refl}
 use Rattle.std.proofs.Common.{sym, ap, subst, ◌∙◌, append-nil}
 use Rattle.plant_types.specs.declared.net.NetPlan.{NetPlan}
 use Rattle.ring_core.specs.declared.entry.RingEntry.{RingEntry}
-use Rattle.ring_core.specs.declared.status.NodeStatus.TheVariants.{In, Asking, Gone}
+use Rattle.ring_core.specs.declared.status.NodeStatus.TheVariants.{In, Gone}
 use Rattle.ring_core.specs.Legal.{IsLegalRing}
 use Rattle.ring_core.specs.Machine.{is_in, ring_after}
 use Rattle.controller_core.specs.declared.entry.Entry.{Entry}
@@ -19,6 +19,7 @@ use Rattle.comm_port.specs.declared.turn_end.TurnEnd.{TurnEnd}
 use Rattle.comm_port.specs.declared.turn_end.TurnEnd.TheVariants as ends
 use Rattle.comm_port.specs.Sides.{RamSideIs, RingSideIs}
 use Rattle.comm_port.specs.Stands.{RamStands}
+use Rattle.comm_port.specs.Turns.{IsNoBridge}
 use Rattle.comm_port.specs.WholeTurn.{HoldsTurn}
 use Rattle.comm_port.specs.HostTurns.{CountsPasses, HoldsHostTurn, HostTies, HostWorkerIs}
 use Rattle.comm_port.specs.HostTurns.{after_turn}
@@ -73,6 +74,7 @@ talks-on w ram known side ring more legal none t =
     let n = w.node in
     record {
       member = t.member;
+      no_bridge = t.no_bridge;
       budget = t.budget;
       standing = standing-others w ram known side ring more
           (on-others side.net n ring more (on-ring w ram known side ring t.member t.standing) legal
@@ -109,6 +111,7 @@ talks-scans {P} law alone w ram ram' known known' side ring same went t =
     subst (λ (m : RamSideIs P). TalksOn w m known' side ring Away) (sym same)
     (subst (λ l. TalksOn w ram l side ring Away) (sym is) (record {
       member = t.member;
+      no_bridge = t.no_bridge;
       budget = t.budget;
       standing = standing-scans w ram known more side ring went.others t.standing;
       stands_at = t.stands_at;
@@ -195,6 +198,7 @@ talks-turn laws alone_ram alone_ring w w' ram known known' side ring ring' end n
     subst (IsMemberWorker side.net) (sym node) k.member in
     record {
       member = member;
+      no_bridge = subst (IsNoBridge side.net) (sym node) k.no_bridge;
       budget = budget ∙ k.budget;
       standing = standing;
       stands_at = subst (StandsAt (stage_of end) side.net ring') (sym node)
@@ -260,6 +264,7 @@ attends-others {Q} alone w host side side' ring ring' left same went legal a =
     subst (λ (s : RingSideIs Q). AttendsOn w host s ring' left) (sym same)
     (subst (λ l. AttendsOn w host side l left) (sym o.1) (record {
       node = a.node;
+      no_bridge = a.no_bridge;
       budget = a.budget;
       ties = host-ties-others w.node host side ring o.0 o.2
           (subst (IsLegalRing side.net) o.1 legal) a.ties;
@@ -312,6 +317,8 @@ attends-next {Q} laws alone w w' host host' side side' ring ring' left plan same
     host'.history ring ring' left) a.budget t in
     record {
       node = ap (λ p. p.node) plan ∙ a.node ∙ sym node;
+      no_bridge = subst (λ (s : RingSideIs Q). IsNoBridge s.net w'.node) (sym same)
+          (subst (IsNoBridge side.net) (sym node) a.no_bridge);
       budget = ap (λ (v : HostWorkerIs). v.budget) worker ∙ after.1 ∙ a.budget;
       ties = ties;
       counts = counts;

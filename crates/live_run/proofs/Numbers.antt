@@ -48,8 +48,8 @@ number-sent : (net : NetPlan) (r : RingIs) (m : ℕ) (box : List Frame) (n p : �
 number-sent net r m [] n p other = refl
 number-sent net r m (f ∷ fs) n p other =
     let fate = fate_at net.fates r.sent in
-    ap (number_of p) (out (arrived r.nodes f (arrival r.nodes fate f)) n m _ other)
-    ∙ arrived-part r.nodes f fate
+    ap (number_of p) (out (arrived r.nodes f (arrival net r.nodes fate f)) n m _ other)
+    ∙ arrived-part net r.nodes f fate
     (λ (k : ℕ) (c : NodeIs). number_of p c ≡ number_of p (part_of r.nodes k)) (λ k. refl)
     (λ here. number-fell (part_of r.nodes f.to) f f.kind p) n
 

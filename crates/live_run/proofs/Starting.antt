@@ -16,6 +16,7 @@ use Rattle.host_port.specs.Legal.{questions_of}
 use Rattle.tied_lists.specs.Waits.{IsOnRing, has_left, status_at}
 use Rattle.comm_port.specs.HostTurns.{HostWorkerIs}
 use Rattle.comm_port.specs.Sides.{RamSideIs, RingSideIs, MayWrite}
+use Rattle.comm_port.specs.Turns.{IsNoBridge}
 use Rattle.comm_port.specs.Worker.{WorkerIs, new_worker}
 use Rattle.comm_port.proofs.HostTurnLaws.{host-ties-new}
 use Rattle.comm_port.proofs.Standings.{standing-new}
@@ -29,7 +30,7 @@ use Rattle.live_run.specs.declared.talking.Stage.TheVariants.{There, Over}
 use Rattle.turn_laws.proofs.Holders.{member-there}
 
 low-members : (net : NetPlan) → IsNetPlan net → All (λ m. m < addresses) net.members
-low-members net s k d within = let high = (s.members k d within).to in omega (arith, high)
+low-members net s k d within = let high = (s.members.each k d within).to in omega (arith, high)
 
 low-member : (net : NetPlan) (n : ℕ) → IsNetPlan net → IsMember net n → n < addresses
 low-member net n s member =
@@ -47,13 +48,14 @@ serves-as : (writer : Option ℕ) (n : ℕ) → writer ≡ Some n → MayWrite w
 serves-as writer n is = subst (λ w. MayWrite w n) (sym is) refl
 
 host-talks : {Q : Type 0} (plan : HostPlan) (net : NetPlan) (side : RingSideIs Q) → IsNetPlan net
-    → IsMember net plan.node → side.net ≡ net → side.writer ≡ Some plan.node
+    → IsMember net plan.node → IsNoBridge net plan.node → side.net ≡ net → side.writer ≡ Some plan.node
     → AttendsOn (record { node = plan.node; budget = false; passes = 0 })
     (record { plan = plan; history = [] }) side [] false
-host-talks plan net side sound member same writer =
+host-talks plan net side sound member station same writer =
     let n = plan.node in
     record {
       node = refl;
+      no_bridge = subst (λ (m : NetPlan). IsNoBridge m n) (sym same) station;
       budget = refl;
       ties = host-ties-new plan side
           (record {
@@ -63,7 +65,7 @@ host-talks plan net side sound member same writer =
           (serves-as side.writer n writer)
           (subst (λ m. IsOnRing m [] n) (sym same) (on-start net n sound member))
           (subst (λ (m : NetPlan). 0 < m.answer) (sym same)
-          (let from = sound.answer.from in omega (arith, from)));
+          (let from = sound.numbers.answer.from in omega (arith, from)));
       counts = refl;
       here = λ is. subst (λ m. Rattle.comm_port.specs.Leaving.IsHere m [] n) (sym same)
           (ap is_in (member-there net n (low-member net n sound member) member));
@@ -86,13 +88,13 @@ attends-start plant plan w host side ring u host_is worker_is =
     subst (λ l. AttendsOn w host side l false) (sym u.nothing)
     (subst (λ h. AttendsOn w h side [] false) (sym host_is)
     (subst (λ v. AttendsOn v (record { plan = plan; history = [] }) side [] false) (sym worker_is)
-    (host-talks plan plant.net side u.sound u.member u.net u.writer)))
+    (host-talks plan plant.net side u.sound u.member u.no_bridge u.net u.writer)))
 
 controller-talks : {P Q : Type 0} (n : ℕ) (net : NetPlan) (ram : RamSideIs P) (side : RingSideIs Q)
-    → ram.fixed.plan.node ≡ n → IsNetPlan net → IsMember net n
+    → ram.fixed.plan.node ≡ n → IsNetPlan net → IsMember net n → IsNoBridge net n
     → side.net ≡ net → side.writer ≡ Some n
     → TalksOn (new_worker n net false) ram [] side [] There
-controller-talks n net ram side node sound member same writer =
+controller-talks n net ram side node sound member station same writer =
     let on : IsOnRing side.net [] n = subst (λ m. IsOnRing m [] n) (sym same)
     (on-start net n sound member) in
     record {
@@ -100,8 +102,9 @@ controller-talks n net ram side node sound member same writer =
         members = on.members;
         member = on.member;
         answer = subst (λ m. 0 < m.answer) (sym same)
-            (let low = sound.answer.from in omega (arith, low));
+            (let low = sound.numbers.answer.from in omega (arith, low));
       };
+      no_bridge = subst (λ (m : NetPlan). IsNoBridge m n) (sym same) station;
       budget = refl;
       standing = standing-new n net false ram [] side node same (serves-as side.writer n writer)
           refl;
@@ -123,4 +126,4 @@ talks-start plant n w ram known side ring node none u worker_is =
     subst (λ l. TalksOn w ram known side l There) (sym u.nothing)
     (subst (λ l. TalksOn w ram l side [] There) (sym none)
     (subst (λ v. TalksOn v ram [] side [] There) (sym worker_is)
-    (controller-talks n plant.net ram side node u.sound u.member u.net u.writer)))
+    (controller-talks n plant.net ram side node u.sound u.member u.no_bridge u.net u.writer)))

@@ -14,6 +14,7 @@ use Rattle.ring_core.specs.declared.entry.RingEntry.{RingEntry}
 use Rattle.ring_core.specs.Legal.{IsMember}
 use Rattle.ring_core.specs.Words.{maker}
 use Rattle.comm_port.specs.Sides.{RingSideIs}
+use Rattle.comm_port.proofs.Onward.{none-bridges}
 use Rattle.live_run.specs.Dealing.{AreNew, HasLog, IsAtGate, Seat, brought, fresh_station, seen_by}
 use Rattle.live_run.specs.Sides.{GatedRingIs}
 use Rattle.live_run.specs.Stations.{AreFresh, sides_of}
@@ -34,23 +35,25 @@ pub record IsSeatOf {L : Type 0} (gate : GateFacts RingEntry NetPlan) (node : �
 
 module _ {P : Type 0} (gate : GateFacts RingEntry NetPlan) (node_of : P → ℕ) where
   pub fresh-all : (L : Type 0) (plant : Plant) (plans : List P) → IsNetPlan plant.net
-      → gate.fixed ≡ plant.net → gate.name.opening ≡ []
+      → plant.net.bridges ≡ [] → gate.fixed ≡ plant.net → gate.name.opening ≡ []
       → All (λ n. IsMember plant.net n) (map node_of plans)
       → AreFresh {L = L} seat_side seat_seen plant node_of plans
       (map (λ plan. fresh_station gate (node_of plan)) plans)
-  fresh-all L plant [] sound net unopened members = tt
-  fresh-all L plant (p ∷ plans) sound net unopened members = (
+  fresh-all L plant [] sound none net unopened members = tt
+  fresh-all L plant (p ∷ plans) sound none net unopened members = (
     record {
       unused = record {
         sound = sound;
         member = members 0 (node_of p) (omega arith);
+        no_bridge = none-bridges plant.net (node_of p) none;
         net = net;
         writer = refl;
         nothing = unopened;
       };
       unlogged = refl;
     },
-    fresh-all L plant plans sound net unopened (λ k d low. members (suc k) d (omega (arith, low))),
+    fresh-all L plant plans sound none net unopened
+        (λ k d low. members (suc k) d (omega (arith, low))),
   )
 
 module _ {P L : Type 0} (gate : GateFacts RingEntry NetPlan) (node_of : P → ℕ) where

@@ -4,22 +4,29 @@ use Rattle.turn_gate.specs.Known.{GateFacts, IsOutside, PassFacts, made_by}
 use Rattle.ring_core.specs.declared.entry.RingEntry.{RingEntry}
 use Rattle.controller_core.specs.declared.entry.Entry.{Entry}
 use Rattle.controller_core.specs.declared.fixed.Fixed.{Fixed}
+use Rattle.comm_port.specs.declared.ring_side.RingSide as ring_sides
 use Rattle.comm_port.specs.Sides.{RamSideIs, RingSideIs}
 use Rattle.comm_port.specs.Worker.{WorkerIs}
 use Rattle.live_run.specs.Cells.{maker_number}
 use Rattle.live_run.specs.Sides.{GatedRamIs}
 use Rattle.live_run.specs.Talking.{TalksOn}
 use Rattle.live_run.specs.declared.talking.Stage.{Stage}
-use Rattle.live_run.specs.declared.talking.Stage.TheVariants.{Over}
+use Rattle.live_run.specs.declared.talking.Stage.TheVariants.{Over, There}
 
 -- What a side over a controller's gate keeps.
 abbrev pub ram_side : GateFacts Entry Fixed → RamSideIs (GateFacts Entry Fixed)
 ram_side gate = record { fixed = gate.fixed; place = gate }
 
--- A controller's worker without a budget stands between two turns, at a side over its gate.
-abbrev pub TalksAt : {Q : Type 0} → WorkerIs → GatedRamIs → RingSideIs Q → List RingEntry → Stage
-    → Type 0
-TalksAt worker ram side ring stage = TalksOn worker (ram_side ram.gate) ram.seen side ring stage
+module _ {R Q : Type 0} (r : ring_sides.Ghosts R Q) where
+  -- A controller's worker without a budget stands between two turns, at a side over its gate.
+  abbrev pub TalksAt : WorkerIs → GatedRamIs → R → Stage → Type 0
+  TalksAt worker ram ring stage =
+      TalksOn worker (ram_side ram.gate) ram.seen (r.side ring) (r.known ring) stage
+
+  -- It stands there before its first turn, at a gate through which nothing came.
+  abbrev pub TalksFirst : WorkerIs → GateFacts Entry Fixed → R → Type 0
+  TalksFirst worker gate ring =
+      TalksOn worker (ram_side gate) gate.name.opening (r.side ring) (r.known ring) There
 
 -- A worker has the node and the sides that it had.
 abbrev pub StaysAt : {Q : Type 0} → WorkerIs → WorkerIs → GatedRamIs → GatedRamIs → RingSideIs Q

@@ -15,6 +15,7 @@ use Rattle.joint_history.specs.declared.joint.HostLog.{HostLog}
 use Rattle.joint_history.specs.JointLaws.{fixed_of}
 use Rattle.joint_history.specs.Nets.{net_of}
 use Rattle.comm_port.specs.Sides.{RingSideIs}
+use Rattle.comm_port.specs.Turns.{IsNoBridge}
 use Rattle.turn_laws.specs.KeepsOn.{HasFinished, HostHasFinished, NoneSpent}
 use Rattle.live_run.specs.declared.stations.NotedLog.{NotedLog}
 use Rattle.live_run.specs.declared.stations.Station.{Station}
@@ -30,11 +31,13 @@ CanRunAll plant scans plans = All (CanRun plant scans) plans
 abbrev pub CanServeAll : List HostPlan → Type 0
 CanServeAll plans = All IsHostPlan plans
 
--- A side of the plant's ring that writes in the name of this member alone, and has seen nothing.
+-- A side of the plant's ring that writes in the name of this member alone, which is not the end of
+-- a bridge, and has seen nothing.
 pub record IsUnused {Q : Type 0} (plant : Plant) (node : ℕ) (side : RingSideIs Q)
     (known : List RingEntry) : Type 0 where
   pub sound : IsNetPlan (net_of plant node)
   pub member : IsMember (net_of plant node) node
+  pub no_bridge : IsNoBridge (net_of plant node) node
   pub net : side.net ≡ net_of plant node
   pub writer : side.writer ≡ Some node
   pub nothing : known ≡ []

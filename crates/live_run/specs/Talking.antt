@@ -8,11 +8,14 @@ use Rattle.controller_core.specs.Controller.{IsLegal}
 use Rattle.host_port.specs.Host.{HostIs}
 use Rattle.tied_lists.specs.Own.{own}
 use Rattle.tied_lists.specs.Waits.{has_left, status_at}
+use Rattle.comm_port.specs.declared.ram_side.RamSide as ram_sides
+use Rattle.comm_port.specs.declared.ring_side.RingSide as ring_sides
 use Rattle.comm_port.specs.declared.turn_end.TurnEnd.{TurnEnd}
 use Rattle.comm_port.specs.declared.turn_end.TurnEnd.TheVariants as ends
 use Rattle.comm_port.specs.Failing.{IsAway}
 use Rattle.comm_port.specs.Sides.{RamSideIs, RingSideIs}
 use Rattle.comm_port.specs.HostTurns.{CountsPasses, HostTies, HostWorkerIs}
+use Rattle.comm_port.specs.Turns.{IsNoBridge}
 use Rattle.comm_port.specs.Leaving.{IsHere}
 use Rattle.joint_history.specs.Reading.{has_ended_at, has_started_at, is_off_at}
 use Rattle.comm_port.specs.Worker.{IsMemberWorker, Standing, WorkerIs}
@@ -54,20 +57,28 @@ pub record SoFar {P Q : Type 0} (w : WorkerIs) (ram : RamSideIs P) (known : List
   pub keeps : KeepsOn ram.fixed side.net w.node known ring (is_out_at stage)
   pub over : stage ≡ Over → IsOver ram.fixed side.net w.node known ring
 
--- A controller's worker without a budget stands between two turns.
+-- A controller's worker without a budget stands between two turns, and is not the end of a bridge.
 pub record TalksOn {P Q : Type 0} (w : WorkerIs) (ram : RamSideIs P) (known : List Entry)
     (side : RingSideIs Q) (ring : List RingEntry) (stage : Stage) : Type 0 where
   pub member : IsMemberWorker side.net w.node
+  pub no_bridge : IsNoBridge side.net w.node
   pub budget : w.budget ≡ false
   pub standing : Standing w ram known side ring
   pub stands_at : StandsAt stage side.net ring w.node
   pub unspent : NoneSpent (own w.node ring)
   pub so_far : IsLegal ram.fixed known → SoFar w ram known side ring stage
 
--- A host's worker without a budget stands between two turns.
+module _ {M P R Q : Type 0} (m : ram_sides.Ghosts M P) (r : ring_sides.Ghosts R Q) where
+  -- A controller's worker without a budget stands between two turns, at these two sides.
+  abbrev pub TalksOver : WorkerIs → M → R → Stage → Type 0
+  TalksOver w ram ring stage =
+      TalksOn w (m.side ram) (m.known ram) (r.side ring) (r.known ring) stage
+
+-- A host's worker without a budget stands between two turns, and is not the end of a bridge.
 pub record AttendsOn {Q : Type 0} (w : HostWorkerIs) (host : HostIs) (side : RingSideIs Q)
     (ring : List RingEntry) (left : Bool) : Type 0 where
   pub node : host.plan.node ≡ w.node
+  pub no_bridge : IsNoBridge side.net w.node
   pub budget : w.budget ≡ false
   pub ties : HostTies w.node host side ring
   pub counts : CountsPasses w ring

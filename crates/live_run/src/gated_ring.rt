@@ -174,6 +174,14 @@ impl<'a, M: Meet, R: Wait> RingSide for GatedRing<'a, M, R> {
         answer
     }
 
+    fn only_bridges(&mut self, node: u8) -> bool {
+        let mut held = self.gate.enter(self.rt, &mut self.pass);
+        let ring = held.value().get_mut();
+        let answer = RingSide::only_bridges(ring, node);
+        self.gate.leave(&mut self.pass, held);
+        answer
+    }
+
     fn pass(&mut self, node: u8, done: bool) -> Result<(), RingNo> {
         let mut held = self.gate.enter(self.rt, &mut self.pass);
         let ring = held.value().get_mut();

@@ -3,9 +3,8 @@ ghost use Rattle.std.specs.Prelude.{◌≡◌, true, false, IfOk};
 ghost use Rattle.std.specs.Thread.{IsSync};
 ghost use Rattle.turn_gate.specs.Known.{IsPassReady, first_pass};
 ghost use Rattle.live_run.specs.Cells.{maker_number};
-ghost use Rattle.live_run.specs.Pairs.{IsBack, StaysAt, TalksAt, ram_side};
+ghost use Rattle.live_run.specs.Pairs.{IsBack, StaysAt, TalksAt, TalksFirst};
 ghost use Rattle.live_run.specs.Stations.{CanRun, IsUnused, CameNoted};
-ghost use Rattle.live_run.specs.Talking.{TalksOn};
 
 use crate::cells::RamCell;
 use crate::crews::Run;
@@ -39,12 +38,11 @@ fn run_pair<'a, G: RingSide + Outside + Send, M: Meet + Sync, R: Threads + Wait 
     requires ready { IsPassReady maker_number 1 gate.now.name one.old }
     requires gate { ram.old.gate ≡ gate.now }
     requires node { worker.old.node ≡ node }
-    requires talks { TalksAt worker.old ram.old (G.side ring.old) (G.known ring.old) Stage.There }
+    requires talks { TalksAt G.RingSide worker.old ram.old ring.old Stage.There }
     ensures ready { IsPassReady maker_number 1 gate.now.name one.new }
     ensures gate { ram.new.gate ≡ gate.now }
     ensures node { worker.new.node ≡ node }
-    ensures talks { result.1 ≡ true
-        → TalksAt worker.new ram.new (G.side ring.new) (G.known ring.new) Stage.Over }
+    ensures talks { result.1 ≡ true → TalksAt G.RingSide worker.new ram.new ring.new Stage.Over }
     ensures side { G.side ring.new ≡ G.side ring.old }
 {
     let own = node;
@@ -53,10 +51,9 @@ fn run_pair<'a, G: RingSide + Outside + Send, M: Meet + Sync, R: Threads + Wait 
         &mut || -> bool
             requires sync { IsSync R.row × IsSync M.row }
             requires node { worker.now.node ≡ node }
-            requires talks { TalksAt worker.now ram.now (G.side ring.now) (G.known ring.now)
-                Stage.There }
-            ensures talks { result ≡ true → TalksAt worker.exit.now ram.exit.now
-                (G.side ring.exit.now) (G.known ring.exit.now) Stage.Over }
+            requires talks { TalksAt G.RingSide worker.now ram.now ring.now Stage.There }
+            ensures talks { result ≡ true
+                → TalksAt G.RingSide worker.exit.now ram.exit.now ring.exit.now Stage.Over }
             ensures stays { StaysAt worker.entry.now worker.exit.now ram.entry.now ram.exit.now
                 (G.side ring.entry.now) (G.side ring.exit.now) }
         { talk(run.rt, run.crew, node, worker, ram, ring) },
@@ -80,8 +77,7 @@ fn through_gate<G: RingSide + Outside + Send, M: Meet + Sync, R: Threads + Wait 
 ) -> (Pass<RamCell>, bool)
     requires zero { zero ≡ first_pass gate.now.name }
     requires node { worker.old.node ≡ node }
-    requires talks { TalksOn worker.old (ram_side gate.now) gate.now.name.opening (G.side ring.old)
-        (G.known ring.old) Stage.There }
+    requires talks { TalksFirst G.RingSide worker.old gate.now ring.old }
     ensures back { IsBack gate.now worker.new (G.side ring.new) (G.known ring.new)
         result.0 result.1 }
     ensures node { worker.new.node ≡ node }

@@ -1,16 +1,16 @@
 //! The scan worker of a controller.
 ghost use Rattle.std.specs.Prelude.{◌≡◌, ◌≤◌, ◌+◌, true, length, IfOk, OnErr};
 ghost use Rattle.turn_gate.specs.Known.{IsPassReady};
-ghost use Rattle.controller_core.specs.Controller.{ControllerWentOn, has_ended, step_entries};
+ghost use Rattle.controller_core.specs.Controller.{has_ended};
 ghost use Rattle.joint_history.specs.Reading.{has_ended_at};
 ghost use Rattle.live_run.specs.Cells.{maker_number};
-ghost use Rattle.live_run.specs.Scanning.{IsScanOver};
+ghost use Rattle.live_run.specs.Scanning.{IsScanOver, ScanWentOn};
 
 use crate::cells::RamCell;
 use crate::crews::Crew;
 use crate::meets::Meet;
 use crate::pauses::Stint;
-use controller_core::{Controller, Maker, StepEnd};
+use controller_core::{Controller, StepEnd};
 use scan_order::{ScanStep, ends_scan};
 use std::alloc::AllocError;
 use std::sync::Wait;
@@ -19,9 +19,7 @@ use turn_gate::{Gate, Pass};
 
 /// Makes the next event of the scan, for which it reserves memory where a scan begins.
 fn step_reserved(controller: &mut Controller) -> Result<StepEnd, AllocError>
-    ensures went { IfOk result (λ end.
-        ControllerWentOn Maker.Scan (step_entries controller.old end) controller.old
-        controller.new) }
+    ensures went { IfOk result (ScanWentOn controller.old controller.new) }
     ensures over { IfOk result (λ end. IsScanOver end → has_ended controller.new ≡ true) }
     ensures err { OnErr result (controller.new ≡ controller.old) }
 {

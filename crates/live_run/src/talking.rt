@@ -1,6 +1,6 @@
 //! The communication worker of a controller.
 ghost use Rattle.std.specs.Prelude.{◌≡◌, true, IfOk};
-ghost use Rattle.live_run.specs.Talking.{TalksOn, stage_of};
+ghost use Rattle.live_run.specs.Talking.{TalksOver, stage_of};
 
 use crate::crews::Crew;
 use crate::pauses::Pause;
@@ -44,10 +44,8 @@ fn take_turn<M: RamSide, G: RingSide + Outside>(
     ring: &mut G,
 ) -> Result<Stage, AllocError>
     requires node { worker.old.node ≡ node }
-    requires talks { TalksOn worker.old (M.side ram.old) (M.known ram.old) (G.side ring.old)
-        (G.known ring.old) Stage.There }
-    ensures talks { IfOk result (TalksOn worker.new (M.side ram.new) (M.known ram.new)
-        (G.side ring.new) (G.known ring.new)) }
+    requires talks { TalksOver M.RamSide G.RingSide worker.old ram.old ring.old Stage.There }
+    ensures talks { IfOk result (TalksOver M.RamSide G.RingSide worker.new ram.new ring.new) }
     ensures node { worker.new.node ≡ worker.old.node }
     ensures ram_same { M.side ram.new ≡ M.side ram.old }
     ensures ring_same { G.side ring.new ≡ G.side ring.old }
@@ -75,10 +73,8 @@ fn try_back<M: RamSide, G: RingSide + Outside>(
     ram: &mut M,
     ring: &mut G,
 ) -> Result<Stage, AllocError>
-    requires talks { TalksOn worker.old (M.side ram.old) (M.known ram.old) (G.side ring.old)
-        (G.known ring.old) Stage.Away }
-    ensures talks { IfOk result (TalksOn worker.new (M.side ram.new) (M.known ram.new)
-        (G.side ring.new) (G.known ring.new)) }
+    requires talks { TalksOver M.RamSide G.RingSide worker.old ram.old ring.old Stage.Away }
+    ensures talks { IfOk result (TalksOver M.RamSide G.RingSide worker.new ram.new ring.new) }
     ensures node { worker.new.node ≡ worker.old.node }
     ensures ram_same { M.side ram.new ≡ M.side ram.old }
     ensures ring_same { G.side ring.new ≡ G.side ring.old }
@@ -109,10 +105,8 @@ fn go_on<M: RamSide, G: RingSide + Outside>(
     ring: &mut G,
 ) -> Result<Stage, AllocError>
     requires node { worker.old.node ≡ node }
-    requires talks { TalksOn worker.old (M.side ram.old) (M.known ram.old) (G.side ring.old)
-        (G.known ring.old) stage }
-    ensures talks { IfOk result (TalksOn worker.new (M.side ram.new) (M.known ram.new)
-        (G.side ring.new) (G.known ring.new)) }
+    requires talks { TalksOver M.RamSide G.RingSide worker.old ram.old ring.old stage }
+    ensures talks { IfOk result (TalksOver M.RamSide G.RingSide worker.new ram.new ring.new) }
     ensures node { worker.new.node ≡ worker.old.node }
     ensures ram_same { M.side ram.new ≡ M.side ram.old }
     ensures ring_same { G.side ring.new ≡ G.side ring.old }
@@ -135,10 +129,9 @@ pub(crate) fn talk<M: RamSide, G: RingSide + Outside, R: Wait + Clock>(
     ring: &mut G,
 ) -> bool
     requires node { worker.old.node ≡ node }
-    requires talks { TalksOn worker.old (M.side ram.old) (M.known ram.old) (G.side ring.old)
-        (G.known ring.old) Stage.There }
-    ensures talks { result ≡ true → TalksOn worker.new (M.side ram.new) (M.known ram.new)
-        (G.side ring.new) (G.known ring.new) Stage.Over }
+    requires talks { TalksOver M.RamSide G.RingSide worker.old ram.old ring.old Stage.There }
+    ensures talks { result ≡ true
+        → TalksOver M.RamSide G.RingSide worker.new ram.new ring.new Stage.Over }
     ensures node { worker.new.node ≡ worker.old.node }
     ensures ram_same { M.side ram.new ≡ M.side ram.old }
     ensures ring_same { G.side ring.new ≡ G.side ring.old }

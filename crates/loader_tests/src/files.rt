@@ -401,7 +401,7 @@ fn has_plan(plan: &ControllerPlan) -> bool {
 }
 
 fn is_ask(ask: &HostAsk, hold: u32, to: u8, bytes: &[u8]) -> bool {
-    ask.hold == hold && ask.to == to && ask.pdu.bytes() == bytes
+    ask.hold == hold && ask.route.addresses() == [to].as_slice() && ask.pdu.bytes() == bytes
 }
 
 fn has_hosts(hosts: &[HostPlan]) -> bool {
@@ -416,10 +416,14 @@ fn has_hosts(hosts: &[HostPlan]) -> bool {
         && other.node == 64
         && is_ask(first, 10, 3, &[3, 0, 0xab])
         && is_ask(second, 1, 9, &[8])
+        && one.network == 0
+        && other.network == 0
 }
 
 fn has_net(net: &NetPlan, fates: &[Fate]) -> bool {
-    net.members.as_slice() == [1, 3, 9, 64].as_slice()
+    net.number == 0
+        && net.members.as_slice() == [1, 3, 9, 64].as_slice()
+        && net.bridges.as_slice().is_empty()
         && net.fates.as_slice() == fates
         && net.answer == 2
         && net.rotations == 10

@@ -29,13 +29,13 @@ network_of kept (GetGlobal node count) e = sym (ap uses_network e.0)
 network_of kept (RemoteStats to) e = sym (ap uses_network e)
 network_of kept (ClearRemote to) e = sym (ap uses_network e)
 
-call_at : (own : ℕ) (numbers : List ℕ) (id : CallId) (kept : Kept) (o : Option MstrAsk)
-    (call : MstrCall) → IsRunning own numbers
+call_at : (routed : Bool) (own : ℕ) (numbers : List ℕ) (id : CallId) (kept : Kept)
+    (o : Option MstrAsk) (call : MstrCall) → IsRunning routed own numbers
     (record { id = id; ask = o; kept = kept })
-    → option_map (λ ask. record { id = id; ask = ask }) o ≡ Some call → IsCall own call
-call_at own numbers id kept None call is e = absurd (nothing call e)
-call_at own numbers id kept (Some ask) call is e =
-    the_same (IsCall own) (record { id = id; ask = ask }) call (record {
+    → option_map (λ ask. record { id = id; ask = ask }) o ≡ Some call → IsCall routed own call
+call_at routed own numbers id kept None call is e = absurd (nothing call e)
+call_at routed own numbers id kept (Some ask) call is e =
+    the_same (IsCall routed own) (record { id = id; ask = ask }) call (record {
       node = is.named.node;
       path = is.named.path;
       network = network_of kept ask (is.ask ask refl).1 ∙ is.network;
@@ -43,41 +43,46 @@ call_at own numbers id kept (Some ask) call is e =
       ask = (is.ask ask refl).0;
     }) e
 
-call_of_state : (own : ℕ) (numbers : List ℕ) (s : BlockState) (call : MstrCall)
-    → IsStateOf own numbers s → untaken s ≡ Some call → IsCall own call
-call_of_state own numbers Idle call is e = absurd (nothing call e)
-call_of_state own numbers Waiting call is e = absurd (nothing call e)
-call_of_state own numbers (Active r) call is e = call_at own numbers r.id r.kept r.ask call is e
-call_of_state own numbers (Aborted r) call is e = call_at own numbers r.id r.kept r.ask call is e
-call_of_state own numbers (Ready kept result) call is e = absurd (nothing call e)
+call_of_state : (routed : Bool) (own : ℕ) (numbers : List ℕ) (s : BlockState) (call : MstrCall)
+    → IsStateOf routed own numbers s → untaken s ≡ Some call → IsCall routed own call
+call_of_state routed own numbers Idle call is e = absurd (nothing call e)
+call_of_state routed own numbers Waiting call is e = absurd (nothing call e)
+call_of_state routed own numbers (Active r) call is e =
+    call_at routed own numbers r.id r.kept r.ask call is e
+call_of_state routed own numbers (Aborted r) call is e =
+    call_at routed own numbers r.id r.kept r.ask call is e
+call_of_state routed own numbers (Ready kept result) call is e = absurd (nothing call e)
 
-call_in : (own : ℕ) (first : Option MstrCall) (calls : List MstrCall) (k : ℕ) (call : MstrCall)
-    → ((c : MstrCall) → first ≡ Some c → IsCall own c)
-    → ((n : ℕ) → slice_get calls n ≡ Some call → IsCall own call)
-    → slice_get (cons_option first calls) k ≡ Some call → IsCall own call
-call_in own None calls k call here there e = there k e
-call_in own (Some c) calls zero call here there e = the_same (IsCall own) c call (here c refl) e
-call_in own (Some c) calls (suc k) call here there e = there k e
+call_in : (routed : Bool) (own : ℕ) (first : Option MstrCall) (calls : List MstrCall) (k : ℕ)
+    (call : MstrCall)
+    → ((c : MstrCall) → first ≡ Some c → IsCall routed own c)
+    → ((n : ℕ) → slice_get calls n ≡ Some call → IsCall routed own call)
+    → slice_get (cons_option first calls) k ≡ Some call → IsCall routed own call
+call_in routed own None calls k call here there e = there k e
+call_in routed own (Some c) calls zero call here there e =
+    the_same (IsCall routed own) c call (here c refl) e
+call_in routed own (Some c) calls (suc k) call here there e = there k e
 
-calls_in : (own : ℕ) (numbers : List ℕ) (xs : List BlockState)
-    → ((place : ℕ) → IsStateOf own numbers (get_or xs place Idle))
-    → (k : ℕ) (call : MstrCall) → slice_get (filter_map untaken xs) k ≡ Some call → IsCall own call
-calls_in own numbers [] states k call e = absurd (nothing call e)
-calls_in own numbers (x ∷ xs) states k call e =
-    call_in own (untaken x) (filter_map untaken xs) k call
-    (λ c h. call_of_state own numbers x c (states 0) h)
-    (λ n h. calls_in own numbers xs (λ place. states (suc place)) n call h) e
+calls_in : (routed : Bool) (own : ℕ) (numbers : List ℕ) (xs : List BlockState)
+    → ((place : ℕ) → IsStateOf routed own numbers (get_or xs place Idle))
+    → (k : ℕ) (call : MstrCall) → slice_get (filter_map untaken xs) k ≡ Some call
+    → IsCall routed own call
+calls_in routed own numbers [] states k call e = absurd (nothing call e)
+calls_in routed own numbers (x ∷ xs) states k call e =
+    call_in routed own (untaken x) (filter_map untaken xs) k call
+    (λ c h. call_of_state routed own numbers x c (states 0) h)
+    (λ n h. calls_in routed own numbers xs (λ place. states (suc place)) n call h) e
 
 -- a started call of a table is one that its station may make
 pub calls-first : (table : BlockTable) → IsTable table → (k : ℕ) (o : Option MstrCall)
-    → o ≡ slice_get (started_calls table) k → IfSome o (IsCall table.node)
+    → o ≡ slice_get (started_calls table) k → IfSome o (IsCall table.routed table.node)
 calls-first table t k None e = tt
 calls-first table t k (Some call) e =
-    calls_in table.node table.numbers table.blocks t.states k call (sym e)
+    calls_in table.routed table.node table.numbers table.blocks t.states k call (sym e)
 
 pub calls-kth : (table : BlockTable) → IsTable table → (k : ℕ) (zeroth : Bool) (o : Option MstrCall)
     → o ≡ (if zeroth then None else slice_get (started_calls table) k)
-    → IfSome o (IsCall table.node)
+    → IfSome o (IsCall table.routed table.node)
 calls-kth table t k true None e = tt
 calls-kth table t k true (Some call) e = absurd (nothing call (sym e))
 calls-kth table t k false o e = calls-first table t k o e

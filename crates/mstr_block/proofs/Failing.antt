@@ -36,6 +36,7 @@ pub power_failures-keep_calls : PowerFailuresKeepCalls
 power_failures-keep_calls = record {
   keeps = λ table. record {
     node = refl;
+    routed = refl;
     count = length-map table.blocks power_lost;
     started = λ h.
         any-map is_untaken power_lost (λ s. ap is_some (lost-untaken s)) table.blocks ∙ h;

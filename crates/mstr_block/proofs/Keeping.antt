@@ -63,6 +63,7 @@ follows : (table : BlockTable) (block : ℕ) (s : BlockState)
     → running_in (block_state table block) ≡ None → KeepsCalls table (with_state table block s)
 follows table block s none = record {
   node = refl;
+  routed = refl;
   count = length-set table.blocks (block - 1) _;
   started = any-set is_untaken table.blocks (block - 1) s Idle
       (never _ (is_untaken s) (rests-untaken (block_state table block) none));
@@ -75,6 +76,7 @@ given : (table : BlockTable) (block : ℕ) (r : Running) → block_state table b
     → KeepsCalls table (with_state table block (Aborted r))
 given table block r e = record {
   node = refl;
+  routed = refl;
   count = length-set table.blocks (block - 1) _;
   started = any-set is_untaken table.blocks (block - 1) (Aborted r) Idle
       (λ h. sym (ap is_untaken e) ∙ h);
@@ -84,13 +86,24 @@ given table block r e = record {
 
 step-keeps : (table : BlockTable) (block : ℕ) (after : BlockTable) → Step table block after
     → KeepsCalls table after
-step-keeps table block after stays =
-    record { node = refl; count = refl; started = λ h. h; out = λ id h. h }
+step-keeps table block after stays = record {
+  node = refl;
+  routed = refl;
+  count = refl;
+  started = λ h. h;
+  out = λ id h. h;
+}
 step-keeps table block after (rests s none rest) = follows table block s none
 step-keeps table block after (gives_up r e) = given table block r e
 step-keeps table block after (launches op control words path none e passed long) =
     let kept = follows table block _ none in
-    record { node = kept.node; count = kept.count; started = kept.started; out = kept.out }
+    record {
+      node = kept.node;
+      routed = kept.routed;
+      count = kept.count;
+      started = kept.started;
+      out = kept.out;
+    }
 
 pub solves-keep_calls : SolvesKeepCalls
 solves-keep_calls table block site inputs m =

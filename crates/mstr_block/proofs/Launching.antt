@@ -133,13 +133,14 @@ above : (table : BlockTable) (path : ℕ) → get_or table.numbers path 0 < (nex
 above table path = omega arith
 
 -- the call of a state that runs one
-running_at : (own : ℕ) (numbers : List ℕ) (s : BlockState) (r : Running) → running_in s ≡ Some r
-    → IsStateOf own numbers s → IsRunning own numbers r
-running_at own numbers Idle r e is = absurd (nothing r e)
-running_at own numbers Waiting r e is = absurd (nothing r e)
-running_at own numbers (Active a) r e is = the_same (IsRunning own numbers) a r is e
-running_at own numbers (Aborted a) r e is = the_same (IsRunning own numbers) a r is e
-running_at own numbers (Ready kept result) r e is = absurd (nothing r e)
+running_at : (routed : Bool) (own : ℕ) (numbers : List ℕ) (s : BlockState) (r : Running)
+    → running_in s ≡ Some r
+    → IsStateOf routed own numbers s → IsRunning routed own numbers r
+running_at routed own numbers Idle r e is = absurd (nothing r e)
+running_at routed own numbers Waiting r e is = absurd (nothing r e)
+running_at routed own numbers (Active a) r e is = the_same (IsRunning routed own numbers) a r is e
+running_at routed own numbers (Aborted a) r e is = the_same (IsRunning routed own numbers) a r is e
+running_at routed own numbers (Ready kept result) r e is = absurd (nothing r e)
 
 module _ (table : BlockTable) (block : ℕ) (op : Operation) (control : Control) (words : List ℕ)
     (path : ℕ) where
@@ -185,9 +186,10 @@ within_last numbers path were left q =
     ]
 
 -- and a call that was named is still named
-still_runs : (own : ℕ) (numbers : List ℕ) (path : ℕ) (r : Running) → IsRunning own numbers r
-    → IsRunning own (set numbers path (get_or numbers path 0 + 1)) r
-still_runs own numbers path r is =
+still_runs : (routed : Bool) (own : ℕ) (numbers : List ℕ) (path : ℕ) (r : Running)
+    → IsRunning routed own numbers r
+    → IsRunning routed own (set numbers path (get_or numbers path 0 + 1)) r
+still_runs routed own numbers path r is =
     let up = rises numbers path r.id.path in
     let low = is.named.given in
     record {
@@ -202,19 +204,20 @@ still_runs own numbers path r is =
       ask = is.ask;
     }
 
-still_is : (own : ℕ) (numbers : List ℕ) (path : ℕ) (s : BlockState) → IsStateOf own numbers s
-    → IsStateOf own (set numbers path (get_or numbers path 0 + 1)) s
-still_is own numbers path Idle is = tt
-still_is own numbers path Waiting is = tt
-still_is own numbers path (Active r) is = still_runs own numbers path r is
-still_is own numbers path (Aborted r) is = still_runs own numbers path r is
-still_is own numbers path (Ready kept result) is = is
+still_is : (routed : Bool) (own : ℕ) (numbers : List ℕ) (path : ℕ) (s : BlockState)
+    → IsStateOf routed own numbers s
+    → IsStateOf routed own (set numbers path (get_or numbers path 0 + 1)) s
+still_is routed own numbers path Idle is = tt
+still_is routed own numbers path Waiting is = tt
+still_is routed own numbers path (Active r) is = still_runs routed own numbers path r is
+still_is routed own numbers path (Aborted r) is = still_runs routed own numbers path r is
+still_is routed own numbers path (Ready kept result) is = is
 
 -- what a call to be stands on
 pub record MayRun (table : BlockTable) (op : Operation) (control : Control) (words : List ℕ)
     (at : ℕ) : Type 0 where
   pub opened : IsOpen table (uses_network op) at
-  pub passed : Passes table.node op control
+  pub passed : Passes table.routed table.node op control
   pub long : length words ≡ control.length
 
 module _ (table : BlockTable) (block : ℕ) (op : Operation) (control : Control) (words : List ℕ)
@@ -228,24 +231,27 @@ module _ (table : BlockTable) (block : ℕ) (op : Operation) (control : Control)
       let last = get_or-set_same table.numbers path (get_or table.numbers path 0 + 1) 0 within in
       record { node = refl; path = may.opened.path; first = omega arith; given = omega arith }
 
-  running_new : IsRunning table.node (set table.numbers path (get_or table.numbers path 0 + 1))
+  running_new : IsRunning table.routed table.node
+      (set table.numbers path (get_or table.numbers path 0 + 1))
       (new_call table op control words path)
   running_new = record {
     named = named_new;
     network = may.opened.kind;
-    kept = can_move table.node op control may.passed;
-    ask = λ ask e. the_same (λ a. MayBeAsked table.node a × AsksFor (kept_of op control) a)
-        (ask_of op control words) ask
-        (is_ask table.node op control words may.passed may.long, asks_for op control words may.long)
-        e;
+    kept = can_move table.routed table.node op control may.passed;
+    ask = λ ask e. the_same
+        (λ a. MayBeAsked table.routed table.node a × AsksFor (kept_of op control) a)
+        (ask_of op control words) ask (
+          is_ask table.routed table.node op control words may.passed may.long,
+          asks_for op control words may.long,
+        ) e;
   }
 
   -- an old call on the path of the new one
   meets : (place : ℕ) (r : Running) → RunsAt table place r → r.id.path ≡ path
       → (path ≡ own_path) × (r.id.seq ≢ get_or table.numbers path 0 + 1)
   meets place r runs same =
-      let low = (running_at table.node table.numbers (get_or table.blocks place Idle) r runs
-      (t.states place)).named.given in
+      let low = (running_at table.routed table.node table.numbers
+      (get_or table.blocks place Idle) r runs (t.states place)).named.given in
       let number : get_or table.numbers r.id.path 0 ≡ get_or table.numbers path 0 =
       ap (λ n. get_or table.numbers n 0) same in (
         elim may.opened.free as (λ _. path ≡ own_path) [
@@ -261,11 +267,11 @@ module _ (table : BlockTable) (block : ℕ) (op : Operation) (control : Control)
   launched-stays = record {
     paths = length-set table.numbers path (get_or table.numbers path 0 + 1) ∙ t.paths;
     numbers = within_last table.numbers path t.numbers may.opened.number;
-    states = set-states table.node (set table.numbers path (get_or table.numbers path 0 + 1))
-        table.blocks (block - 1) (Active
+    states = set-states table.routed table.node
+        (set table.numbers path (get_or table.numbers path 0 + 1)) table.blocks (block - 1) (Active
         (new_call table op control words path))
-        (λ place. still_is table.node table.numbers path (get_or table.blocks place Idle)
-        (t.states place)) running_new;
+        (λ place. still_is table.routed table.node table.numbers path
+        (get_or table.blocks place Idle) (t.states place)) running_new;
     apart = λ one other r s differ runs1 runs2 paths.
         elim (old_or_new table block op control words path one r runs1) [
           | inl old1 ↦ elim (old_or_new table block op control words path other s runs2) [
@@ -337,20 +343,21 @@ none_given (suc (suc (suc zero))) = omega arith
 none_given (suc (suc (suc (suc zero)))) = omega arith
 none_given (suc (suc (suc (suc (suc path))))) = omega arith
 
-pub resting-table : (node count : ℕ) (numbers : List ℕ) → length numbers ≡ path_places
-    → ((path : ℕ) → get_or numbers path 0 ≤ last_call_number)
-    → IsTable (resting_table node count numbers)
-resting-table node count numbers five given = record {
+pub resting-table : (node : ℕ) (routed : Bool) (count : ℕ) (numbers : List ℕ)
+    → length numbers ≡ path_places → ((path : ℕ) → get_or numbers path 0 ≤ last_call_number)
+    → IsTable (resting_table node routed count numbers)
+resting-table node routed count numbers five given = record {
   paths = five;
   numbers = given;
-  states = λ place. subst (IsStateOf node numbers) (sym (idle_at count place)) tt;
+  states = λ place. subst (IsStateOf routed node numbers) (sym (idle_at count place)) tt;
   apart = λ one other r s differ runs1 runs2 paths.
       absurd (nothing r (sym (ap running_in (idle_at count one)) ∙ runs1));
 }
 
 pub stays-table : StaysTable
 stays-table = record {
-  idle = λ node count. resting-table node count (replicate path_places 0) refl none_given;
+  idle = λ node routed count.
+      resting-table node routed count (replicate path_places 0) refl none_given;
   solved =
       λ table block site inputs m. step-stays table block _ (step_of table block site inputs m);
   taken = λ table. taken-stays table (position is_untaken table.blocks);

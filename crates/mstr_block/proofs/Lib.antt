@@ -1,4 +1,5 @@
 pub mod Untaken
+pub mod Hops
 pub mod Passing
 pub mod Steps
 pub mod Keeping

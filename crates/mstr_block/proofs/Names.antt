@@ -42,21 +42,24 @@ map-at f e (x ∷ xs) zero = refl
 map-at f e (x ∷ xs) (suc place) = map-at f e xs place
 
 -- the states of a table after one of them is written, or after a function of each
-pub set-states : (own : ℕ) (numbers : List ℕ) (xs : List BlockState) (k : ℕ) (s : BlockState)
-    → ((place : ℕ) → IsStateOf own numbers (get_or xs place Idle)) → IsStateOf own numbers s
-    → (place : ℕ) → IsStateOf own numbers (get_or (set xs k s) place Idle)
-set-states own numbers xs k s were now place = elim (set-cases xs k s Idle place) [
-  | inl e ↦ subst (IsStateOf own numbers) (sym e) (were place)
-  | inr w ↦ subst (IsStateOf own numbers) (sym w.1) now
+pub set-states : (routed : Bool) (own : ℕ) (numbers : List ℕ) (xs : List BlockState) (k : ℕ)
+    (s : BlockState)
+    → ((place : ℕ) → IsStateOf routed own numbers (get_or xs place Idle))
+    → IsStateOf routed own numbers s
+    → (place : ℕ) → IsStateOf routed own numbers (get_or (set xs k s) place Idle)
+set-states routed own numbers xs k s were now place = elim (set-cases xs k s Idle place) [
+  | inl e ↦ subst (IsStateOf routed own numbers) (sym e) (were place)
+  | inr w ↦ subst (IsStateOf routed own numbers) (sym w.1) now
 ]
 
-map-states : (own : ℕ) (numbers : List ℕ) (f : BlockState → BlockState) → f Idle ≡ Idle
-    → ((s : BlockState) → IsStateOf own
-    numbers s → IsStateOf own numbers (f s))
-    → (xs : List BlockState) → ((place : ℕ) → IsStateOf own numbers (get_or xs place Idle))
-    → (place : ℕ) → IsStateOf own numbers (get_or (map f xs) place Idle)
-map-states own numbers f rests keeps xs were place =
-    subst (IsStateOf own numbers) (sym (map-at f rests xs place)) (keeps _ (were place))
+map-states : (routed : Bool) (own : ℕ) (numbers : List ℕ) (f : BlockState → BlockState)
+    → f Idle ≡ Idle
+    → ((s : BlockState) → IsStateOf routed own
+    numbers s → IsStateOf routed own numbers (f s))
+    → (xs : List BlockState) → ((place : ℕ) → IsStateOf routed own numbers (get_or xs place Idle))
+    → (place : ℕ) → IsStateOf routed own numbers (get_or (map f xs) place Idle)
+map-states routed own numbers f rests keeps xs were place =
+    subst (IsStateOf routed own numbers) (sym (map-at f rests xs place)) (keeps _ (were place))
 
 -- a block ran a call of this name
 abbrev pub RanAt : BlockTable → ℕ → CallId → Type 0
@@ -66,8 +69,8 @@ RanAt table place id = (was : Running) × RunsAt table place was × (was.id ≡ 
 -- other
 names-stay : (table : BlockTable) (xs : List BlockState) → ((place : ℕ) (r : Running)
     → RunsAt (record table { blocks = xs }) place r → RanAt table place r.id)
-    → ((place : ℕ) → IsStateOf table.node table.numbers (get_or xs place Idle)) → IsTable table
-    → IsTable (record table { blocks = xs })
+    → ((place : ℕ) → IsStateOf table.routed table.node table.numbers (get_or xs place Idle))
+    → IsTable table → IsTable (record table { blocks = xs })
 names-stay table xs from states t = record {
   paths = t.paths;
   numbers = t.numbers;
@@ -101,27 +104,29 @@ pub runs_none : (s : BlockState) → IsResting s → running_in s ≡ None
 runs_none _ idle = refl
 runs_none _ waiting = refl
 
-at_rest : (own : ℕ) (numbers : List ℕ) (s : BlockState) → IsResting s → IsStateOf own numbers s
-at_rest own numbers _ idle = tt
-at_rest own numbers _ waiting = tt
+at_rest : (routed : Bool) (own : ℕ) (numbers : List ℕ) (s : BlockState) → IsResting s
+    → IsStateOf routed own numbers s
+at_rest routed own numbers _ idle = tt
+at_rest routed own numbers _ waiting = tt
 
 pub rests-stay : (table : BlockTable) (block : ℕ) (s : BlockState) → IsResting s → IsTable table
     → IsTable (with_state table block s)
 rests-stay table block s rest t =
     names-stay table _ (λ place r. written table (block - 1) s place r
     (λ q e. absurd (nothing q (sym (runs_none s rest) ∙ e))))
-    (set-states table.node table.numbers table.blocks (block - 1) s t.states
-    (at_rest table.node table.numbers s rest)) t
+    (set-states table.routed table.node table.numbers table.blocks (block - 1) s t.states
+    (at_rest table.routed table.node table.numbers s rest)) t
 
 pub gives-stay : (table : BlockTable) (block : ℕ) (a : Running) → block_state table block ≡ Active a
     → IsTable table → IsTable
     (with_state table block (Aborted a))
 gives-stay table block a is t =
-    let running : IsRunning table.node table.numbers a =
-    subst (IsStateOf table.node table.numbers) is (t.states (block - 1)) in
+    let running : IsRunning table.routed table.node table.numbers a =
+    subst (IsStateOf table.routed table.node table.numbers) is (t.states (block - 1)) in
     names-stay table _ (λ place r. written table (block - 1) (Aborted a) place r
     (λ q e. (a, ap running_in is, same_name a q e)))
-    (set-states table.node table.numbers table.blocks (block - 1) (Aborted a) t.states running) t
+    (set-states table.routed table.node table.numbers table.blocks (block - 1) (Aborted a)
+    t.states running) t
 
 -- a finish
 ended-rests : (result : MstrResult) (s : BlockState) → running_in (call_ended result s) ≡ None
@@ -136,19 +141,19 @@ still : (result : MstrResult) (s : BlockState) (b : Bool) (r : Running)
 still result s true r e = absurd (nothing r (sym (ended-rests result s) ∙ e))
 still result s false r e = e
 
-ended-state : (own : ℕ) (numbers : List ℕ) (result : MstrResult) (s : BlockState)
-    → IsStateOf own numbers s → IsStateOf own numbers (call_ended result s)
-ended-state own numbers result Idle is = tt
-ended-state own numbers result Waiting is = tt
-ended-state own numbers result (Active r) is = is.kept
-ended-state own numbers result (Aborted r) is = tt
-ended-state own numbers result (Ready kept outcome) is = is
+ended-state : (routed : Bool) (own : ℕ) (numbers : List ℕ) (result : MstrResult) (s : BlockState)
+    → IsStateOf routed own numbers s → IsStateOf routed own numbers (call_ended result s)
+ended-state routed own numbers result Idle is = tt
+ended-state routed own numbers result Waiting is = tt
+ended-state routed own numbers result (Active r) is = is.kept
+ended-state routed own numbers result (Aborted r) is = tt
+ended-state routed own numbers result (Ready kept outcome) is = is
 
-result-state : (own : ℕ) (numbers : List ℕ) (result : MstrResult) (s : BlockState) (b : Bool)
-    → IsStateOf own numbers s
-    → IsStateOf own numbers (if b then call_ended result s else s)
-result-state own numbers result s true is = ended-state own numbers result s is
-result-state own numbers result s false is = is
+result-state : (routed : Bool) (own : ℕ) (numbers : List ℕ) (result : MstrResult)
+    (s : BlockState) (b : Bool) → IsStateOf routed own numbers s
+    → IsStateOf routed own numbers (if b then call_ended result s else s)
+result-state routed own numbers result s true is = ended-state routed own numbers result s is
+result-state routed own numbers result s false is = is
 
 pub finished-stays : (table : BlockTable) (id : CallId) (result : MstrResult) → IsTable table
     → IsTable (finished id result table)
@@ -156,8 +161,8 @@ finished-stays table id result t = names-stay table _ (λ place r runs.
     let block = get_or table.blocks place Idle in
     let after = map-at (with_result id result) refl table.blocks place in
     (r, still result block (is_awaited id block) r (sym (ap running_in after) ∙ runs), refl))
-    (map-states table.node table.numbers (with_result id result) refl
-    (λ s. result-state table.node table.numbers result s
+    (map-states table.routed table.node table.numbers (with_result id result) refl
+    (λ s. result-state table.routed table.node table.numbers result s
     (is_awaited id s)) table.blocks t.states) t
 
 -- a power failure leaves each call that runs
@@ -168,13 +173,13 @@ lost-runs (Active r) = refl
 lost-runs (Aborted r) = refl
 lost-runs (Ready kept result) = refl
 
-lost-state : (own : ℕ) (numbers : List ℕ) (s : BlockState) → IsStateOf own numbers s
-    → IsStateOf own numbers (power_lost s)
-lost-state own numbers Idle is = tt
-lost-state own numbers Waiting is = tt
-lost-state own numbers (Active r) is = is
-lost-state own numbers (Aborted r) is = is
-lost-state own numbers (Ready kept result) is = tt
+lost-state : (routed : Bool) (own : ℕ) (numbers : List ℕ) (s : BlockState)
+    → IsStateOf routed own numbers s → IsStateOf routed own numbers (power_lost s)
+lost-state routed own numbers Idle is = tt
+lost-state routed own numbers Waiting is = tt
+lost-state routed own numbers (Active r) is = is
+lost-state routed own numbers (Aborted r) is = is
+lost-state routed own numbers (Ready kept result) is = tt
 
 pub failed-runs : (table : BlockTable) (place : ℕ) (r : Running)
     → RunsAt (power_failed table) place r → RunsAt table place r
@@ -185,8 +190,8 @@ failed-runs table place r runs =
 pub failed-stays : (table : BlockTable) → IsTable table → IsTable (power_failed table)
 failed-stays table t = names-stay table _
     (λ place r runs. (r, failed-runs table place r runs, refl))
-    (map-states table.node table.numbers power_lost refl (lost-state table.node table.numbers)
-    table.blocks t.states) t
+    (map-states table.routed table.node table.numbers power_lost refl
+    (lost-state table.routed table.node table.numbers) table.blocks t.states) t
 
 -- a call that is taken keeps its name
 taken-name : (s : BlockState) (r : Running) → running_in (call_taken s) ≡ Some r
@@ -197,22 +202,22 @@ taken-name (Active a) r e = (a, refl, same_name (record a { ask = None }) r e)
 taken-name (Aborted a) r e = (a, refl, same_name (record a { ask = None }) r e)
 taken-name (Ready kept result) r e = absurd (nothing r e)
 
-taken-running : (own : ℕ) (numbers : List ℕ) (r : Running) → IsRunning own numbers r
-    → IsRunning own numbers (record r { ask = None })
-taken-running own numbers r is = record {
+taken-running : (routed : Bool) (own : ℕ) (numbers : List ℕ) (r : Running)
+    → IsRunning routed own numbers r → IsRunning routed own numbers (record r { ask = None })
+taken-running routed own numbers r is = record {
   named = is.named;
   network = is.network;
   kept = is.kept;
   ask = λ ask e. absurd (nothing ask e);
 }
 
-taken-state : (own : ℕ) (numbers : List ℕ) (s : BlockState) → IsStateOf own numbers s
-    → IsStateOf own numbers (call_taken s)
-taken-state own numbers Idle is = tt
-taken-state own numbers Waiting is = tt
-taken-state own numbers (Active r) is = taken-running own numbers r is
-taken-state own numbers (Aborted r) is = taken-running own numbers r is
-taken-state own numbers (Ready kept result) is = is
+taken-state : (routed : Bool) (own : ℕ) (numbers : List ℕ) (s : BlockState)
+    → IsStateOf routed own numbers s → IsStateOf routed own numbers (call_taken s)
+taken-state routed own numbers Idle is = tt
+taken-state routed own numbers Waiting is = tt
+taken-state routed own numbers (Active r) is = taken-running routed own numbers r is
+taken-state routed own numbers (Aborted r) is = taken-running routed own numbers r is
+taken-state routed own numbers (Ready kept result) is = is
 
 pub taken-stays : (table : BlockTable) (o : Option ℕ) → IsTable table → IsTable (taken_at table o)
 taken-stays table None t = t
@@ -220,5 +225,5 @@ taken-stays table (Some k) t =
     let block = get_or table.blocks k Idle in
     names-stay table _
     (λ place r. written table k (call_taken block) place r (λ q e. taken-name block q e))
-    (set-states table.node table.numbers table.blocks k (call_taken block) t.states
-    (taken-state table.node table.numbers block (t.states k))) t
+    (set-states table.routed table.node table.numbers table.blocks k (call_taken block) t.states
+    (taken-state table.routed table.node table.numbers block (t.states k))) t

@@ -2,12 +2,11 @@
 use Rattle.std.proofs.Common.{◌≡◌, ℕ, ◌+◌, ◌-◌, ◌≤◌, Bool, true, false, Option, Some, None, Ok, Err}
 use Rattle.std.proofs.Common.{List, length, refl, sym, subst, arith}
 use Rattle.std.specs.Prelude.{if◌then◌else◌, ◌==◌, ◌||◌, not, nat_le, nat_lt}
-use Rattle.std.specs.List.{list_all}
 use Rattle.std.proofs.lemmas.Bool.{and_parts, or_parts, not-false, leb-true, ltb-false, eqb-false}
 use Rattle.mstr_block.specs.declared.control.Control.{Control}
 use Rattle.mstr_block.specs.declared.operation.Operation.{Operation}
 use Rattle.mstr_block.specs.declared.operation.Operation.TheVariants as op
-use Rattle.plant_types.specs.Limits.{is_up_to, most_address}
+use Rattle.plant_types.specs.Limits.{is_up_to}
 use Rattle.plant_types.specs.Reference.{most_references}
 use Rattle.plant_types.specs.Words.{statistics_words}
 use Rattle.mstr_block.specs.Operations.{operation_of}
@@ -15,15 +14,17 @@ use Rattle.mstr_block.specs.Control.{has_bad_length, has_bad_start, has_bad_end,
 use Rattle.mstr_block.specs.Control.{has_bad_route, asks_itself, first_failing}
 use Rattle.mstr_block.specs.Control.{tests_of, tests_passed, checked, start_of, ask_of}
 use Rattle.mstr_block.specs.Solve.{kept_of}
-use Rattle.mstr_block.specs.Running.{IsOther, AreRegisters, AreStatistics, AreGlobal, MayBeAsked}
-use Rattle.mstr_block.specs.Running.{CanMove, AsksFor}
+use Rattle.mstr_block.specs.Running.{AreRegisters, AreStatistics, AreGlobal, MayBeAsked, CanMove}
+use Rattle.mstr_block.specs.Running.{AsksFor}
+use Rattle.mstr_block.proofs.Hops.{node-within, route-from}
 
 -- all tests of a start passed
-pub record Passes (own : ℕ) (operation : Operation) (control : Control) : Type 0 where
+pub record Passes (routed : Bool) (own : ℕ) (operation : Operation) (control : Control)
+    : Type 0 where
   pub long : has_bad_length operation control ≡ false
   pub start : has_bad_start operation control ≡ false
   pub last : has_bad_end operation control ≡ false
-  pub route : has_bad_route operation control ≡ false
+  pub route : has_bad_route routed operation control ≡ false
   pub self : asks_itself own operation control ≡ false
 
 not_bad : {X : Type 0} (word : ℕ) (operation : Operation) → Err word ≡ Ok operation → X
@@ -39,17 +40,17 @@ pass asked operation false word rest e = (refl, e)
 same : (asked operation : Operation) → tests_passed asked None ≡ Ok operation → asked ≡ operation
 same asked operation e = cc
 
-pass_all : (own room : ℕ) (control : Control) (asked operation : Operation)
-    → tests_passed asked (first_failing (tests_of own room asked control)) ≡ Ok operation
-    → Passes own operation control
-pass_all own room control asked operation e =
+pass_all : (routed : Bool) (own room : ℕ) (control : Control) (asked operation : Operation)
+    → tests_passed asked (first_failing (tests_of routed own room asked control)) ≡ Ok operation
+    → Passes routed own operation control
+pass_all routed own room control asked operation e =
     let one = pass asked operation (has_bad_length asked control) _ _ e in
     let two = pass asked operation (has_bad_start asked control) _ _ one.1 in
     let three = pass asked operation (has_bad_end asked control) _ _ two.1 in
     let four = pass asked operation (has_small_area room asked control) _ _ three.1 in
-    let five = pass asked operation (has_bad_route asked control) _ _ four.1 in
+    let five = pass asked operation (has_bad_route routed asked control) _ _ four.1 in
     let six = pass asked operation (asks_itself own asked control) _ _ five.1 in
-    subst (λ (o : Operation). Passes own o control) (same asked operation six.1) (record {
+    subst (λ (o : Operation). Passes routed own o control) (same asked operation six.1) (record {
       long = one.0;
       start = two.0;
       last = three.0;
@@ -57,16 +58,17 @@ pass_all own room control asked operation e =
       self = six.0;
     })
 
-pass_known : (own room : ℕ) (control : Control) (o : Option Operation) (operation : Operation)
-    → checked own room control o ≡ Ok
-    operation → Passes own operation control
-pass_known own room control None operation e = not_bad _ operation e
-pass_known own room control (Some asked) operation e = pass_all own room control asked operation e
+pass_known : (routed : Bool) (own room : ℕ) (control : Control) (o : Option Operation)
+    (operation : Operation) → checked routed own room control o ≡ Ok operation
+    → Passes routed own operation control
+pass_known routed own room control None operation e = not_bad _ operation e
+pass_known routed own room control (Some asked) operation e =
+    pass_all routed own room control asked operation e
 
-pub passes : (own room : ℕ) (control : Control) (operation : Operation)
-    → start_of own room control ≡ Ok operation → Passes own operation control
-passes own room control operation e =
-    pass_known own room control (operation_of control.code) operation e
+pub passes : (routed : Bool) (own room : ℕ) (control : Control) (operation : Operation)
+    → start_of routed own room control ≡ Ok operation → Passes routed own operation control
+passes routed own room control operation e =
+    pass_known routed own room control (operation_of control.code) operation e
 
 -- a length within its limits
 within : (most n : ℕ) → not (is_up_to most n) ≡ false → (1 ≤ n) × (n ≤ most)
@@ -91,48 +93,41 @@ statistics : (start count : ℕ) → not (is_up_to 20 count) ≡ false
 statistics start count long last =
     ((within 20 count long).0, ltb-false statistics_words (start + count) last)
 
-pub can_move : (own : ℕ) (operation : Operation) (control : Control) → Passes own operation control
-    → CanMove operation control.start control.length
-can_move own op.WriteData control p = registers control.start control.length p.long p.start p.last
-can_move own op.ReadData control p = registers control.start control.length p.long p.start p.last
-can_move own op.LocalStatistics control p = statistics control.start control.length p.long p.last
-can_move own op.ClearLocal control p = tt
-can_move own op.WriteGlobal control p = within 32 control.length p.long
-can_move own op.ReadGlobal control p = within 32 control.length p.long
-can_move own op.RemoteStatistics control p = statistics control.start control.length p.long p.last
-can_move own op.ClearRemote control p = tt
+pub can_move : (routed : Bool) (own : ℕ) (operation : Operation) (control : Control)
+    → Passes routed own operation control → CanMove operation control.start control.length
+can_move routed own op.WriteData control p =
+    registers control.start control.length p.long p.start p.last
+can_move routed own op.ReadData control p =
+    registers control.start control.length p.long p.start p.last
+can_move routed own op.LocalStatistics control p =
+    statistics control.start control.length p.long p.last
+can_move routed own op.ClearLocal control p = tt
+can_move routed own op.WriteGlobal control p = within 32 control.length p.long
+can_move routed own op.ReadGlobal control p = within 32 control.length p.long
+can_move routed own op.RemoteStatistics control p =
+    statistics control.start control.length p.long p.last
+can_move routed own op.ClearRemote control p = tt
 
--- the node of a route
-node_of : (control : Control) (rest : Bool) → (not (is_up_to most_address control.node) || rest)
-    ≡ false → (1 ≤ control.node) × (control.node ≤ most_address)
-node_of control rest e =
-    within most_address control.node (or_parts (not (is_up_to most_address control.node)) rest e).0
-
-other : (own : ℕ) (control : Control) → (not (is_up_to most_address control.node)
-    || not (list_all (λ hop. hop == 0) control.hops)) ≡ false
-    → (control.node == own) ≡ false → IsOther own control.node
-other own control route apart =
-    let there = node_of control _ route in
-    (there.0, there.1, λ e. eqb-false control.node own apart e)
-
-pub is_ask : (own : ℕ) (operation : Operation) (control : Control) (words : List ℕ)
-    → Passes own operation control → length words ≡ control.length
-    → MayBeAsked own (ask_of operation control words)
-is_ask own op.WriteData control words p long = (
-  other own control p.route p.self,
-  subst (λ (n : ℕ). AreRegisters control.start n) (sym long) (can_move own op.WriteData control p),
+pub is_ask : (routed : Bool) (own : ℕ) (operation : Operation) (control : Control)
+    (words : List ℕ) → Passes routed own operation control → length words ≡ control.length
+    → MayBeAsked routed own (ask_of operation control words)
+is_ask routed own op.WriteData control words p long = (
+  route-from routed own control p.route p.self,
+  subst (λ (n : ℕ). AreRegisters control.start n) (sym long)
+      (can_move routed own op.WriteData control p),
 )
-is_ask own op.ReadData control words p long =
-    (other own control p.route p.self, can_move own op.ReadData control p)
-is_ask own op.LocalStatistics control words p long = tt
-is_ask own op.ClearLocal control words p long = tt
-is_ask own op.WriteGlobal control words p long =
-    subst AreGlobal (sym long) (can_move own op.WriteGlobal control p)
-is_ask own op.ReadGlobal control words p long =
-    let there = node_of control _ p.route in
-    (there.0, there.1, can_move own op.ReadGlobal control p)
-is_ask own op.RemoteStatistics control words p long = other own control p.route p.self
-is_ask own op.ClearRemote control words p long = other own control p.route p.self
+is_ask routed own op.ReadData control words p long =
+    (route-from routed own control p.route p.self, can_move routed own op.ReadData control p)
+is_ask routed own op.LocalStatistics control words p long = tt
+is_ask routed own op.ClearLocal control words p long = tt
+is_ask routed own op.WriteGlobal control words p long =
+    subst AreGlobal (sym long) (can_move routed own op.WriteGlobal control p)
+is_ask routed own op.ReadGlobal control words p long =
+    (node-within control false p.route, can_move routed own op.ReadGlobal control p)
+is_ask routed own op.RemoteStatistics control words p long =
+    route-from routed own control p.route p.self
+is_ask routed own op.ClearRemote control words p long =
+    route-from routed own control p.route p.self
 
 pub asks_for : (operation : Operation) (control : Control) (words : List ℕ)
     → length words ≡ control.length

@@ -30,7 +30,7 @@ pub data Step (table : BlockTable) (block : ℕ) : BlockTable → Type 0 where
       → Step table block (with_state table block (Aborted r))
   launches : (op : Operation) (control : Control) (words : List ℕ) (path : ℕ)
       → running_in (block_state table block) ≡ None → path_for table op ≡ Some path
-      → Passes table.node op control → length words ≡ control.length
+      → Passes table.routed table.node op control → length words ≡ control.length
       → Step table block (launched table block op control words (Some path))
 
 module _ (table : BlockTable) (block : ℕ) (site : Site) (m : Contents) where
@@ -41,31 +41,31 @@ module _ (table : BlockTable) (block : ℕ) (site : Site) (m : Contents) where
 
   at_launch : (op : Operation) (control : Control) (words : List ℕ) (o : Option ℕ)
       → running_in (block_state table block) ≡ None → path_for table op ≡ o
-      → Passes table.node op control → length words ≡ control.length
+      → Passes table.routed table.node op control → length words ≡ control.length
       → Step table block (launched table block op control words o)
   at_launch op control words None none e passed long = rests Waiting none waiting
   at_launch op control words (Some path) none e passed long =
       launches op control words path none e passed long
 
   at_start : (o : Result Operation ℕ)
-      → start_of table.node site.room (control_block_of m site.control) ≡ o
+      → start_of table.routed table.node site.room (control_block_of m site.control) ≡ o
       → running_in (block_state table block) ≡ None
       → Step table block (start_by table block site m o).table
   at_start (Err word) e none = rests Idle none idle
   at_start (Ok op) e none =
       let control = control_block_of m site.control in
       at_launch op control (words_from m site.area control.length) (path_for table op) none refl
-      (passes table.node site.room control op e)
+      (passes table.routed table.node site.room control op e)
       (length-words_from m site.area control.length)
 
   at_state : (inputs : NodePower) (s : BlockState) → block_state table block ≡ s
       → Step table block (solved_in s table block site inputs m).table
   at_state inputs Idle e =
-      at_if (inputs.top && not inputs.middle) _ _ (at_start (start_of table.node site.room
-      (control_block_of m site.control)) refl (ap running_in e)) stays
+      at_if (inputs.top && not inputs.middle) _ _ (at_start (start_of table.routed table.node
+      site.room (control_block_of m site.control)) refl (ap running_in e)) stays
   at_state inputs Waiting e =
       at_if inputs.middle _ _ (rests Idle (ap running_in e) idle)
-      (at_start (start_of table.node site.room
+      (at_start (start_of table.routed table.node site.room
       (control_block_of m site.control)) refl (ap running_in e))
   at_state inputs (Active r) e = at_if inputs.middle _ _ (gives_up r e) stays
   at_state inputs (Aborted r) e = stays

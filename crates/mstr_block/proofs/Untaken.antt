@@ -1,11 +1,10 @@
 -- The first of the started calls, and the place of its block.
-use Rattle.std.proofs.Common.{◌≡◌, ℕ, ◌+◌, ◌<◌, ◌≤◌, Bool, true, false, cond, List, [], ◌∷◌, length}
-use Rattle.std.proofs.Common.{get_or, drop, Option, Some, None, is_some, refl, sym, ap, ◌∙◌, arith}
+use Rattle.std.proofs.Common.{◌≡◌, ℕ, ◌<◌, ◌≤◌, Bool, true, false, cond, List, [], ◌∷◌, length}
+use Rattle.std.proofs.Common.{get_or, Option, Some, None, is_some, refl, sym, ap, ◌∙◌, arith}
 use Rattle.std.proofs.Common.{inl, inr}
 use Rattle.std.specs.Prelude.{nat_lt, option_and_then}
 use Rattle.std.specs.List.{filter_map, cons_option, find, slice_get, position, position_or_len}
 use Rattle.std.proofs.lemmas.Bool.Decides.{nat_tests}
-use Rattle.std.proofs.lemmas.List.{drop_more}
 use Rattle.std.proofs.lemmas.List.Folds.{find_at}
 use Rattle.std.proofs.lemmas.Option.{slice_get-get_or, slice_get_cases}
 use Rattle.mstr_block.specs.declared.state.BlockState.{BlockState}
@@ -50,11 +49,6 @@ head_at h xs d =
     let test : _ → Bool = λ x. is_some (h x) in
     head_found h xs ∙ ap (option_and_then h) (find_at test xs)
     ∙ at_place h xs d (position_or_len test xs) (nat_lt (position_or_len test xs) (length xs)) refl
-
--- one element more of what a list gives
-pub given_more : {X Y : Type 0} (h : X → Option Y) (xs : List X) (i : ℕ) (d : X) → i < length xs
-    → filter_map h (drop i xs) ≡ cons_option (h (get_or xs i d)) (filter_map h (drop (i + 1) xs))
-given_more h xs i d within = ap (filter_map h) (drop_more xs i d within)
 
 -- the first of the started calls is that of the first block that has one
 pub first_started : (table : BlockTable) (d : BlockState) (place : Option ℕ)

@@ -1,6 +1,6 @@
 -- What stays true of the calls of a table. This project's own.
-use Rattle.std.specs.Prelude.{◌≡◌, ◌⊎◌, ℕ, ◌≤◌, ◌<◌, ◌||◌, true, false, [], length, get_or, map}
-use Rattle.std.specs.Prelude.{drop, is_some}
+use Rattle.std.specs.Prelude.{◌≡◌, ◌⊎◌, ℕ, ◌≤◌, ◌<◌, Bool, ◌||◌, true, false, [], length, get_or}
+use Rattle.std.specs.Prelude.{map, drop, is_some}
 use Rattle.std.specs.List.{list_any, slice_get}
 use Rattle.plant_types.specs.declared.power.NodePower.{NodePower}
 use Rattle.plant_types.specs.Store.{Contents}
@@ -18,6 +18,7 @@ use Rattle.mstr_block.specs.Solve.{block_solved}
 -- still is one; and a call that is out is still out.
 pub record KeepsCalls (before after : BlockTable) : Type 0 where
   pub node : after.node ≡ before.node
+  pub routed : after.routed ≡ before.routed
   pub count : length after.blocks ≡ length before.blocks
   pub started : has_untaken before ≡ true → has_untaken after ≡ true
   pub out : (id : CallId) → is_taken_out before id ≡ true → is_taken_out after id ≡ true
@@ -78,7 +79,7 @@ pub record PowerFailuresKeepCalls : Type 0 where
 
 -- A bank begins with such a table, and each of its calls leaves such a table.
 pub record StaysTable : Type 0 where
-  pub idle : (node count : ℕ) → IsTable (idle_table node count)
+  pub idle : (node : ℕ) (routed : Bool) (count : ℕ) → IsTable (idle_table node routed count)
   pub solved : (table : BlockTable) (block : ℕ) (site : Site) (inputs : NodePower) (m : Contents)
       → IsTable table → IsTable (block_solved table block site inputs m).table
   pub taken : (table : BlockTable) → IsTable table → IsTable (first_taken table)

@@ -95,7 +95,8 @@ start_by table block site m (Ok operation) =
 
 abbrev pub started : BlockTable → ℕ → Site → Contents → Solved
 started table block site m =
-    start_by table block site m (start_of table.node site.room (control_block_of m site.control))
+    start_by table block site m
+    (start_of table.routed table.node site.room (control_block_of m site.control))
 
 -- The words that an operation answers, of those of a good result: statistics from the first that
 -- was asked for on, and global words behind the number of words available.

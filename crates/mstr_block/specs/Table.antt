@@ -17,10 +17,11 @@ use Rattle.mstr_block.specs.declared.state.BlockState.TheVariants.{Ready}
 use Rattle.mstr_block.specs.Call.{is_same_call}
 use Rattle.mstr_block.specs.Operations.{uses_network}
 
--- The own address, the blocks by their numbers, and the last number that each path gave a call,
--- with path 0 first.
+-- The own address, whether routes may lead over bridges, the blocks by their numbers, and the last
+-- number that each path gave a call, with path 0 first.
 pub record BlockTable : Type 0 where
   pub node : ℕ
+  pub routed : Bool
   pub blocks : List BlockState
   pub numbers : List ℕ
 
@@ -36,13 +37,13 @@ abbrev pub last_call_number : ℕ
 last_call_number = 4294967295
 
 -- All blocks are idle, and the paths have given these numbers.
-abbrev pub resting_table : ℕ → ℕ → List ℕ → BlockTable
-resting_table node count numbers =
-    record { node = node; blocks = replicate count Idle; numbers = numbers }
+abbrev pub resting_table : ℕ → Bool → ℕ → List ℕ → BlockTable
+resting_table node routed count numbers =
+    record { node = node; routed = routed; blocks = replicate count Idle; numbers = numbers }
 
 -- At first all blocks are idle, and no path has given a number.
-abbrev pub idle_table : ℕ → ℕ → BlockTable
-idle_table node count = resting_table node count (replicate path_places 0)
+abbrev pub idle_table : ℕ → Bool → ℕ → BlockTable
+idle_table node routed count = resting_table node routed count (replicate path_places 0)
 
 -- The state of a block, which is found by its number, from 1 on.
 abbrev pub block_state : BlockTable → ℕ → BlockState

@@ -35,11 +35,12 @@ impl Model for MstrBank {
 }
 
 impl MstrBank {
-    /// The blocks of the station at an address, 1 to 64: as many, all idle.
-    pub fn new(alloc: Global, node: u8, blocks: u16) -> Result<MstrBank, AllocError>
-        ensures { IfOk result (λ bank. bank ≡ idle_table node blocks) }
+    /// The blocks of the station at an address, 1 to 64: as many, all idle. Its routes may lead over
+    /// bridges where it is `routed`.
+    pub fn new(alloc: Global, node: u8, blocks: u16, routed: bool) -> Result<MstrBank, AllocError>
+        ensures { IfOk result (λ bank. bank ≡ idle_table node routed blocks) }
     {
-        let blocks = Blocks::new(alloc, node, blocks, [0; PATH_PLACES])?;
+        let blocks = Blocks::new(alloc, node, routed, blocks, [0; PATH_PLACES])?;
         Ok(MstrBank { blocks })
     }
 
@@ -51,7 +52,7 @@ impl MstrBank {
         blocks: u16,
         numbers: [u32; PATH_PLACES],
     ) -> Result<MstrBank, AllocError> {
-        let blocks = Blocks::new(alloc, node, blocks, numbers)?;
+        let blocks = Blocks::new(alloc, node, false, blocks, numbers)?;
         Ok(MstrBank { blocks })
     }
 
@@ -75,7 +76,7 @@ impl MstrBank {
     pub fn take_started(&mut self) -> Option<MstrCall>
         ensures call { result ≡ slice_get (started_calls self.old) 0 }
         ensures taken { self.new ≡ first_taken self.old }
-        ensures named { IfSome result (IsCall self.old.node) }
+        ensures named { IfSome result (IsCall self.old.routed self.old.node) }
         ensures table { IsTable self.new }
     {
         self.blocks.take_started()
@@ -86,7 +87,7 @@ impl MstrBank {
     pub fn started(&self, k: u32) -> Option<MstrCall>
         ensures call { result ≡
             (if k == 0 then None else slice_get (started_calls self.now) (k - 1)) }
-        ensures named { IfSome result (IsCall self.now.node) }
+        ensures named { IfSome result (IsCall self.now.routed self.now.node) }
     {
         self.blocks.started(k)
     }

@@ -34,6 +34,7 @@ const USER_ABORT: u16 = 0x1001;
 #[derive(Drop)]
 pub(crate) struct Blocks {
     node: u8,
+    routed: bool,
     blocks: Vec<BlockState>,
     numbers: [u32; PATH_PLACES],
 }
@@ -43,7 +44,12 @@ impl Model for Blocks {
 
     ghost Value = { BlockTable };
 
-    ghost view = { λ b. record { node = b.node; blocks = b.blocks.items; numbers = b.numbers } };
+    ghost view = { λ b. record {
+      node = b.node;
+      routed = b.routed;
+      blocks = b.blocks.items;
+      numbers = b.numbers;
+    } };
 }
 
 /// As many idle blocks.
@@ -62,13 +68,15 @@ impl Blocks {
     pub fn new(
         alloc: Global,
         node: u8,
+        routed: bool,
         blocks: u16,
         numbers: [u32; PATH_PLACES],
     ) -> Result<Blocks, AllocError>
-        ensures { IfOk result (λ made. made ≡ resting_table node blocks numbers) }
+        ensures { IfOk result (λ made. made ≡ resting_table node routed blocks numbers) }
     {
         Ok(Blocks {
             node,
+            routed,
             blocks: idle_blocks(alloc, blocks)?,
             numbers,
         })
@@ -275,7 +283,7 @@ impl Blocks {
             (R.contents ram.old) (R.contents ram.new) }
     {
         let control = Control::read(site.control, ram);
-        match control.start(self.node, site.room) {
+        match control.start(self.routed, self.node, site.room) {
             Ok(operation) => {
                 self.launch(block, site, operation, &control, ram);
                 ram.set_word(status_register(site.control), 0);

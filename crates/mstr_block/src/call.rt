@@ -2,7 +2,7 @@
 ghost use Rattle.std.specs.Prelude.{◌≡◌};
 ghost use Rattle.mstr_block.specs.Call.{is_same_call, words_told};
 
-use plant_types::{Block, Copied};
+use plant_types::{Block, Copied, Route};
 use std::alloc::{AllocError, Global};
 
 /// The name of a call: who calls, on which of its paths, and its number there.
@@ -22,9 +22,17 @@ pub struct CallId {
 #[derive(Drop)]
 pub enum MstrAsk {
     /// These words into the holding registers of another node from `start` on.
-    Write { to: u8, start: u16, words: Block },
+    Write {
+        route: Route,
+        start: u16,
+        words: Block,
+    },
     /// As many holding registers of another node from `start` on.
-    Read { to: u8, start: u16, length: u16 },
+    Read {
+        route: Route,
+        start: u16,
+        length: u16,
+    },
     /// The own statistics.
     LocalStats,
     /// The own statistics from zero on.
@@ -32,11 +40,18 @@ pub enum MstrAsk {
     /// These words, at most 32, with the own token from then on.
     PutGlobal(Block),
     /// As many of the words that a node passed with its token.
-    GetGlobal { node: u8, length: u16 },
+    GetGlobal {
+        node: u8,
+        length: u16,
+    },
     /// The statistics of another node.
-    RemoteStats { to: u8 },
+    RemoteStats {
+        route: Route,
+    },
     /// The statistics of another node from zero on.
-    ClearRemote { to: u8 },
+    ClearRemote {
+        route: Route,
+    },
 }
 
 /// A call that an MSTR block started.
@@ -45,6 +60,9 @@ pub struct MstrCall {
     pub id: CallId,
     pub ask: MstrAsk,
 }
+
+/// The error word of a call whose target is no member, or does not hear its frame.
+pub const NOBODY_THERE: u16 = 0x6103;
 
 /// How a call ended: with words, or with an error word.
 #[derive(Drop)]
@@ -87,13 +105,21 @@ impl MstrAsk {
         ensures { result ≡ self.now }
     {
         match self {
-            MstrAsk::Write { to, start, words } => MstrAsk::Write {
-                to: *to,
+            MstrAsk::Write {
+                route,
+                start,
+                words,
+            } => MstrAsk::Write {
+                route: *route,
                 start: *start,
                 words: Block::of(words.words()),
             },
-            MstrAsk::Read { to, start, length } => MstrAsk::Read {
-                to: *to,
+            MstrAsk::Read {
+                route,
+                start,
+                length,
+            } => MstrAsk::Read {
+                route: *route,
                 start: *start,
                 length: *length,
             },
@@ -104,8 +130,8 @@ impl MstrAsk {
                 node: *node,
                 length: *length,
             },
-            MstrAsk::RemoteStats { to } => MstrAsk::RemoteStats { to: *to },
-            MstrAsk::ClearRemote { to } => MstrAsk::ClearRemote { to: *to },
+            MstrAsk::RemoteStats { route } => MstrAsk::RemoteStats { route: *route },
+            MstrAsk::ClearRemote { route } => MstrAsk::ClearRemote { route: *route },
         }
     }
 }

@@ -1,22 +1,24 @@
 //! The control block of an MSTR block, and the tests of a start.
-ghost use Rattle.std.specs.Prelude.{◌≡◌, ◌+◌, ◌<◌, ◌^◌, ◌==◌, IfOk};
-ghost use Rattle.std.specs.List.{list_all};
+ghost use Rattle.std.specs.Prelude.{◌≡◌, ◌+◌, ◌<◌, ◌≤◌, ◌^◌, nat_lt, length, IfOk};
+ghost use Rattle.std.specs.List.{list_any, list_all, position, position_or_len, after_first};
+ghost use Rattle.plant_types.specs.Limits.{most_address};
 ghost use Rattle.plant_types.specs.Reference.{ref_from};
 ghost use Rattle.plant_types.specs.Slots.{control_block};
 ghost use Rattle.plant_types.specs.Store.{HasRegisters, word_at, words_from};
 ghost use Rattle.mstr_block.specs.Control.{control_block_of, has_bad_length, has_bad_start};
-ghost use Rattle.mstr_block.specs.Control.{has_bad_end, has_small_area, has_bad_route, asks_itself};
-ghost use Rattle.mstr_block.specs.Control.{start_of, ask_of, FitsStart};
+ghost use Rattle.mstr_block.specs.Control.{has_bad_end, has_small_area, is_no_hop, has_bad_hops};
+ghost use Rattle.mstr_block.specs.Control.{has_bad_route, asks_itself, route_of, start_of, ask_of};
+ghost use Rattle.mstr_block.specs.Control.{AreLow, FitsStart};
 
 use crate::call::MstrAsk;
 use crate::operation::Operation;
 use plant_types::{
-    BLOCK_LIMIT, Block, NODE_LIMIT, REFERENCE_LIMIT, Ref, RefStore, STATISTICS_WORDS, load_words,
-    ref_after,
+    BLOCK_LIMIT, Block, NODE_LIMIT, REFERENCE_LIMIT, ROUTE_LIMIT, Ref, RefStore, Route,
+    STATISTICS_WORDS, load_words, ref_after,
 };
 
-/// The registers of a route behind its first node.
-const HOP_COUNT: usize = 4;
+/// The registers of a route behind its first address.
+const HOP_COUNT: usize = ROUTE_LIMIT - 1;
 
 /// What the registers of a control block say, but for its status.
 #[derive(Clone, Copy, Drop)]
@@ -26,7 +28,7 @@ pub(crate) struct Control {
     /// The first register there, or the first word of the statistics.
     pub start: u16,
     pub node: u16,
-    /// The rest of the route.
+    /// The hops of a route behind the node.
     pub hops: [u16; HOP_COUNT],
 }
 
@@ -83,7 +85,7 @@ fn number_in<R: RefStore>(control: Ref, place: u16, ram: &R) -> u16
     ram.word(ref_after(control, place))
 }
 
-/// The route behind its first node.
+/// The hops behind the node.
 fn hops_in<R: RefStore>(control: Ref, ram: &R) -> [u16; HOP_COUNT]
     requires { HasRegisters (R.contents ram.now) control control_block }
     ensures { result ≡ words_from (R.contents ram.now) (ref_from control 5) 4 }
@@ -91,6 +93,36 @@ fn hops_in<R: RefStore>(control: Ref, ram: &R) -> [u16; HOP_COUNT]
     let mut hops = [0; HOP_COUNT];
     load_words(ram, ref_after(control, ROUTE_BEHIND), &mut hops);
     hops
+}
+
+/// The place of the first of these that is 0.
+fn route_end(hops: &[u16]) -> Option<usize>
+    ensures { result ≡ position is_no_hop hops.now }
+{
+    hops.iter().position(|hop| *hop == 0)
+}
+
+/// How many hops a route has, which ends before the first that is 0.
+fn hop_count(hops: &[u16]) -> usize
+    ensures count { result ≡ position_or_len is_no_hop hops.now }
+    ensures fits { result ≤ length hops.now }
+{
+    route_end(hops).unwrap_or(hops.len())
+}
+
+/// Whether all of these are 0.
+fn are_no_hops(hops: &[u16]) -> bool
+    ensures { result ≡ list_all is_no_hop hops.now }
+{
+    hops.iter().all(|hop| *hop == 0)
+}
+
+/// Whether all hops behind the first that is 0 are 0 too.
+fn end_once(hops: &[u16]) -> bool
+    ensures { result ≡ list_all is_no_hop (after_first is_no_hop hops.now) }
+{
+    let behind = (hop_count(hops) + 1).min(hops.len());
+    are_no_hops(&hops[behind..])
 }
 
 /// The registers of the data area, which a call writes.
@@ -150,17 +182,41 @@ impl Control {
         operation.most_words().is_some() && self.length > room
     }
 
-    fn ends_at_node(&self) -> bool
-        ensures { result ≡ list_all (λ hop. hop == 0) self.now.hops }
+    /// Whether a hop is no address.
+    fn has_high_hop(&self) -> bool
+        ensures { result ≡ list_any (nat_lt most_address) self.now.hops }
     {
-        self.hops.iter().all(|hop| *hop == 0)
+        self.hops.iter().any(|hop| *hop > u16::from(NODE_LIMIT))
     }
 
-    fn has_bad_route(&self, operation: Operation) -> bool
-        ensures { result ≡ has_bad_route operation self.now }
+    fn has_bad_hops(&self, routed: bool) -> bool
+        ensures { result ≡ has_bad_hops routed self.now.hops }
+    {
+        if routed {
+            self.has_high_hop() || !end_once(&self.hops)
+        } else {
+            !are_no_hops(&self.hops)
+        }
+    }
+
+    fn has_bad_route(&self, routed: bool, operation: Operation) -> bool
+        ensures { result ≡ has_bad_route routed operation self.now }
     {
         operation.names_node() && (self.node < 1 || self.node > u16::from(NODE_LIMIT))
-            || operation.uses_network() && !self.ends_at_node()
+            || operation.uses_network() && self.has_bad_hops(routed)
+    }
+
+    /// The node, and the hops behind it up to the first that is 0.
+    fn route(&self) -> Route
+        requires { AreLow (route_of self.now) }
+        ensures { result ≡ route_of self.now }
+    {
+        let mut addresses = [self.node as u8; ROUTE_LIMIT];
+        let count = hop_count(&self.hops);
+        for place in 0..count {
+            addresses[place + 1] = self.hops[place] as u8;
+        }
+        Route::of(&addresses[..count + 1])
     }
 
     fn asks_itself(&self, own: u8, operation: Operation) -> bool
@@ -170,8 +226,8 @@ impl Control {
     }
 
     /// The operation of a start, or the error word of the first test that fails.
-    pub fn start(&self, own: u8, room: u16) -> Result<Operation, u16>
-        ensures start { result ≡ start_of own room self.now }
+    pub fn start(&self, routed: bool, own: u8, room: u16) -> Result<Operation, u16>
+        ensures start { result ≡ start_of routed own room self.now }
         ensures fits { IfOk result (λ operation. FitsStart room operation self.now) }
     {
         let operation = Operation::of_code(self.code).ok_or(ILLEGAL_OPERATION)?;
@@ -187,7 +243,7 @@ impl Control {
         if self.has_small_area(room, operation) {
             return Err(INVALID_AREA);
         }
-        if self.has_bad_route(operation) {
+        if self.has_bad_route(routed, operation) {
             return Err(INVALID_ROUTE);
         }
         if self.asks_itself(own, operation) {
@@ -205,12 +261,12 @@ impl Control {
     {
         match operation {
             Operation::WriteData => MstrAsk::Write {
-                to: self.node as u8,
+                route: self.route(),
                 start: self.start,
                 words: words_to_write(area, self.length, ram),
             },
             Operation::ReadData => MstrAsk::Read {
-                to: self.node as u8,
+                route: self.route(),
                 start: self.start,
                 length: self.length,
             },
@@ -222,10 +278,10 @@ impl Control {
                 length: self.length,
             },
             Operation::RemoteStatistics => MstrAsk::RemoteStats {
-                to: self.node as u8,
+                route: self.route(),
             },
             Operation::ClearRemote => MstrAsk::ClearRemote {
-                to: self.node as u8,
+                route: self.route(),
             },
         }
     }

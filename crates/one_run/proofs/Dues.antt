@@ -22,7 +22,8 @@ use Rattle.ring_core.specs.Legal.{IsLegalRing, IsRingStep}
 use Rattle.ring_core.specs.Machine.{ring_after}
 use Rattle.ring_core.specs.Refusals.{word_of}
 use Rattle.ring_core.specs.Scratch.{local_result}
-use Rattle.ring_core.specs.Statistics.{is_stats}
+use Rattle.ring_core.specs.Statistics.{is_for_stats}
+use Rattle.ring_core.specs.Words.{request_along}
 use Rattle.ring_core.specs.declared.frame.FrameKind.{FrameKind}
 use Rattle.ring_core.specs.declared.frame.FrameKind.TheVariants.{Request, Reply}
 use Rattle.ring_core.specs.declared.frame.Frame.{Frame}
@@ -34,7 +35,6 @@ use Rattle.tied_lists.specs.Items.{request_of, reply_of}
 use Rattle.tied_lists.proofs.Turns.{legal-parts}
 use Rattle.comm_port.specs.HoldTurn.{EndedAs, IsEnded, IsGivenUp, IsMade, IsServed, MadeAs}
 use Rattle.comm_port.specs.HoldTurn.{ServedAs, reply_entries}
-use Rattle.comm_port.specs.Making.{request_frame}
 use Rattle.comm_port.specs.Parts.{InOrder}
 use Rattle.joint_history.specs.Reading.{controller_at}
 use Rattle.comm_port.specs.Replies.{reply_frame}
@@ -52,7 +52,7 @@ ring-step net past e rest legal = (legal-parts net past (e ∷ rest) legal).1.0
 -- the word of a call that is given up
 pub word-is : (net : NetPlan) (past : List RingEntry) (id : CallId) (word : ℕ)
     (rest : List RingEntry) → IsLegalRing net (past ++ GiveUp id word ∷ rest)
-    → word ≡ word_of (ring_after net past) id
+    → word ≡ word_of net (ring_after net past) id
 word-is net past id word rest legal = (ring-step net past (GiveUp id word) rest legal).1.1
 
 -- the result of an operation
@@ -198,7 +198,7 @@ module _ (fixed : Fixed) (net : NetPlan) (n : ℕ) where
   -- a frame that is served
   pub one-served : OneDue fixed net n (λ (f : Frame). Unit {0}) (IsServed n)
   one-served f known noted noted' ring done done' fit behind mine m m' u v = at f.kind refl
-      (is_stats f.pdu) u v
+      (is_for_stats f) u v
     where
       at : (kind : FrameKind) → f.kind ≡ kind → (stats : Bool) → ServedAs kind stats n f noted done
           → ServedAs kind stats n f noted' done'
@@ -276,11 +276,10 @@ module _ (fixed : Fixed) (net : NetPlan) (n : ℕ) where
     where
       at : (kind : CallKind) → MadeAs kind n call.id noted done → MadeAs kind n call.id noted' done'
           → One n known ring noted noted' done done'
-      at (kinds.Net to pdu) a b =
-          by known noted noted' [] [] ring done done' (Post n (request_frame call.id to pdu) ∷ [])
-          a.0 b.0 a.1 b.1 refl mine behind
-          (let z : endings [] ≤ closings (Post n (request_frame call.id to pdu) ∷ []) =
-          omega arith in z)
+      at (kinds.Net route pdu) a b =
+          let post : RingEntry = Post n (request_along call.id route pdu) in
+          by known noted noted' [] [] ring done done' (post ∷ []) a.0 b.0 a.1 b.1 refl mine behind
+          (let z : endings [] ≤ closings (post ∷ []) = omega arith in z)
       at (kinds.Local op) a b = one-local call.id op known noted noted' ring done done' node
           behind mine m m' a b
 
@@ -305,8 +304,8 @@ module _ (fixed : Fixed) (net : NetPlan) (n : ℕ) where
     where
       at : (kind : CallKind) → EndedAs kind n call.id noted done
           → EndedAs kind n call.id noted' done' → One n known ring noted noted' done done'
-      at (kinds.Net to pdu) a b =
-          let post : RingEntry = Post n (request_frame call.id to pdu) in
+      at (kinds.Net route pdu) a b =
+          let post : RingEntry = Post n (request_along call.id route pdu) in
           let first = word-is net (ring ++ post ∷ []) call.id a.0 []
           (subst (IsLegalRing net) (ap (λ l. ring ++ l) a.2
           ∙ sym (append_assoc ring (post ∷ []) (GiveUp call.id a.0 ∷ []))) m.ring_legal) in

@@ -29,7 +29,8 @@ use Rattle.ring_core.specs.Machine.{aged_await, with_frame, arrived, arrival, fe
 use Rattle.ring_core.specs.Machine.{is_repeat, waits_for}
 use Rattle.ring_core.specs.Machine.{fate_at, heard_of, failed, sent_off, heard_by, silence_word}
 use Rattle.ring_core.specs.Machine.{busy_word, sent_head, after}
-use Rattle.ring_core.specs.Machine.{with_members, ring_after, addresses, hears, left_with}
+use Rattle.ring_core.specs.Words.{is_onward}
+use Rattle.ring_core.specs.Machine.{with_members, ring_after, addresses, hears, gone_by}
 use Rattle.ring_core.specs.Machine.{after_pass, handed_on, is_held, with_node, with_status}
 use Rattle.ring_core.proofs.Stability.{admitted-part}
 use Rattle.tied_lists.proofs.Histories.{arrived-part}
@@ -71,7 +72,7 @@ some-fail paths q v p =
 -- a call that waited for a Pass more has not failed by it
 aged-fail : (a : Await) → HasFailed (aged_await a) → HasFailed a
 aged-fail Nothing f = absurd f
-aged-fail (Out seq to passes) f = absurd f
+aged-fail (Out seq to onward passes) f = absurd f
 aged-fail (Arrived seq) f = absurd f
 aged-fail (Failed seq word) f = f
 
@@ -83,11 +84,11 @@ aged-fails (x ∷ paths) (suc p) f = aged-fails paths p f
 -- ---- a node's part
 
 -- nor has a call that is posted
-asked-fails : (c : NodeIs) (kind : FrameKind) (id : CallId) (to p : ℕ)
-    → Fails (asked c kind id to) p → HasFailedOn c p
-asked-fails c Request id to p f =
-    no-fail c.paths id.path (record { awaits = Out id.seq to 0; posted = id.seq }) (λ x. x) p f
-asked-fails c Reply id to p f = f
+asked-fails : (c : NodeIs) (kind : FrameKind) (f : Frame) (p : ℕ) → Fails (asked c kind f) p
+    → HasFailedOn c p
+asked-fails c Request f p x = no-fail c.paths f.id.path
+    (record { awaits = Out f.id.seq f.to (is_onward f) 0; posted = f.id.seq }) (λ y. y) p x
+asked-fails c Reply f p x = x
 
 -- nor one whose Reply is taken
 taken-fails : (c : NodeIs) (kind : FrameKind) (path p : ℕ) → Fails (paths_after_take c kind path) p
@@ -115,12 +116,12 @@ come-fails c f Reply p =
     (record { awaits = Arrived f.id.seq; posted = (path_of c f.id.path).posted })
     (λ y. y) p x) (λ _ x. x)
 
-arrived-fails : (nodes : List NodeIs) (f : Frame) (fate : Fate) (n p : ℕ)
-    → HasFailedOn (part_of (arrived nodes f (arrival nodes fate f)) n) p
+arrived-fails : (net : NetPlan) (nodes : List NodeIs) (f : Frame) (fate : Fate) (n p : ℕ)
+    → HasFailedOn (part_of (arrived nodes f (arrival net nodes fate f)) n) p
     → HasFailedOn (part_of nodes n) p
-arrived-fails nodes f fate n p =
-    arrived-part nodes f fate (λ k c. HasFailedOn c p → HasFailedOn (part_of nodes k) p) (λ k x. x)
-    (λ here x. come-fails (part_of nodes f.to) f f.kind p x) n
+arrived-fails net nodes f fate n p =
+    arrived-part net nodes f fate (λ k c. HasFailedOn c p → HasFailedOn (part_of nodes k) p)
+    (λ k x. x) (λ here x. come-fails (part_of nodes f.to) f f.kind p x) n
 
 -- a Request that failed is that of its path
 failed-fails : (c : NodeIs) (kind : FrameKind) (id : CallId) (word p : ℕ)
@@ -166,18 +167,21 @@ sent-fails net r m (f ∷ fs) n p x =
     fate = fate_at net.fates r.sent
 
     nodes : List NodeIs
-    nodes = arrived r.nodes f (arrival r.nodes fate f)
+    nodes = arrived r.nodes f (arrival net r.nodes fate f)
 
     P : ℕ → NodeIs → Type 0
     P k c = HasFailedOn c p → HasFailedOn (ring_node r k) p ⊎ ((m ≡ k) × (p ≡ f.id.path))
 
     came : (k : ℕ) → HasFailedOn (part_of nodes k) p → HasFailedOn (ring_node r k) p
-    came k y = arrived-fails r.nodes f fate k p y
+    came k y = arrived-fails net r.nodes f fate k p y
 
-    own' : P m (heard_by (part_of nodes m) f.kind f.id (hears r.nodes f.to)
-        (heard_of fate (arrival r.nodes fate f)))
-    own' y = elim (heard-fails (part_of nodes m) f.kind f.id (hears r.nodes f.to)
-        (heard_of fate (arrival r.nodes fate f)) p y) [
+    there : Bool
+    there = hears net r.nodes f.to (is_onward f)
+
+    own' : P m (heard_by (part_of nodes m) f.kind f.id there
+        (heard_of fate (arrival net r.nodes fate f)))
+    own' y = elim (heard-fails (part_of nodes m) f.kind f.id there
+        (heard_of fate (arrival net r.nodes fate f)) p y) [
           | inl before ↦ inl (came m before)
           | inr path ↦ inr (refl, path)
         ]
@@ -189,7 +193,7 @@ handed-fails r nodes m n p x =
     subst (λ (c : NodeIs). HasFailedOn c p) (admitted-part nodes n) x
 
 -- a node leaves
-left-fails : (c : NodeIs) (cause : LeaveCause) (p : ℕ) → HasFailedOn (left_with cause c) p
+left-fails : (c : NodeIs) (cause : LeaveCause) (p : ℕ) → HasFailedOn (gone_by cause c) p
     → HasFailedOn c p
 left-fails c Ended p f = f
 left-fails c Spent p f = f
@@ -210,7 +214,7 @@ pub after-fails : (net : NetPlan) (r : RingIs) (e : RingEntry) (n p : ℕ)
 after-fails net r (Post m f) n p =
     at-set (λ k c. HasFailedOn c p → HasFailedOn (ring_node r k) p ⊎ ⊥) r.nodes (fresh false) m _
     (λ k x. inl x)
-    (λ x. inl (asked-fails (ring_node r m) f.kind f.id f.to p x)) n
+    (λ x. inl (asked-fails (ring_node r m) f.kind f p x)) n
 after-fails net r (Send m heard) n p = sent-fails net r m (ring_node r m).outbox n p
 after-fails net r (Take m f) n p =
     at-set (λ k c. HasFailedOn c p → HasFailedOn (ring_node r k) p ⊎ ⊥) r.nodes (fresh false) m _
@@ -228,9 +232,9 @@ after-fails net r (Pass m done words) n p = λ x.
     (handed-fails r (set r.nodes m (after_pass (ring_node r m) done)) m n p x)
 after-fails net r (Leave m cause) n p = λ x.
     at-set (λ k c. HasFailedOn c p → HasFailedOn (ring_node r k) p ⊎ ⊥) r.nodes (fresh false) m
-    (left_with cause (ring_node r m)) (λ k y. inl y)
+    (gone_by cause (ring_node r m)) (λ k y. inl y)
     (λ y. inl (left-fails (ring_node r m) cause p y)) n
-    (handed-fails r (set r.nodes m (left_with cause (ring_node r m))) m n p x)
+    (handed-fails r (set r.nodes m (gone_by cause (ring_node r m))) m n p x)
 after-fails net r (Join m) n p =
     cond_both (is_held r) (with_node r m (with_status (ring_node r m) Asking))
     (record {

@@ -12,9 +12,10 @@ use Rattle.mstr_block.specs.Table.{network_paths}
 use Rattle.mstr_block.specs.declared.call.CallId.{CallId}
 use Rattle.ring_core.specs.Legal.{IsLegalRing}
 use Rattle.ring_core.specs.Machine.{path_of, ring_after}
-use Rattle.ring_core.specs.Refusals.{free_no, or_no, path_no, taken_no}
+use Rattle.ring_core.specs.Refusals.{free_no, or_no, path_no, taken_no, word_of}
 use Rattle.ring_core.specs.Scratch.{local_result, words_put}
-use Rattle.ring_core.specs.Statistics.{is_stats}
+use Rattle.ring_core.specs.Statistics.{is_for_stats}
+use Rattle.ring_core.specs.Words.{request_along}
 use Rattle.ring_core.specs.declared.frame.FrameKind.{FrameKind}
 use Rattle.ring_core.specs.declared.frame.FrameKind.TheVariants.{Request, Reply}
 use Rattle.ring_core.specs.declared.frame.Frame.{Frame}
@@ -62,7 +63,7 @@ module _ (net : NetPlan) (n : ℕ) where
   frame-same : (f : Frame) (past p p' rest rest' : List RingEntry)
       → IsLegalRing net (past ++ (p ++ rest)) → IsLegalRing net (past ++ (p' ++ rest'))
       → ServesFrame n f p → ServesFrame n f p' → p ≡ p'
-  frame-same f past p p' rest rest' legal legal' u v = at f.kind (is_stats f.pdu) u v
+  frame-same f past p p' rest rest' legal legal' u v = at f.kind (is_for_stats f) u v
     where
       told : (q : List RingEntry) (more : List RingEntry) (t : TellsTaken n f q)
           → IsLegalRing net (past ++ (q ++ more))
@@ -76,7 +77,7 @@ module _ (net : NetPlan) (n : ℕ) where
       at : (kind : FrameKind) (stats : Bool)
           → Rattle.comm_port.specs.HostTurns.ServesKind kind n f p → ServesKind kind n f p' → p ≡ p'
       at Reply stats a b = a ∙ sym b
-      at Request stats a b = by (is_stats f.pdu) a b
+      at Request stats a b = by (is_for_stats f) a b
         where
           by : (b' : Bool) → Rattle.comm_port.specs.HostTurns.ServesRequest b' n f p
               → Rattle.comm_port.specs.HostTurns.ServesRequest b' n f p' → p ≡ p'
@@ -179,7 +180,7 @@ request-kind : (o : Option CallId) (q : Option HostAsk) (f : Frame) → request_
 request-kind None q f is = absurd (let no' : None ≡ Some f = is in cc)
 request-kind (Some id) None f is = absurd (let no' : None ≡ Some f = is in cc)
 request-kind (Some id) (Some ask) f is =
-    let same : record { kind = Request; to = ask.to; id = id; pdu = ask.pdu } ≡ f = cc in
+    let same : request_along id ask.route ask.pdu ≡ f = cc in
     ap (λ (g : Frame). g.kind) (sym same)
 
 each-request : (plan : HostPlan) (hold : ℕ) (list : List HostEntry) (asks : List Frame)
@@ -220,7 +221,7 @@ module _ (net : NetPlan) (n : ℕ) (plan : HostPlan) (hold : ℕ) where
 -- no call that was just posted has failed
 taken-fails : (a : Await) → taken_no a ≡ None → HasFailed a → ⊥
 taken-fails Nothing none f = f
-taken-fails (Out seq to passes) none f = f
+taken-fails (Out seq to onward passes) none f = f
 taken-fails (Arrived seq) none f = f
 taken-fails (Failed seq word) none f = let no' : Some _ ≡ None = none in cc
 
@@ -315,7 +316,7 @@ ends-same net past (e ∷ ends) [] are legal legal' = nil-cons (sym are)
 ends-same net past (e ∷ ends) (e' ∷ ends') are legal legal' =
     let id : e.id ≡ e'.id = cons-head are in
     let word : e.word ≡ e'.word = word-is net past e.id e.word (map give_up_of ends) legal
-    ∙ ap (Rattle.ring_core.specs.Refusals.word_of (ring_after net past)) id
+    ∙ ap (word_of net (ring_after net past)) id
     ∙ sym (word-is net past e'.id e'.word (map give_up_of ends') legal') in
     let head : e ≡ e' = λ i. record { id = id i; word = word i } in
     let join = sym (append_assoc past (give_up_of e ∷ []) (map give_up_of ends)) in

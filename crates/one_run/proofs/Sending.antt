@@ -49,7 +49,7 @@ heard-same net r (f ∷ fs) one two a b = a ∙ sym b
 -- a call that may be given up is the one that its path awaits
 awaited-none : (a : Await) (seq : ℕ) → awaited_no a seq ≡ None → awaited_number a ≡ seq
 awaited-none Nothing seq e = absurd (let no' : Some (NotAwaited 0) ≡ None = e in cc)
-awaited-none (Out out to passes) seq e = other-none out seq e
+awaited-none (Out out to onward passes) seq e = other-none out seq e
 awaited-none (Arrived out) seq e = other-none out seq e
 awaited-none (Failed out word) seq e = other-none out seq e
 
@@ -108,7 +108,7 @@ module _ (net : NetPlan) (n : ℕ) (on : ℕ → Bool) where
       ∙ (λ i. awaited_number (path_of (ring_node (r past) (node i)) (path i)).awaits)
       ∙ number-of past id' word' s' in
       let same : id ≡ id' = λ i. record { node = node i; path = path i; seq = seq i } in
-      let told : word ≡ word' = s.1.1 ∙ ap (word_of (r past)) same ∙ sym s'.1.1 in
+      let told : word ≡ word' = s.1.1 ∙ ap (word_of net (r past)) same ∙ sym s'.1.1 in
       λ i. GiveUp (same i) (told i)
 
   -- the next entry is one thing

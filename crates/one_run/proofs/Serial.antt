@@ -16,14 +16,15 @@ use Rattle.controller_core.specs.Run.{entries_from}
 use Rattle.joint_history.specs.declared.joint.ControllerLog.{ControllerLog}
 use Rattle.joint_history.specs.declared.joint.Joint.{Joint}
 use Rattle.joint_history.specs.JointLaws.{fixed_of, logged}
-use Rattle.joint_history.specs.Reading.{has_ended_at}
+use Rattle.joint_history.specs.Reading.{controller_at, has_ended_at}
 use Rattle.joint_history.proofs.Collected.{CallLaws}
+use Rattle.whole_scan.specs.Scans.{with_scan}
 use Rattle.serial_run.specs.declared.order.Turn.{Turn}
 use Rattle.serial_run.specs.declared.order.Turn.TheVariants.{Hold}
 use Rattle.serial_run.specs.Serial.{Finishes, IsChain, IsLateRound, IsRepetition, IsSerial}
 use Rattle.serial_run.specs.Serial.{MakesLateRounds, MakesRound, MakesRounds, Repeats}
 use Rattle.serial_run.specs.Serial.{all_are_out, all_have_ended, away_turns_of, log_with_scan}
-use Rattle.serial_run.specs.Serial.{members_now, scanned, visits_of, with_scan}
+use Rattle.serial_run.specs.Serial.{members_on, scanned, visits_of}
 use Rattle.serial_run.specs.Turns.{MakesTurns, nothing_made}
 use Rattle.one_run.proofs.Meets.{Behind, endings}
 use Rattle.one_run.proofs.Places.{at-map, at-zip, map-at, some-same, zip-at}
@@ -63,7 +64,8 @@ record Scanned (entries new : List Entry) : Type 0 where
   silent : endings noted ≡ 0
 
 -- a scan adds events of the scan
-scanned-so : (fixed : Fixed) (entries : List Entry) → Scanned entries (with_scan fixed entries)
+scanned-so : (fixed : Fixed) (entries : List Entry)
+    → Scanned entries (with_scan (controller_at fixed entries))
 scanned-so fixed entries = at (has_ended_at fixed entries)
   where
     at : (b : Bool)
@@ -112,8 +114,9 @@ module _ (plant : Plant) (scans : ℕ) (laws : CallLaws) where
         behind = subst (λ (l : ControllerLog). Behind plan.node l.entries joint.ring)
             (ap (λ (p : ControllerPlan). log_with_scan plant scans (p, from.0.1)) (sym same)
             ∙ sym from.2)
-            (events-behind plant scans plan.node from.0.1.entries s.noted (with_scan
-            (fixed_of plant scans plan) from.0.1.entries) joint.ring s.is s.silent before.behind);
+            (events-behind plant scans plan.node from.0.1.entries s.noted
+            (with_scan (controller_at (fixed_of plant scans plan) from.0.1.entries)) joint.ring
+            s.is s.silent before.behind);
       }
 
   -- ---- a relation that makes one thing
@@ -181,9 +184,9 @@ module _ (plant : Plant) (scans : ℕ) (laws : CallLaws) where
   round-one : MakesOne (MakesRound plant scans)
   round-one = record {
     grows = λ old new m.
-        turns-grow plant scans laws (replicate (members_now plant old.ring) Hold) old new m;
+        turns-grow plant scans laws (replicate (members_on plant old.ring) Hold) old new m;
     one = λ old new new' kept fine fine' m m'.
-        turns-one plant scans laws (replicate (members_now plant old.ring) Hold) old new new' kept
+        turns-one plant scans laws (replicate (members_on plant old.ring) Hold) old new new' kept
         fine fine' m m';
   }
 

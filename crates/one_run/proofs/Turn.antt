@@ -22,7 +22,7 @@ use Rattle.ring_core.specs.declared.entry.LeaveCause.TheVariants.{Down}
 use Rattle.ring_core.specs.declared.entry.RingEntry.TheVariants.{Pass, Leave, Join}
 use Rattle.ring_core.specs.Machine.{ring_after}
 use Rattle.ring_core.specs.Scratch.{words_put}
-use Rattle.ring_core.specs.Statistics.{is_stats}
+use Rattle.ring_core.specs.Statistics.{is_for_stats}
 use Rattle.tied_lists.specs.Items.{latest_down}
 use Rattle.tied_lists.specs.Own.{is_of, own}
 use Rattle.comm_port.specs.Giving.{part_at}
@@ -101,7 +101,7 @@ quiet-order n Due quiet (x ∷ xs) noted done a =
 
 -- a frame that is served is no Send
 quiet-served : (n : ℕ) → IsQuiet n (IsServed n)
-quiet-served n f noted done u = at f.kind (is_stats f.pdu) u
+quiet-served n f noted done u = at f.kind (is_for_stats f) u
   where
     replied : (reply : Option (List ℕ)) → Each (IsNoSend n) (reply_entries n f.id reply)
     replied None = tt
@@ -118,7 +118,7 @@ quiet-made : (n : ℕ) → IsQuiet n (IsMade n)
 quiet-made n call noted done u = at call.kind u
   where
     at : (kind : CallKind) → MadeAs kind n call.id noted done → Each (IsNoSend n) done
-    at (kinds.Net to pdu) a = subst (Each (IsNoSend n)) (sym a.1) (tt, tt)
+    at (kinds.Net route pdu) a = subst (Each (IsNoSend n)) (sym a.1) (tt, tt)
     at (kinds.Local op) a = subst (Each (IsNoSend n)) (sym a.2) (tt, tt)
 
 -- nor one that is ended at once
@@ -126,7 +126,7 @@ quiet-ended : (n : ℕ) → IsQuiet n (IsEnded n)
 quiet-ended n call noted done u = at call.kind u
   where
     at : (kind : CallKind) → EndedAs kind n call.id noted done → Each (IsNoSend n) done
-    at (kinds.Net to pdu) a = subst (Each (IsNoSend n)) (sym a.2) (tt, (tt, tt))
+    at (kinds.Net route pdu) a = subst (Each (IsNoSend n)) (sym a.2) (tt, (tt, tt))
     at (kinds.Local op) a = subst (Each (IsNoSend n)) (sym a.2) (tt, tt)
 
 -- nor one that is given up

@@ -31,7 +31,7 @@ neither false other h = (refl, h)
 none_in_front : (front : List HostEntry) (id : CallId) → has_answer front id ≡ false
     → filter_map (outcome_by id) front ≡ []
 none_in_front [] id h = refl
-none_in_front (Ask other to pdu ∷ front) id h = none_in_front front id h
+none_in_front (Ask other route pdu ∷ front) id h = none_in_front front id h
 none_in_front (Answer other result ∷ front) id h =
     let parts = neither (is_same_call id other) (has_answer front id) h in
     another (is_same_call id other) result (filter_map (outcome_by id) front)
@@ -39,12 +39,12 @@ none_in_front (Answer other result ∷ front) id h =
 none_in_front (Served other request reply ∷ front) id h = none_in_front front id h
 
 -- so the answer to an Ask is found behind it
-found_behind : (before rest : List HostEntry) (id : CallId) (to : ℕ) (pdu : List ℕ)
+found_behind : (before rest : List HostEntry) (id : CallId) (route pdu : List ℕ)
     → has_answer before id ≡ false
-    → result_in rest id ≡ result_in (before ++ Ask id to pdu ∷ rest) id
-found_behind before rest id to pdu new =
+    → result_in rest id ≡ result_in (before ++ Ask id route pdu ∷ rest) id
+found_behind before rest id route pdu new =
     ap (λ found. slice_get found 0)
-    (sym (filter_map-append (outcome_by id) before (Ask id to pdu ∷ rest)
+    (sym (filter_map-append (outcome_by id) before (Ask id route pdu ∷ rest)
     ∙ ap (λ front. front ++ filter_map (outcome_by id) rest) (none_in_front before id new)))
 
 -- the lines of some entries, by all entries of the host, where so many requests were made before
@@ -56,8 +56,8 @@ lines_left node entries number left =
 -- an Ask among some entries has a new name
 abbrev pub HasNewNames : List HostEntry → Type 0
 HasNewNames entries =
-    (before rest : List HostEntry) (id : CallId) (to : ℕ) (pdu : List ℕ)
-    → entries ≡ before ++ Ask id to pdu ∷ rest
+    (before rest : List HostEntry) (id : CallId) (route pdu : List ℕ)
+    → entries ≡ before ++ Ask id route pdu ∷ rest
     → has_answer before id ≡ false
 
 -- the line of an entry, and those of the entries behind it
@@ -66,9 +66,9 @@ lines_from_entry : (node number : ℕ) (entries before rest : List HostEntry) (e
     → lines_left node entries number (entry ∷ rest)
     ≡ entry_lines node number rest entry
     ++ lines_left node entries (number + length (requests_in (entry ∷ []))) rest
-lines_from_entry node number entries before rest (Ask id to pdu) new parts =
+lines_from_entry node number entries before rest (Ask id route pdu) new parts =
     let later = lines_left node entries (number + 1) rest in
-    let found = found_behind before rest id to pdu (new before rest id to pdu parts)
+    let found = found_behind before rest id route pdu (new before rest id route pdu parts)
     ∙ ap (λ all. result_in all id) (sym parts) in
     ap (λ result. ask_line node (number + 1) result ++ later) (sym found)
     ∙ ap (λ line. line ++ later) (sym (append-nil (ask_line node (number + 1) (result_in rest id))))
@@ -78,7 +78,7 @@ lines_from_entry node number entries before rest (Served id request reply) new p
 
 -- an entry is a request at most once
 pub few_requests : (entry : HostEntry) → length (requests_in (entry ∷ [])) ≤ 1
-few_requests (Ask id to pdu) = lit≤ tt
+few_requests (Ask id route pdu) = lit≤ tt
 few_requests (Answer id result) = lit≤ tt
 few_requests (Served id request reply) = lit≤ tt
 

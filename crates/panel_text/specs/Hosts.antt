@@ -14,7 +14,7 @@ use Rattle.host_port.specs.Calls.{requests_in}
 
 -- What an entry says that a call came to.
 abbrev pub outcome_by : CallId → HostEntry → Option HostResult
-outcome_by id (Ask other to pdu) = None
+outcome_by id (Ask other route pdu) = None
 outcome_by id (Answer other result) = if is_same_call id other then Some result else None
 outcome_by id (Served other request reply) = None
 

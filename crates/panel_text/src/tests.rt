@@ -6,7 +6,7 @@ use controller_core::Notes;
 use host_port::{Host, HostResult};
 use mstr_block::CallId;
 use plant_types::{
-    ControllerPlan, Fate, HostAsk, HostPlan, List, NetPlan, Pdu, Ref, RefKind, is_host_plan,
+    ControllerPlan, Fate, HostAsk, HostPlan, List, NetPlan, Pdu, Ref, RefKind, Route, is_host_plan,
 };
 use std::alloc::{AllocError, Global};
 use std::process::Abort;
@@ -25,17 +25,23 @@ fn plan_of(alloc: Global) -> Result<HostPlan, AllocError> {
         let pdu = pdu_of(alloc, &[3, 0, 0, 0, 1])?;
         requests.push(HostAsk {
             hold: 1,
-            to: 2,
+            route: Route::of(&[2]),
             pdu,
         })?;
     }
-    Ok(HostPlan { node: 9, requests })
+    Ok(HostPlan {
+        node: 9,
+        network: 0,
+        requests,
+    })
 }
 
 fn net_of(alloc: Global) -> NetPlan {
     let fates: List<Fate> = List::new(alloc);
     NetPlan {
+        number: 0,
         members: List::new(alloc),
+        bridges: List::new(alloc),
         fates,
         answer: 20,
         rotations: 4,
@@ -92,6 +98,7 @@ fn plan_at(alloc: Global, node: u8) -> Result<ControllerPlan, AllocError> {
     })?;
     Ok(ControllerPlan {
         node,
+        network: 0,
         coils: 0,
         inputs: 0,
         input_registers: 0,

@@ -1,12 +1,14 @@
 -- What a call may have read and written by the status that it ends with: this project's own.
 use Rattle.std.specs.Prelude.{◌≡◌, ◌≢◌, ℕ, ◌*◌, ◌^◌, ◌≤◌, ◌<◌, ◌+◌, ◌↔◌, Bool, true, false, List}
-use Rattle.std.specs.Prelude.{[], ◌∷◌, codes, length, Option, Some, ◌⊎◌}
+use Rattle.std.specs.Prelude.{[], ◌∷◌, codes, length, Option, Some, Result, IsOkAnd, ◌⊎◌}
 use Rattle.plant_io.specs.Causes.{Rose}
 use Rattle.plant_io.specs.Streams.{GaveFront, IsTooLong, GaveAll, Took, TookFront}
 use Rattle.command_answers.specs.declared.status.Status.{Status}
 use Rattle.command_answers.specs.declared.status.Status.TheVariants as ends
 use Rattle.command_words.specs.Words.{SpellsCommand, SpellsLive}
-use Rattle.command_answers.specs.Due.{Due, IsDue, IsLiveDue, reads_input}
+use Rattle.command_answers.specs.declared.answered.Answer.{Answer}
+use Rattle.command_answers.specs.Due.{Due, IsDue, IsLiveDue, as_due, reads_input}
+use Rattle.command_answers.specs.Status.{exit_number}
 
 -- The most bytes of input that are taken, 64 MiB.
 abbrev pub input_limit : ℕ
@@ -79,6 +81,18 @@ pub record Side : Type 0 where
 abbrev pub side : Option (List ℕ) → ℕ → Side
 side bytes faults = record { bytes = bytes; faults = faults }
 
+-- A source or a sink before a call and after it.
+pub record BeforeAfter : Type 0 where
+  pub before : Side
+  pub after : Side
+
+-- That of a value, of which these give the bytes and the count.
+abbrev pub before_after : {X : Type 0} → (X → Option (List ℕ)) → (X → ℕ) → X → X → BeforeAfter
+before_after bytes faults before after = record {
+  before = side (bytes before) (faults before);
+  after = side (bytes after) (faults after);
+}
+
 -- A read or a write failed between.
 abbrev pub Failed : Side → Side → Type 0
 Failed before after = Rose before.faults after.faults
@@ -92,6 +106,12 @@ HasAnswered IsDueHere had has ends.TooLong = ⊥
 HasAnswered IsDueHere had has ends.WriteFault =
     Failed had has × WroteFront IsDueHere had.bytes has.bytes
 HasAnswered IsDueHere had has status = Wrote IsDueHere status had.bytes has.bytes
+
+-- What writing an answer has written, where there is one.
+abbrev pub HasWrittenDue : {E : Type 0} → Result Answer E → BeforeAfter → Status → Type 0
+HasWrittenDue answered sink status =
+    HasAnswered (λ what. IsOkAnd answered (λ answer. what ≡ as_due answer)) sink.before sink.after
+    status
 
 -- What a call promises by the status that it ends with, for commands that are spelled so, that
 -- read an input or none, and for which this is due: what it read and wrote, and the cause of each
@@ -131,32 +151,42 @@ pub record KeepsPromise
       → (status ≡ ends.TooLong) ⊎ (status ≡ ends.NoMemory)
 
 -- What a call promises for every command but a live run.
-abbrev pub Promised : Status → List (List ℕ) → Side → Side → Side → Side → Type 0
-Promised status words source source_now sink sink_now =
-    KeepsPromise SpellsCommand reads_input IsDue status words source source_now sink sink_now
+abbrev pub Promised : Status → List (List ℕ) → BeforeAfter → BeforeAfter → Type 0
+Promised status words source sink =
+    KeepsPromise SpellsCommand reads_input IsDue status words source.before source.after
+    sink.before sink.after
 
 -- A live run reads its input.
 abbrev pub always : ℕ → Bool
 always scans = true
 
 -- What a call promises for a live run.
-abbrev pub PromisedLive : Status → List (List ℕ) → Side → Side → Side → Side → Type 0
-PromisedLive status words source source_now sink sink_now =
-    KeepsPromise SpellsLive always IsLiveDue status words source source_now sink sink_now
+abbrev pub PromisedLive : Status → List (List ℕ) → BeforeAfter → BeforeAfter → Type 0
+PromisedLive status words source sink =
+    KeepsPromise SpellsLive always IsLiveDue status words source.before source.after
+    sink.before sink.after
 
 -- A call does what its first word says: a live run, or any other command.
 abbrev pub StartsLive : List (List ℕ) → Type 0
 StartsLive [] = ⊥
 StartsLive (name ∷ behind) = name ≡ codes "live"
 
+-- The words are those of a command that reads an input.
+abbrev pub AsksCommandInput : List (List ℕ) → Type 0
+AsksCommandInput words = AsksInput SpellsCommand reads_input words
+
 -- The words ask for no input, so none is read: they are no command, or one that reads nothing.
 pub record AsksNothing (words : List (List ℕ)) : Type 0 where
   pub live : StartsLive words → ¬ AsksInput SpellsLive always words
-  pub other : ¬ StartsLive words → ¬ AsksInput SpellsCommand reads_input words
+  pub other : ¬ StartsLive words → ¬ AsksCommandInput words
 
 -- What the top call promises: by its first word what is promised for a live run, or for every other
 -- command.
-pub record PromisedAll (status : Status) (words : List (List ℕ))
-    (source source_now sink sink_now : Side) : Type 0 where
-  pub live : StartsLive words → PromisedLive status words source source_now sink sink_now
-  pub other : ¬ StartsLive words → Promised status words source source_now sink sink_now
+pub record PromisedAll (words : List (List ℕ)) (source sink : BeforeAfter) (status : Status)
+    : Type 0 where
+  pub live : StartsLive words → PromisedLive status words source sink
+  pub other : ¬ StartsLive words → Promised status words source sink
+
+-- The process ends with the number of a status of which this holds.
+abbrev pub ExitsWith : ℕ → (Status → Type 0) → Type 0
+ExitsWith number Holds = (status : Status) × (number ≡ exit_number status) × Holds status

@@ -3,7 +3,8 @@ ghost use Rattle.std.specs.Prelude.{◌≡◌, IfOk, map, string_bytes};
 ghost use Rattle.joint_history.specs.Runnable.{CanRunPlant};
 ghost use Rattle.command_words.specs.Words.{IsNumberOfScans, SpellsLive};
 ghost use Rattle.command_answers.specs.Due.{IsLiveDue, IsLiveShown, as_due};
-ghost use Rattle.plant984.specs.Promise.{AsksInput, PromisedLive, WritesNothing, always, side};
+ghost use Rattle.plant984.specs.Promise.{AsksInput, PromisedLive, WritesNothing, always};
+ghost use Rattle.plant984.specs.Promise.{before_after};
 
 use crate::serial::INPUT_LIMIT;
 use crate::writing::write_due;
@@ -64,10 +65,8 @@ pub fn plant_live<S: Source, K: Sink, M: Meet + Sync, R: Threads + Wait + Clock 
     meet: &M,
 ) -> Status
     ensures promised { PromisedLive result (map string_bytes words.now)
-        (side (S.left source.old) (S.faults source.old))
-        (side (S.left source.new) (S.faults source.new))
-        (side (K.taken sink.old) (K.faults sink.old))
-        (side (K.taken sink.new) (K.faults sink.new)) }
+        (before_after S.left S.faults source.old source.new)
+        (before_after K.taken K.faults sink.old sink.new) }
     ensures reads_nothing { ¬ AsksInput SpellsLive always (map string_bytes words.now)
         → source.new ≡ source.old }
     ensures nothing_written { WritesNothing result → sink.new ≡ sink.old }

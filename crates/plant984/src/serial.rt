@@ -1,8 +1,7 @@
 // The serial top call: the whole input is read, and then the whole text is written.
 ghost use Rattle.std.specs.Prelude.{◌≡◌, map, string_bytes};
-ghost use Rattle.command_words.specs.Words.{SpellsCommand};
 ghost use Rattle.command_answers.specs.Due.{reads_input};
-ghost use Rattle.plant984.specs.Promise.{AsksInput, Promised, side, WritesNothing};
+ghost use Rattle.plant984.specs.Promise.{AsksCommandInput, Promised, WritesNothing, before_after};
 
 use crate::writing::write_due;
 use command_answers::{Status, answer_to};
@@ -16,7 +15,7 @@ pub const INPUT_LIMIT: usize = 67_108_864;
 fn reads_input(command: Command) -> bool
     ensures { result ≡ reads_input command }
 {
-    matches!(command, Command::Do { .. })
+    !matches!(command, Command::Gen { .. })
 }
 
 /// Does what the words say, without threads. It reads the whole input before it writes, and makes
@@ -28,11 +27,9 @@ pub fn plant_serial<S: Source, K: Sink>(
     sink: &mut K,
 ) -> Status
     ensures promised { Promised result (map string_bytes words.now)
-        (side (S.left source.old) (S.faults source.old))
-        (side (S.left source.new) (S.faults source.new))
-        (side (K.taken sink.old) (K.faults sink.old))
-        (side (K.taken sink.new) (K.faults sink.new)) }
-    ensures reads_nothing { ¬ AsksInput SpellsCommand reads_input (map string_bytes words.now)
+        (before_after S.left S.faults source.old source.new)
+        (before_after K.taken K.faults sink.old sink.new) }
+    ensures reads_nothing { ¬ AsksCommandInput (map string_bytes words.now)
         → source.new ≡ source.old }
     ensures nothing_written { WritesNothing result → sink.new ≡ sink.old }
 {

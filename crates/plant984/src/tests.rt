@@ -274,6 +274,11 @@ fn other_words_touch_nothing(rt: HostRuntime) -> Result<(), Fail> {
         "Run 1",
         "1",
         "run 1x",
+        "session 1",
+        "session 0 1",
+        "session 65 1",
+        "session 1 2001",
+        "session 01 1",
         "--help",
     ] {
         assert!(rt; touches_nothing(rt.alloc(), line)?, "{line}");

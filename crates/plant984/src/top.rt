@@ -1,9 +1,8 @@
 // The top call of the program.
 ghost use Rattle.std.specs.Prelude.{◌≡◌, IsTrue, ◌↔◌, codes, map, string_bytes};
 ghost use Rattle.std.specs.Process.{exit_status};
-ghost use Rattle.command_answers.specs.Status.{exit_number};
-ghost use Rattle.command_answers.specs.declared.status.Status.{Status as AnyStatus};
-ghost use Rattle.plant984.specs.Promise.{AsksNothing, PromisedAll, StartsLive, WritesNothing, side};
+ghost use Rattle.plant984.specs.Promise.{AsksNothing, ExitsWith, PromisedAll, StartsLive};
+ghost use Rattle.plant984.specs.Promise.{WritesNothing, before_after};
 
 use crate::live::plant_live;
 use crate::serial::plant_serial;
@@ -42,11 +41,9 @@ pub fn plant_top<S: Source, K: Sink, M: Meet + Sync, R: Threads + Wait + Clock +
     sink: &mut K,
     meet: &M,
 ) -> Status
-    ensures promised { PromisedAll result (map string_bytes words.now)
-        (side (S.left source.old) (S.faults source.old))
-        (side (S.left source.new) (S.faults source.new))
-        (side (K.taken sink.old) (K.faults sink.old))
-        (side (K.taken sink.new) (K.faults sink.new)) }
+    ensures promised { PromisedAll (map string_bytes words.now)
+        (before_after S.left S.faults source.old source.new)
+        (before_after K.taken K.faults sink.old sink.new) result }
     ensures reads_nothing { AsksNothing (map string_bytes words.now) → source.new ≡ source.old }
     ensures nothing_written { WritesNothing result → sink.new ≡ sink.old }
 {
@@ -66,13 +63,10 @@ pub fn exit_of<S: Source, K: Sink, M: Meet + Sync, R: Threads + Wait + Clock + S
     sink: &mut K,
     meet: &M,
 ) -> ExitCode
-    ensures promised { (status : AnyStatus) × (exit_status result ≡ exit_number status)
-        × (WritesNothing status → sink.new ≡ sink.old)
-        × PromisedAll status (map string_bytes words.now)
-        (side (S.left source.old) (S.faults source.old))
-        (side (S.left source.new) (S.faults source.new))
-        (side (K.taken sink.old) (K.faults sink.old))
-        (side (K.taken sink.new) (K.faults sink.new)) }
+    ensures promised { ExitsWith (exit_status result) (λ status.
+        (WritesNothing status → sink.new ≡ sink.old) × PromisedAll (map string_bytes words.now)
+        (before_after S.left S.faults source.old source.new)
+        (before_after K.taken K.faults sink.old sink.new) status) }
     ensures reads_nothing { AsksNothing (map string_bytes words.now) → source.new ≡ source.old }
 {
     ExitCode::from(plant_top(rt, alloc, words, source, sink, meet))

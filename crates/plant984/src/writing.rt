@@ -1,7 +1,6 @@
 // Writes an answer.
-ghost use Rattle.std.specs.Prelude.{◌≡◌, ◌≤◌, ◌↔◌, IsErr, IsOkAnd};
-ghost use Rattle.command_answers.specs.Due.{as_due};
-ghost use Rattle.plant984.specs.Promise.{HasAnswered, WritesNothing, side};
+ghost use Rattle.std.specs.Prelude.{◌≡◌, ◌≤◌, ◌↔◌, IsErr};
+ghost use Rattle.plant984.specs.Promise.{HasWrittenDue, WritesNothing, before_after};
 
 use command_answers::{Answer, Status};
 use plant_io::{Sink, write_all};
@@ -9,9 +8,8 @@ use std::alloc::AllocError;
 
 /// Writes the text of an answer, where there is one, and answers how that ended.
 pub fn write_due<K: Sink>(answered: Result<Answer, AllocError>, sink: &mut K) -> Status
-    ensures answers { HasAnswered (λ what. IsOkAnd answered (λ answer. what ≡ as_due answer))
-        (side (K.taken sink.old) (K.faults sink.old))
-        (side (K.taken sink.new) (K.faults sink.new)) result }
+    ensures answers { HasWrittenDue answered
+        (before_after K.taken K.faults sink.old sink.new) result }
     ensures no_memory { (result ≡ Status.NoMemory) ↔ IsErr answered }
     ensures later { K.faults sink.old ≤ K.faults sink.new }
     ensures nothing_written { WritesNothing result → sink.new ≡ sink.old }

@@ -3,7 +3,7 @@ use Rattle.std.proofs.Common.{◌≡◌, ◌≢◌, ℕ, ◌≤◌, ◌==◌, Bo
 use Rattle.std.proofs.Common.{◌∷◌, ◌++◌, length, map, Option, Some, None, Result, Ok, Err}
 use Rattle.std.proofs.Common.{true≢false, eq-eqb, refl, sym, ap₂, ◌∙◌, length-append, arith}
 use Rattle.std.specs.Prelude.{codes, nat_le, nat_eq, if◌then◌else◌}
-use Rattle.std.specs.List.{list_any, All, AllByRecursion, IsDistinct}
+use Rattle.std.specs.List.{list_any, All, AllByRecursion, Contains, IsDistinct}
 use Rattle.std.specs.List.Sorted.{IsPermutation, IsStrictlyIncreasing}
 use Rattle.std.specs.Result.{IfOk}
 use Rattle.std.proofs.lemmas.Bool.{and_parts, not-true, leb-true}
@@ -21,8 +21,8 @@ use Rattle.plant_types.specs.declared.plan.ControllerPlan.{ControllerPlan}
 use Rattle.plant_types.specs.declared.plan.Plant.{Plant}
 use Rattle.plant_types.specs.declared.fault.PlantFault.TheVariants.{BadValue, BadNode}
 use Rattle.plant_types.specs.declared.fault.Place.{Place}
-use Rattle.plant_types.specs.Plans.{IsFromTo, IsNode, IsNetPlan, IsAskOf, IsHostPlan, PassesTests}
-use Rattle.plant_types.specs.Plans.{IsPlant}
+use Rattle.plant_types.specs.Plans.{AreBridges, HasNetNumbers, IsFromTo, IsNode, IsRouteFrom}
+use Rattle.plant_types.specs.Plans.{IsNetPlan, IsAskOf, IsHostPlan, PassesTests, IsPlant, is_routed}
 use Rattle.cell_text.specs.Steps.{or_fault}
 use Rattle.cell_text.specs.Words.{text_words}
 use Rattle.plant_types.specs.Numerals.{is_numeral, value_of}
@@ -89,10 +89,21 @@ target-is node word to h =
     let other = another-is node read.0 to (read.0 == node) refl read.1.1 in
     (rw other.0 (numeral-within 1 64 word read.0 read.1.0), other.1)
 
-request-is : (node : ℕ) (place : Place) (text : List ℕ) (ask : HostAsk)
-    → host_request node place text ≡ Ok ask → IsAskOf node ask
+-- a route of one address to another node
+route-is : (routed : Bool) (node to : ℕ) → IsNode to → to ≢ node
+    → IsRouteFrom routed node (to ∷ [])
+route-is routed node to address other = record {
+  some = omega arith;
+  nodes = to-all IsNode (to ∷ []) (address, tt);
+  other = λ is. other (some_value to node is);
+  alone = λ unrouted. refl;
+}
+
+request-is : (host : HostPlan) (place : Place) (text : List ℕ) (ask : HostAsk)
+    → host_request host.node place text ≡ Ok ask → IsAskOf host ask
 unfolding host_request
-request-is node place text ask h =
+request-is host place text ask h =
+    let node = host.node in
     let words = step-ok (or_fault (BadValue, place) (request_words (text_words text))) _ ask h in
     let hold = step-ok (or_fault (BadValue, place) (numeral_within 1 10000 words.0.hold)) _
     ask words.1.1 in
@@ -104,11 +115,10 @@ request-is node place text ask h =
     let same : whole ≡ ask = ok_value whole ask to.1.1 in
     let target = target-is node words.0.to to.0
     (or_fault-some (BadNode, place) (target_in node words.0.to) to.0 to.1.0) in
-    let is : IsAskOf node whole = record {
+    let is : IsAskOf host whole = record {
       hold = numeral-within 1 10000 words.0.hold hold.0
           (or_fault-some (BadValue, place) (numeral_within 1 10000 words.0.hold) hold.0 hold.1.0);
-      to = target.0;
-      other = target.1;
+      route = route-is (is_routed host.network) node to.0 target.0 target.1;
     } in
     rw (← same) is
 
@@ -116,6 +126,7 @@ request-is node place text ask h =
 record IsHost (controllers : List ControllerPlan) (earlier : List HostPlan)
     (host : HostPlan) : Type 0 where
   plan : IsHostPlan host
+  there : host.network ≡ 0
   fresh : has_controller controllers host.node || has_host earlier host.node ≡ false
 
 host-is : (controllers : List ControllerPlan) (earlier : List HostPlan) (table : ℕ × Members)
@@ -134,8 +145,8 @@ host-is controllers earlier table host h =
     let whole : HostPlan = host_from node.0 requests.0 in
     let same : whole ≡ host = ok_value whole host requests.1.1 in
     let within = address_at-within place table.1 node.0 node.1.0 in
-    let asks = each_from-all (IsAskOf node.0) (numbered_request node.0 table.0)
-    (λ n text ask e. request-is node.0 (request_place table.0 n) text ask e) texts.0 1 requests.0
+    let asks = each_from-all (IsAskOf whole) (numbered_request node.0 table.0)
+    (λ n text ask e. request-is whole (request_place table.0 n) text ask e) texts.0 1 requests.0
     requests.1.0 in
     let count = each_from-length (numbered_request node.0 table.0) texts.0 1 requests.0
     requests.1.0 in
@@ -144,8 +155,9 @@ host-is controllers earlier table host h =
       plan = record {
         node = record { from = within.0; to = within.1 };
         few = omega (arith, count, few);
-        requests = to-all (IsAskOf node.0) requests.0 asks;
+        requests = to-all (IsAskOf whole) requests.0 asks;
       };
+      there = refl;
       fresh = not-true known fresh.0;
     } in
     rw (← same) is
@@ -153,6 +165,7 @@ host-is controllers earlier table host h =
 -- the hosts of a plant beside its controllers
 record AreHosts (controllers : List ControllerPlan) (hosts : List HostPlan) : Type 0 where
   each : AllByRecursion IsHostPlan hosts
+  there : AllByRecursion (λ (host : HostPlan). host.network ≡ 0) hosts
   nodes : IsDistinct nat_eq (station_nodes controllers hosts)
 
 -- a node that no controller and no host has is none of the nodes
@@ -174,6 +187,9 @@ hosts-are controllers tables hosts nodes h =
     record {
       each = each_behind-all IsHostPlan (host_behind controllers)
           (λ before table host e. (host-is controllers before table host e).plan)
+          (numbered_from 1 tables) [] hosts tt h;
+      there = each_behind-all (λ (host : HostPlan). host.network ≡ 0) (host_behind controllers)
+          (λ before table host e. (host-is controllers before table host e).there)
           (numbered_from 1 tables) [] hosts tt h;
       nodes = each_behind-keeps (λ hosts. IsDistinct nat_eq (station_nodes controllers hosts))
           (host_behind controllers)
@@ -286,6 +302,7 @@ host-addresses hosts each =
 pub record AreStations (controllers : List ControllerPlan) (hosts : List HostPlan) : Type 0 where
   pub controllers_read : AreRead controllers
   pub hosts_each : AllByRecursion IsHostPlan hosts
+  pub hosts_there : AllByRecursion (λ (host : HostPlan). host.network ≡ 0) hosts
   pub distinct : IsDistinct nat_eq (station_nodes controllers hosts)
   pub controller_nodes_all : AllByRecursion
       (λ (plan : ControllerPlan). IsNode plan.node) controllers
@@ -304,6 +321,7 @@ stations-are controller_tables host_tables controllers hosts h k =
     record {
       controllers_read = read;
       hosts_each = are.each;
+      hosts_there = are.there;
       distinct = are.nodes;
       controller_nodes_all = c;
       host_nodes_all = d;
@@ -312,6 +330,24 @@ stations-are controller_tables host_tables controllers hosts h k =
           (all-nodes (λ (plan : ControllerPlan). plan.node) controllers c)
           (all-nodes (λ (host : HostPlan). host.node) hosts d);
     }
+
+-- a network without a bridge
+no-bridges : (members : List ℕ) → AreBridges members []
+no-bridges members = record {
+  among = to-all (Contains members) [] tt;
+  rise = λ k within. absurd (omega (arith, within));
+}
+
+-- the numbers of a network of these rules
+numbers-are : (rules : NetRules) (members : List ℕ) → AreRules rules
+    → HasNetNumbers (net_from rules members)
+numbers-are rules members r = record {
+  number = omega arith;
+  answer = r.answer;
+  rotations = r.rotations;
+  rounds = r.rounds;
+  holds = r.holds;
+}
 
 -- a plant that is loaded passes its tests and can be run
 pub record IsLoaded (plant : Plant) : Type 0 where
@@ -360,27 +396,32 @@ plant_from-loaded scan_time watchdog rules controllers hosts t w r s count few =
     let joined = IsPermutation-trans (map node cs ++ map host_node hs) nodes members
     (IsPermutation-sym nodes (map node cs ++ map host_node hs) own) moved in
     let net : IsNetPlan (net_from rules members) = record {
-      first = some;
-      members = All-permutation IsNode nodes members moved (to-all IsNode nodes s.nodes);
-      rising = by_node-rises nodes s.nodes s.distinct;
+      members = record {
+        some = some;
+        each = All-permutation IsNode nodes members moved (to-all IsNode nodes s.nodes);
+        rise = by_node-rises nodes s.nodes s.distinct;
+      };
+      bridges = no-bridges members;
       fates = r.fates;
-      answer = r.answer;
-      rotations = r.rotations;
-      rounds = r.rounds;
-      holds = r.holds;
+      numbers = numbers-are rules members r;
     } in
     let checked : IsPlant (plant_from scan_time watchdog rules controllers hosts) = record {
       scan_time = t;
       watchdog = w;
       net = net;
+      alone = refl;
+      no_bridge = refl;
       count = record {
         from = omega (arith, count_cs, count.from);
         to = omega (arith, count_cs, count.to);
       };
       controllers = all_cs PassesTests (λ plan read. read.tests);
+      controllers_there = all_cs (λ plan. plan.network ≡ 0) (λ plan read. read.there);
       controllers_rise = cs_rise;
       few = omega (arith, count_hs, few);
       hosts = All-permutation IsHostPlan hosts hs moved_hs (to-all IsHostPlan hosts s.hosts_each);
+      hosts_there = All-permutation (λ (host : HostPlan). host.network ≡ 0) hosts hs moved_hs
+          (to-all (λ (host : HostPlan). host.network ≡ 0) hosts s.hosts_there);
       hosts_rise = hs_rise;
       members = joined;
     } in

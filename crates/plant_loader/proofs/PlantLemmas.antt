@@ -160,6 +160,7 @@ pub record IsRead (plan : ControllerPlan) : Type 0 where
   pub tests : PassesTests plan
   pub drops : PassesDropTests plan
   pub node : IsNode plan.node
+  pub there : plan.network ≡ 0
 
 three-hold : {F : Type 0} (a b c : Bool) (f g k : F) → a ≡ true → b ≡ true → c ≡ true
     → first_failed ((a, f) ∷ (b, g) ∷ (c, k) ∷ []) ≡ Ok tt
@@ -228,6 +229,7 @@ parts_of-read owner arrays plan numbers few h =
       tests = tests;
       drops = drops-pass owner arrays.drops drops.0 drops.1.0;
       node = record { from = within.0; to = within.1 };
+      there = refl;
     } in
     rw (← same) read
 

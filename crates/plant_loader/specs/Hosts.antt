@@ -20,9 +20,9 @@ use Rattle.plant_loader.specs.Requests.{requests_of}
 abbrev pub has_host : List HostPlan → ℕ → Bool
 has_host hosts node = list_any (λ host. host.node == node) hosts
 
--- A host from its parts.
+-- A host from its parts, on a network without a number.
 abbrev pub host_from : ℕ → List HostAsk → HostPlan
-host_from node requests = record { node = node; requests = requests }
+host_from node requests = record { node = node; network = 0; requests = requests }
 
 -- The host of a table behind the controllers and the hosts before it: its table, then its node,
 -- which none of them has, then its requests.

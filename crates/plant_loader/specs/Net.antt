@@ -79,9 +79,12 @@ station_nodes controllers hosts =
 abbrev pub members_of : List ControllerPlan → List HostPlan → List ℕ
 members_of controllers hosts = by_node (λ node. node) (station_nodes controllers hosts)
 
+-- The network of these rules and members, which has no number and no bridge.
 abbrev pub net_from : NetRules → List ℕ → NetPlan
 net_from rules members = record {
+  number = 0;
   members = members;
+  bridges = [];
   fates = rules.fates;
   answer = rules.answer;
   rotations = rules.rotations;

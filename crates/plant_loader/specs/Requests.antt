@@ -62,9 +62,9 @@ another node to = if to == node then None else Some to
 abbrev pub target_in : ℕ → List ℕ → Option ℕ
 target_in node word = option_and_then (another node) (numeral_within 1 most_address word)
 
--- A request from its parts.
+-- A request from its parts: its route is the one node that is asked.
 abbrev pub ask_from : ℕ → ℕ → List ℕ → HostAsk
-ask_from hold to pdu = record { hold = hold; to = to; pdu = pdu }
+ask_from hold to pdu = record { hold = hold; route = to ∷ []; pdu = pdu }
 
 -- The request of a text of the host of a node.
 unfoldable pub host_request : ℕ → Place → List ℕ → Result HostAsk Refusal

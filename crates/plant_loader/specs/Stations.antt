@@ -70,11 +70,12 @@ arrays_at place ms = do
   power ← texts_at place power_limit (codes "power") ms
   Ok (arrays_from panel drops segments orders power)
 
--- The plan of a controller from its parts.
+-- The plan of a controller from its parts, on a network without a number.
 abbrev pub plan_of : Owner → List Ref → List OrderRow → List PowerRow → List IoDrop
     → List Segment → ControllerPlan
 plan_of owner panel orders power drops segments = record {
   node = owner.node;
+  network = 0;
   coils = owner.sizes.coils;
   inputs = owner.sizes.inputs;
   input_registers = owner.sizes.input_registers;

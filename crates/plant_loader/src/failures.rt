@@ -4,7 +4,8 @@ ghost use Rattle.cell_text.specs.Words.{text_words};
 ghost use Rattle.plant_types.specs.PlanTests.{is_behind_dark};
 ghost use Rattle.plant_loader.specs.Given.{texts_in};
 ghost use Rattle.plant_loader.specs.Refusals.{Gives};
-ghost use Rattle.plant_loader.specs.Failures.{power_words_in, power_words, power_row, power_rows_of};
+ghost use Rattle.plant_loader.specs.Failures.{power_words_in, power_words};
+ghost use Rattle.plant_loader.specs.Failures.{power_row, power_rows_of};
 
 use crate::numerals::numeral_within;
 use crate::owner::Owner;

@@ -40,7 +40,11 @@ fn host_behind(
         return Err(LoadEnd::Refused(PlantFault::BadNode, place));
     }
     let requests = requests_of(alloc, node, position, texts.as_slice())?;
-    Ok(HostPlan { node, requests })
+    Ok(HostPlan {
+        node,
+        network: 0,
+        requests,
+    })
 }
 
 /// The hosts of a plant by their tables, in file order, beside its controllers.

@@ -202,7 +202,9 @@ pub fn plant_from(
         scan_time,
         watchdog,
         net: NetPlan {
+            number: 0,
             members,
+            bridges: List::new(alloc),
             fates,
             answer,
             rotations,

@@ -13,7 +13,9 @@ use crate::hex::{are_hex_digits, hex_digit};
 use crate::numerals::{is_numeral, numeral_within};
 use crate::refusal::{LoadEnd, request_place};
 use cell_text::next_word;
-use plant_types::{DUE_LIMIT, HostAsk, List, NODE_LIMIT, Pdu, Place, PlantFault, REQUEST_LIMIT};
+use plant_types::{
+    DUE_LIMIT, HostAsk, List, NODE_LIMIT, Pdu, Place, PlantFault, REQUEST_LIMIT, Route,
+};
 use std::alloc::Global;
 
 /// The three words of a request.
@@ -94,10 +96,11 @@ fn host_request(alloc: Global, node: u8, place: Place, text: &str) -> Result<Hos
         return Err(bad_value);
     }
     let pdu = pdu_in(alloc, place, words.pdu)?;
-    match target_in(node, words.to) {
-        Some(to) => Ok(HostAsk { hold, to, pdu }),
-        None => Err(LoadEnd::Refused(PlantFault::BadNode, place)),
-    }
+    let Some(to) = target_in(node, words.to) else {
+        return Err(LoadEnd::Refused(PlantFault::BadNode, place));
+    };
+    let route = Route::of(&[to]);
+    Ok(HostAsk { hold, route, pdu })
 }
 
 /// The requests of the host of a node at a position.

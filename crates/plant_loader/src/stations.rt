@@ -71,6 +71,7 @@ fn parts_of(alloc: Global, owner: Owner, arrays: &Arrays) -> Result<ControllerPl
     let panel = panel_of(alloc, owner, arrays.panel.as_slice())?;
     Ok(ControllerPlan {
         node: owner.node,
+        network: 0,
         coils: owner.sizes.coils,
         inputs: owner.sizes.inputs,
         input_registers: owner.sizes.input_registers,

@@ -1,6 +1,7 @@
 pub mod Numerals
 pub mod Reference
 pub mod Words
+pub mod Routes
 pub mod Store
 pub mod Sizes
 pub mod MapRam

@@ -12,6 +12,10 @@ controller_limit = 16
 abbrev pub host_limit : ℕ
 host_limit = 16
 
+-- The highest number of a network of nodes.
+abbrev pub net_limit : ℕ
+net_limit = 8
+
 -- The highest address of a node. Modbus Plus Network Planning and Installation Guide.
 abbrev pub most_address : ℕ
 most_address = 64

@@ -164,8 +164,9 @@ is_behind_dark (Some before) row = nat_lt (before.scan + before.dark) row.scan
 abbrev pub power_tests : ControllerPlan → List PowerRow → PowerRow
     → List (Test (PlantFault × Place))
 power_tests plan earlier row =
+    let before : Option PowerRow = slice_get earlier (length earlier - 1) in
     placed (power_place 1 (length earlier + 1))
-    ((has_power_numbers plan row && is_behind_dark (slice_get earlier (length earlier - 1)) row, BadPower) ∷ [])
+    ((has_power_numbers plan row && is_behind_dark before row, BadPower) ∷ [])
 
 -- The test of a panel reference.
 abbrev pub panel_tests : Sizes → List Ref → Ref → List (Test (PlantFault × Place))

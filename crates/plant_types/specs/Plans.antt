@@ -1,15 +1,18 @@
 -- Which networks, hosts and plants can be run. Node addresses are those of the Modbus Plus Network
 -- Planning and Installation Guide; all else is this project's own.
-use Rattle.std.specs.Prelude.{◌≡◌, ◌≢◌, ◌≤◌, ℕ, List, [], ◌++◌, length, map, Ok, IsPermutation}
-use Rattle.std.specs.List.{All}
+use Rattle.std.specs.Prelude.{◌≡◌, ◌≢◌, ◌≤◌, ℕ, Bool, false, nat_lt, List, [], ◌++◌, length, map}
+use Rattle.std.specs.Prelude.{Some, Ok, slice_get, IsPermutation}
+use Rattle.std.specs.List.{All, Contains}
 use Rattle.std.specs.List.Sorted.{IsStrictlyIncreasing}
 use Rattle.plant_types.specs.declared.net.NetPlan.{NetPlan}
+use Rattle.plant_types.specs.declared.net.BridgePlan.{BridgePlan}
 use Rattle.plant_types.specs.declared.net.HostAsk.{HostAsk}
 use Rattle.plant_types.specs.declared.net.HostPlan.{HostPlan}
 use Rattle.plant_types.specs.declared.plan.ControllerPlan.{ControllerPlan}
 use Rattle.plant_types.specs.declared.plan.Plant.{Plant}
 use Rattle.plant_types.specs.FirstFault.{first_failed}
-use Rattle.plant_types.specs.Limits.{controller_limit, host_limit, most_address, scan_time_limit}
+use Rattle.plant_types.specs.Limits.{controller_limit, host_limit, net_limit, most_address}
+use Rattle.plant_types.specs.Limits.{scan_time_limit}
 use Rattle.plant_types.specs.Limits.{watchdog_limit, fate_limit, answer_limit, rotation_limit}
 use Rattle.plant_types.specs.Limits.{round_limit, hold_limit, request_limit, due_limit}
 use Rattle.plant_types.specs.PlanTests.{controller_tests}
@@ -23,28 +26,64 @@ pub record IsFromTo (least most number : ℕ) : Type 0 where
 abbrev pub IsNode : ℕ → Type 0
 IsNode node = IsFromTo 1 most_address node
 
--- A network: its members, of which there is one at least, rise, and each number is in its range.
-pub record IsNetPlan (net : NetPlan) : Type 0 where
-  pub first : 1 ≤ length net.members
-  pub members : All IsNode net.members
-  pub rising : IsStrictlyIncreasing net.members
-  pub fates : IsFromTo 1 fate_limit (length net.fates)
+-- Whether routes may lead over bridges: on a network that has a number, so not in a plant file of
+-- version 1, where it is 0.
+abbrev pub is_routed : ℕ → Bool
+is_routed network = nat_lt 0 network
+
+-- A way from a node to another: at least one address, each of them one of a node, and the first not
+-- the own one. Where routes lead over no bridge, there is one alone.
+pub record IsRouteFrom (routed : Bool) (own : ℕ) (route : List ℕ) : Type 0 where
+  pub some : 1 ≤ length route
+  pub nodes : All IsNode route
+  pub other : slice_get route 0 ≢ Some own
+  pub alone : routed ≡ false → length route ≡ 1
+
+-- The members of a network: one at least, each an address of a node, and they rise.
+pub record AreMembers (nodes : List ℕ) : Type 0 where
+  pub some : 1 ≤ length nodes
+  pub each : All IsNode nodes
+  pub rise : IsStrictlyIncreasing nodes
+
+-- The ends of bridges on a network: some of its members, and they rise.
+pub record AreBridges (members bridges : List ℕ) : Type 0 where
+  pub among : All (Contains members) bridges
+  pub rise : IsStrictlyIncreasing bridges
+
+-- The numbers of a network are in their ranges.
+pub record HasNetNumbers (net : NetPlan) : Type 0 where
+  pub number : net.number ≤ net_limit
   pub answer : IsFromTo 2 answer_limit net.answer
   pub rotations : IsFromTo 1 rotation_limit net.rotations
   pub rounds : IsFromTo 1 round_limit net.rounds
   pub holds : IsFromTo 1 hold_limit net.holds
 
--- A request of a host: from when on it is due, and which other node it asks.
-pub record IsAskOf (node : ℕ) (ask : HostAsk) : Type 0 where
+-- A network: its members, those of them that are ends of bridges, its fates and its numbers.
+pub record IsNetPlan (net : NetPlan) : Type 0 where
+  pub members : AreMembers net.members
+  pub bridges : AreBridges net.members net.bridges
+  pub fates : IsFromTo 1 fate_limit (length net.fates)
+  pub numbers : HasNetNumbers net
+
+-- A bridge: an end on each of two networks, both of which have a number.
+pub record IsBridgePlan (bridge : BridgePlan) : Type 0 where
+  pub left_net : IsFromTo 1 net_limit bridge.left_net
+  pub right_net : IsFromTo 1 net_limit bridge.right_net
+  pub two_nets : bridge.left_net ≢ bridge.right_net
+  pub left : IsNode bridge.left
+  pub right : IsNode bridge.right
+  pub two_ends : bridge.left ≢ bridge.right
+
+-- A request of a host: from when on it is due, and its way to another node.
+pub record IsAskOf (host : HostPlan) (ask : HostAsk) : Type 0 where
   pub hold : IsFromTo 1 due_limit ask.hold
-  pub to : IsNode ask.to
-  pub other : ask.to ≢ node
+  pub route : IsRouteFrom (is_routed host.network) host.node ask.route
 
 -- A host: its address, and its requests, no more than a host can have.
 pub record IsHostPlan (host : HostPlan) : Type 0 where
   pub node : IsNode host.node
   pub few : length host.requests ≤ request_limit
-  pub requests : All (IsAskOf host.node) host.requests
+  pub requests : All (IsAskOf host) host.requests
 
 -- A controller passes its tests.
 abbrev pub PassesTests : ControllerPlan → Type 0
@@ -65,16 +104,21 @@ controller_nodes plant = map (λ plan. plan.node) plant.controllers
 abbrev pub host_nodes : Plant → List ℕ
 host_nodes plant = map (λ host. host.node) plant.hosts
 
--- A plant: its controllers and its hosts rise by node, all of them are the members of its network,
--- each node once, and each number is in its range. The tests of drops are not among these.
+-- A plant: its controllers and its hosts rise by node, all of them stand on its network, which has no
+-- number and no bridge, and are its members, each node once, and each number is in its range. The
+-- tests of drops are not among these.
 pub record IsPlant (plant : Plant) : Type 0 where
   pub scan_time : IsFromTo 1 scan_time_limit plant.scan_time
   pub watchdog : IsFromTo 1 watchdog_limit plant.watchdog
   pub net : IsNetPlan plant.net
+  pub alone : plant.net.number ≡ 0
+  pub no_bridge : plant.net.bridges ≡ []
   pub count : IsFromTo 1 controller_limit (length plant.controllers)
   pub controllers : All PassesTests plant.controllers
+  pub controllers_there : All (λ plan. plan.network ≡ plant.net.number) plant.controllers
   pub controllers_rise : IsStrictlyIncreasing (controller_nodes plant)
   pub few : length plant.hosts ≤ host_limit
   pub hosts : All IsHostPlan plant.hosts
+  pub hosts_there : All (λ host. host.network ≡ plant.net.number) plant.hosts
   pub hosts_rise : IsStrictlyIncreasing (host_nodes plant)
   pub members : IsPermutation (controller_nodes plant ++ host_nodes plant) plant.net.members

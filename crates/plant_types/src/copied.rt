@@ -5,11 +5,12 @@ use crate::drops::{IoDrop, Module, ModuleKind, ScriptRow};
 use crate::element::{Element, MathOp, MatrixOp, MoveOp, Operand, Unit};
 use crate::fault::{Part, Place, PlantFault};
 use crate::list::List;
-use crate::net::{Fate, HostAsk, HostPlan, NetPlan};
+use crate::net::{BridgePlan, Fate, HostAsk, HostPlan, NetPlan};
 use crate::network::{Cell, Network, Segment, Short};
 use crate::plan::{ControllerPlan, OrderRow, Plant, PowerRow};
 use crate::power::NodePower;
 use crate::reference::{Ref, RefKind};
+use crate::route::Route;
 use crate::words::{Block, Pdu, Words};
 use std::alloc::{AllocError, Global};
 
@@ -133,6 +134,18 @@ impl Copied for NodePower {
     }
 }
 
+impl Copied for BridgePlan {
+    fn copied(&self, _: Global) -> Result<Self, AllocError> {
+        Ok(*self)
+    }
+}
+
+impl Copied for Route {
+    fn copied(&self, _: Global) -> Result<Self, AllocError> {
+        Ok(*self)
+    }
+}
+
 impl Copied for PlantFault {
     fn copied(&self, _: Global) -> Result<Self, AllocError> {
         Ok(*self)
@@ -230,7 +243,7 @@ impl Copied for HostAsk {
     fn copied(&self, alloc: Global) -> Result<Self, AllocError> {
         Ok(HostAsk {
             hold: self.hold,
-            to: self.to,
+            route: self.route,
             pdu: self.pdu.copied(alloc)?,
         })
     }
@@ -240,6 +253,7 @@ impl Copied for HostPlan {
     fn copied(&self, alloc: Global) -> Result<Self, AllocError> {
         Ok(HostPlan {
             node: self.node,
+            network: self.network,
             requests: self.requests.copied(alloc)?,
         })
     }
@@ -247,8 +261,11 @@ impl Copied for HostPlan {
 
 impl Copied for NetPlan {
     fn copied(&self, alloc: Global) -> Result<Self, AllocError> {
+        let (members, bridges) = both_copied(alloc, &self.members, &self.bridges)?;
         Ok(NetPlan {
-            members: self.members.copied(alloc)?,
+            number: self.number,
+            members,
+            bridges,
             fates: self.fates.copied(alloc)?,
             answer: self.answer,
             rotations: self.rotations,
@@ -265,6 +282,7 @@ impl Copied for ControllerPlan {
         let power = self.power.copied(alloc)?;
         Ok(ControllerPlan {
             node: self.node,
+            network: self.network,
             coils: self.coils,
             inputs: self.inputs,
             input_registers: self.input_registers,

@@ -1,9 +1,11 @@
 //! The Modbus Plus network of a plant, and its hosts.
-ghost use Rattle.std.specs.Prelude.{◌≡◌, true, All};
+ghost use Rattle.std.specs.Prelude.{◌≡◌, true, All, Contains};
 ghost use Rattle.std.specs.List.Sorted.{IsStrictlyIncreasing};
-ghost use Rattle.plant_types.specs.Plans.{IsNode, IsNetPlan, IsAskOf, IsHostPlan};
+ghost use Rattle.plant_types.specs.Plans.{IsNode, IsRouteFrom, is_routed, AreMembers, AreBridges};
+ghost use Rattle.plant_types.specs.Plans.{HasNetNumbers, IsNetPlan, IsAskOf, IsHostPlan};
 
 use crate::list::List;
+use crate::route::Route;
 use crate::words::Pdu;
 
 /// What becomes of one transmission on the ring. This project's own.
@@ -20,8 +22,12 @@ pub enum Fate {
 /// The ring: its members, and how it treats them. All but the members is this project's own.
 #[derive(Drop)]
 pub struct NetPlan {
+    /// 1 to 8; 0 in a plant file of version 1.
+    pub number: u8,
     /// At least one node, each 1 to 64, strictly rising.
     pub members: List<u8>,
+    /// Those of its members that are ends of bridges, strictly rising.
+    pub bridges: List<u8>,
     /// 1 to 1000 letters; the transmissions take them in turn, again and again.
     pub fates: List<Fate>,
     /// After how many own Passes a call without a reply is given up, 2 to 1000.
@@ -40,8 +46,9 @@ pub struct NetPlan {
 pub struct HostAsk {
     /// The hold of the token from which on it is due, 1 to 10,000.
     pub hold: u32,
-    /// The node that is asked, 1 to 64.
-    pub to: u8,
+    /// The addresses by which it goes, each 1 to 64; the last one is asked. One alone in a plant
+    /// file of version 1.
+    pub route: Route,
     pub pdu: Pdu,
 }
 
@@ -50,9 +57,27 @@ pub struct HostAsk {
 pub struct HostPlan {
     /// Its address on the network, 1 to 64.
     pub node: u8,
+    /// The number of its network; 0 in a plant file of version 1.
+    pub network: u8,
     /// Up to 1000, asked in their order.
     pub requests: List<HostAsk>,
 }
+
+/// A bridge: one station with an address on each of two networks. This project's own form.
+#[derive(Clone, Copy, Debug, PartialEq, Eq)]
+pub struct BridgePlan {
+    /// The number of the network on its left.
+    pub left_net: u8,
+    /// Its address there.
+    pub left: u8,
+    /// The number of the network on its right.
+    pub right_net: u8,
+    /// Its address there.
+    pub right: u8,
+}
+
+/// The highest number of a network of nodes.
+pub const NET_LIMIT: u8 = 8;
 
 /// The highest address of a node.
 pub const NODE_LIMIT: u8 = 64;
@@ -118,37 +143,95 @@ fn rise(nodes: &[u8]) -> bool
     true
 }
 
-/// Whether a network can be run: its members are addresses and rise, and each of its numbers is in
-/// its range.
-pub fn is_net_plan(net: &NetPlan) -> bool
-    ensures only { result ≡ true → IsNetPlan net.now }
-    ensures all { IsNetPlan net.now → result ≡ true }
+fn are_members(nodes: &[u8]) -> bool
+    ensures only { result ≡ true → AreMembers nodes.now }
+    ensures all { AreMembers nodes.now → result ≡ true }
 {
-    let members = net.members.as_slice();
-    let fates = net.fates.as_slice().len();
-    !members.is_empty()
-        && are_nodes(members)
-        && rise(members)
-        && (1..=FATE_LIMIT).contains(&fates)
+    !nodes.is_empty() && are_nodes(nodes) && rise(nodes)
+}
+
+fn is_among(members: &[u8], node: u8) -> bool
+    ensures only { result ≡ true → Contains members.now node }
+    ensures all { Contains members.now node → result ≡ true }
+{
+    members.contains(&node)
+}
+
+fn are_among(members: &[u8], nodes: &[u8]) -> bool
+    ensures only { result ≡ true → All (Contains members.now) nodes.now }
+    ensures all { All (Contains members.now) nodes.now → result ≡ true }
+{
+    for at in 0..nodes.len() {
+        if !is_among(members, nodes[at]) {
+            return false;
+        }
+    }
+    true
+}
+
+fn are_bridges(members: &[u8], nodes: &[u8]) -> bool
+    ensures only { result ≡ true → AreBridges members.now nodes.now }
+    ensures all { AreBridges members.now nodes.now → result ≡ true }
+{
+    are_among(members, nodes) && rise(nodes)
+}
+
+fn has_net_numbers(net: &NetPlan) -> bool
+    ensures only { result ≡ true → HasNetNumbers net.now }
+    ensures all { HasNetNumbers net.now → result ≡ true }
+{
+    net.number <= NET_LIMIT
         && (2..=ANSWER_LIMIT).contains(&net.answer)
         && (1..=ROTATION_LIMIT).contains(&net.rotations)
         && (1..=ROUND_LIMIT).contains(&net.rounds)
         && (1..=HOLD_LIMIT).contains(&net.holds)
 }
 
-fn is_ask_of(node: u8, ask: &HostAsk) -> bool
-    ensures only { result ≡ true → IsAskOf node ask.now }
-    ensures all { IsAskOf node ask.now → result ≡ true }
+/// Whether a network can be run: its members are addresses and rise, its ends of bridges are among
+/// them and rise, and each of its numbers is in its range.
+pub fn is_net_plan(net: &NetPlan) -> bool
+    ensures only { result ≡ true → IsNetPlan net.now }
+    ensures all { IsNetPlan net.now → result ≡ true }
 {
-    1 <= ask.hold && ask.hold <= DUE_LIMIT && is_node(ask.to) && ask.to != node
+    let members = net.members.as_slice();
+    let bridges = net.bridges.as_slice();
+    let fates = net.fates.as_slice().len();
+    has_net_numbers(net)
+        && are_members(members)
+        && are_bridges(members, bridges)
+        && (1..=FATE_LIMIT).contains(&fates)
 }
 
-fn are_asks_of(node: u8, asks: &[HostAsk]) -> bool
-    ensures only { result ≡ true → All (IsAskOf node) asks.now }
-    ensures all { All (IsAskOf node) asks.now → result ≡ true }
+/// Whether routes may lead over bridges on a network of this number.
+pub fn is_routed(network: u8) -> bool
+    ensures { result ≡ is_routed network }
+{
+    network > 0
+}
+
+fn is_route_from(routed: bool, own: u8, route: &[u8]) -> bool
+    ensures only { result ≡ true → IsRouteFrom routed own route.now }
+    ensures all { IsRouteFrom routed own route.now → result ≡ true }
+{
+    !route.is_empty() && are_nodes(route) && route[0] != own && (routed || route.len() == 1)
+}
+
+fn is_ask_of(host: &HostPlan, ask: &HostAsk) -> bool
+    ensures only { result ≡ true → IsAskOf host.now ask.now }
+    ensures all { IsAskOf host.now ask.now → result ≡ true }
+{
+    let route = ask.route.addresses();
+    1 <= ask.hold
+        && ask.hold <= DUE_LIMIT
+        && is_route_from(is_routed(host.network), host.node, route)
+}
+
+fn are_asks_of(host: &HostPlan, asks: &[HostAsk]) -> bool
+    ensures only { result ≡ true → All (IsAskOf host.now) asks.now }
+    ensures all { All (IsAskOf host.now) asks.now → result ≡ true }
 {
     for at in 0..asks.len() {
-        if !is_ask_of(node, &asks[at]) {
+        if !is_ask_of(host, &asks[at]) {
             return false;
         }
     }
@@ -156,11 +239,11 @@ fn are_asks_of(node: u8, asks: &[HostAsk]) -> bool
 }
 
 /// Whether a host can be run: it has an address, at most a thousand requests, and each of them is
-/// due at a hold in its range and asks another node.
+/// due at a hold in its range and goes by a route to another node.
 pub fn is_host_plan(host: &HostPlan) -> bool
     ensures only { result ≡ true → IsHostPlan host.now }
     ensures all { IsHostPlan host.now → result ≡ true }
 {
     let requests = host.requests.as_slice();
-    is_node(host.node) && requests.len() <= REQUEST_LIMIT && are_asks_of(host.node, requests)
+    is_node(host.node) && requests.len() <= REQUEST_LIMIT && are_asks_of(host, requests)
 }

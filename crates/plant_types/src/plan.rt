@@ -52,6 +52,8 @@ pub struct PowerRow {
 pub struct ControllerPlan {
     /// Its address on the network, 1 to 64.
     pub node: u8,
+    /// The number of its network; 0 in a plant file of version 1.
+    pub network: u8,
     /// A multiple of 16, 0 to 9984.
     pub coils: u16,
     /// A multiple of 16, 0 to 9984.

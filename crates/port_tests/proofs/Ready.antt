@@ -1,6 +1,8 @@
 -- Controllers that stand on one ring, while each has its steps and turns.
-use Rattle.std.proofs.Common.{◌≡◌, ◌≢◌, ℕ, ◌<◌, ◌==◌, Bool, true, false, cond, List, [], ◌∷◌, ◌++◌, All}
-use Rattle.std.proofs.Common.{Contains, zero, suc, arith, filter, not, refl, sym, ap, ◌∙◌, subst, ⊎_elim}
+use Rattle.std.proofs.Common.{◌≡◌, ◌≢◌, ℕ, ◌<◌, ◌==◌, Bool, true}
+use Rattle.std.proofs.Common.{false, cond, List, [], ◌∷◌, ◌++◌, All}
+use Rattle.std.proofs.Common.{Contains, zero, suc, arith, filter}
+use Rattle.std.proofs.Common.{not, refl, sym, ap, ◌∙◌, subst, ⊎_elim}
 use Rattle.std.specs.List.{filter_map}
 use Rattle.std.proofs.lemmas.Bool.{cases_Bool, eqb-true, ne_eqb}
 use Rattle.plant_types.specs.declared.net.NetPlan.{NetPlan}
@@ -24,11 +26,13 @@ use Rattle.comm_port.specs.declared.turn_end.TurnEnd.TheVariants as ends
 use Rattle.comm_port.specs.Failing.{IsAway}
 use Rattle.comm_port.specs.HostStands.{own_side}
 use Rattle.comm_port.specs.Parts.{calls_waiting}
+use Rattle.comm_port.specs.Turns.{IsNoBridge}
 use Rattle.comm_port.specs.Waiting.{id_of}
 use Rattle.comm_port.specs.WholeTurn.{failing_end, working_end, is_unnoticed, HoldsTurn, TurnsBy}
 use Rattle.comm_port.specs.Worker.{WorkerIs, Standing, new_worker}
+use Rattle.comm_port.proofs.Onward.{none-bridges}
 use Rattle.comm_port.proofs.Standings.{standing-new, standing-others, standing-scans}
-use Rattle.port_tests.specs.PowerTests.{IsReady}
+use Rattle.port_tests.specs.PowerTests.{CanTurn}
 
 -- ---- the other one, while one has its turn
 
@@ -51,19 +55,21 @@ calls-found n ring more none =
 
 pub ready-others : (m n : ℕ) (c : ControllerIs) (w : WorkerIs) (away : Bool) (net : NetPlan)
     (a added b : List RingEntry) → m ≢ n → IsLegalRing net b → Grew true (is_of n) a added b
-    → IsReady m c w away net a → IsReady m c w away net b
+    → CanTurn m c w away net a → CanTurn m c w away net b
 ready-others m n c w away net a added b apart legal g t =
     let none : own m g.more ≡ [] = ap (own m) (g.all_alone refl ∙ sym g.ours_are)
     ∙ none-of n m g.more apart in
     let on = on-others net m a g.more t.on (subst (IsLegalRing net) g.after_is legal) none in
-    subst (λ (r : List RingEntry). IsReady m c w away net r) (sym g.after_is) (record {
+    subst (λ (r : List RingEntry). CanTurn m c w away net r) (sym g.after_is) (record {
       worker_node = t.worker_node;
-      standing = standing-others w (record { fixed = c.fixed; place = tt }) c.history (own_side net) a
+      standing = standing-others w (record { fixed = c.fixed; place = tt }) c.history
+          (own_side net) a
           g.more
           (subst (λ (k : ℕ). IsOnRing net (a ++ g.more) k) (sym t.worker_node) on)
           (ap (λ (k : ℕ). own k g.more) t.worker_node ∙ none)
           t.standing;
       on = on;
+      no_bridge = t.no_bridge;
       is_away = λ is. let k = t.is_away is in record {
         away = membership-kept net m a g.more none
             (λ asks. let no' : statuses.Away ≡ statuses.Asking = sym k.away ∙ asks in absurd (cc))
@@ -76,10 +82,10 @@ ready-others m n c w away net a added b apart legal g t =
 
 -- a worker stands behind its turn
 pub ready-after : (n : ℕ) (c : ControllerIs) (w w' : WorkerIs) (away : Bool) (net net' : NetPlan)
-    (a b : List RingEntry) → IsOnRing net a n → w.node ≡ n → w'.node ≡ w.node → net' ≡ net
+    (a b : List RingEntry) → IsOnRing net a n → IsNoBridge net n → w.node ≡ n → w'.node ≡ w.node → net' ≡ net
     → Standing w' (record { fixed = c.fixed; place = tt {0} }) c.history (own_side net') b
-    → (away ≡ true → IsAway net b n) → IsReady n c w' away net' b
-ready-after n c w w' away net net' a b on is same net_is s gone = record {
+    → (away ≡ true → IsAway net b n) → CanTurn n c w' away net' b
+ready-after n c w w' away net net' a b on none is same net_is s gone = record {
   worker_node = same ∙ is;
   standing = s;
   on = record {
@@ -88,6 +94,7 @@ ready-after n c w w' away net net' a b on is same net_is s gone = record {
     member = subst (λ (p : NetPlan). IsMember p n) (sym net_is) on.member;
     patient = subst (λ (k : ℕ). ArePatient net' k [] b) (same ∙ is) s.patient;
   };
+  no_bridge = subst (λ (p : NetPlan). IsNoBridge p n) (sym net_is) none;
   is_away = λ told. subst (λ (p : NetPlan). IsAway p b n) (sym net_is) (gone told);
 }
 
@@ -141,7 +148,7 @@ no-calls (entries.Finish id result ∷ added) of = absurd (let is = of.0 in cc)
 
 pub ready-scans : (n : ℕ) (c c' : ControllerIs) (w : WorkerIs) (away : Bool) (net : NetPlan)
     (ring : List RingEntry) (added : List Entry) → ControllerWentOn Scan added c c'
-    → IsReady n c w away net ring → IsReady n c' w away net ring
+    → CanTurn n c w away net ring → CanTurn n c' w away net ring
 ready-scans n c c' w away net ring added went t = record {
   worker_node = t.worker_node;
   standing =
@@ -152,6 +159,7 @@ ready-scans n c c' w away net ring added went t = record {
       (standing-scans w (record { fixed = c.fixed; place = tt }) c.history added (own_side net) ring
       (no-calls added went.made) t.standing));
   on = t.on;
+  no_bridge = t.no_bridge;
   is_away = t.is_away;
 }
 
@@ -183,9 +191,10 @@ standing-first n c net node empty = standing-new n net true
 
 -- a controller that has not begun stands where nothing has happened
 pub ready-new : (n : ℕ) (c : ControllerIs) (w : WorkerIs) (away : Bool) (net : NetPlan)
-    → net.members ≡ 2 ∷ 5 ∷ [] → IsMember net n → c.fixed.plan.node ≡ n → c.history ≡ []
-    → w ≡ new_worker n net true → away ≡ false → IsReady n c w away net []
-ready-new n c w away net members member node empty is there = record {
+    → net.members ≡ 2 ∷ 5 ∷ [] → net.bridges ≡ [] → IsMember net n → c.fixed.plan.node ≡ n
+    → c.history ≡ []
+    → w ≡ new_worker n net true → away ≡ false → CanTurn n c w away net []
+ready-new n c w away net members none member node empty is there = record {
   worker_node = ap (λ (x : WorkerIs). x.node) is;
   standing = subst (λ (x : WorkerIs). Standing x (record { fixed = c.fixed; place = tt {0} })
       c.history (own_side net) []) (sym is) (standing-first n c net node empty);
@@ -195,5 +204,6 @@ ready-new n c w away net members member node empty is there = record {
     member = member;
     patient = tt;
   };
+  no_bridge = none-bridges net n none;
   is_away = λ told. absurd (let no' : false ≡ true = sym there ∙ told in cc);
 }

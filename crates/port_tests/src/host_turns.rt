@@ -23,10 +23,13 @@ struct Station {
 /// A net of hosts 1 and 2.
 fn net_of(alloc: Global, fates: &[Fate]) -> Result<NetPlan, AllocError>
     ensures members { IfOk result (λ net. net.members ≡ 1 ∷ 2 ∷ []) }
+    ensures alone { IfOk result (λ net. net.bridges ≡ []) }
     ensures answer { IfOk result (λ net. net.answer ≡ 2) }
 {
     Ok(NetPlan {
+        number: 0,
         members: List::from_vec(Vec::from_slice(alloc, &[1, 2])?),
+        bridges: List::new(alloc),
         fates: List::from_vec(Vec::from_slice(alloc, fates)?),
         answer: 2,
         rotations: 1,
@@ -223,6 +226,7 @@ fn ring_text(
     other_asks: &[(u32, u8)],
 ) -> Result<(Vec<u8>, u16), AllocError>
     requires members { net.now.members ≡ 1 ∷ 2 ∷ [] }
+    requires alone { net.now.bridges ≡ [] }
     requires answer { net.now.answer ≡ 2 }
 {
     let mut one = station_of(rt, alloc, 1, asks, net)?;

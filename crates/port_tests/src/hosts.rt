@@ -2,7 +2,7 @@
 use crate::plans::{host_plan, pdu_of};
 use host_port::{Host, HostEntry, HostResult};
 use mstr_block::CallId;
-use plant_types::{List, NetPlan, is_host_plan};
+use plant_types::{List, NetPlan, Route, is_host_plan};
 use std::alloc::{AllocError, Global};
 use std::process::Abort;
 use std::test::Fail;
@@ -10,7 +10,9 @@ use std::test::Fail;
 /// A net that no host looks at.
 fn net_of(alloc: Global) -> NetPlan {
     NetPlan {
+        number: 0,
         members: List::new(alloc),
+        bridges: List::new(alloc),
         fates: List::new(alloc),
         answer: 20,
         rotations: 4,
@@ -155,8 +157,9 @@ fn whatever_a_host_is_asked_is_refused(rt: HostRuntime) -> Result<(), Fail> {
 
 /// The Ask of a host for node 5's device, under this name.
 fn ask_as(alloc: Global, id: CallId) -> Result<HostEntry, AllocError> {
+    let route = Route::of(&[5]);
     let pdu = pdu_of(alloc, &[17])?;
-    Ok(HostEntry::Ask { id, to: 5, pdu })
+    Ok(HostEntry::Ask { id, route, pdu })
 }
 
 /// The answer to a call, with an error word.

@@ -1,7 +1,7 @@
 //! Plans of hosts.
 ghost use Rattle.std.specs.Prelude.{◌≡◌, IfOk};
 
-use plant_types::{HostAsk, HostPlan, List, Pdu};
+use plant_types::{HostAsk, HostPlan, List, Pdu, Route};
 use std::alloc::{AllocError, Global};
 
 /// The PDU of these bytes.
@@ -14,8 +14,9 @@ pub(crate) fn pdu_of(alloc: Global, bytes: &[u8]) -> Result<Pdu, AllocError> {
 
 /// From which hold on a request of these bytes goes to which node.
 fn request_of(alloc: Global, hold: u32, to: u8, bytes: &[u8]) -> Result<HostAsk, AllocError> {
+    let route = Route::of(&[to]);
     let pdu = pdu_of(alloc, bytes)?;
-    Ok(HostAsk { hold, to, pdu })
+    Ok(HostAsk { hold, route, pdu })
 }
 
 /// The plan of a host: from which hold on it asks which node, each time with these bytes.
@@ -31,5 +32,9 @@ pub(crate) fn host_plan(
     for (hold, to) in asks {
         requests.push(request_of(alloc, *hold, *to, bytes)?)?;
     }
-    Ok(HostPlan { node, requests })
+    Ok(HostPlan {
+        node,
+        network: 0,
+        requests,
+    })
 }

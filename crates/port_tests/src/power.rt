@@ -2,7 +2,7 @@
 ghost use Rattle.std.specs.Prelude.{◌≡◌, ◌≢◌, ◌∷◌, true, false, [], OnOk, IfOk};
 ghost use Rattle.tied_lists.specs.Waits.{Holds};
 ghost use Rattle.ring_core.specs.Legal.{IsMember};
-ghost use Rattle.port_tests.specs.PowerTests.{IsReady};
+ghost use Rattle.port_tests.specs.PowerTests.{CanTurn};
 
 use crate::host_turns::ring_of;
 use crate::power_words::text_of;
@@ -26,10 +26,13 @@ struct Station {
 /// A net of nodes 2 and 5, where a call waits for two Passes.
 fn net_of(alloc: Global) -> Result<NetPlan, AllocError>
     ensures members { IfOk result (λ net. net.members ≡ 2 ∷ 5 ∷ []) }
+    ensures alone { IfOk result (λ net. net.bridges ≡ []) }
     ensures answer { IfOk result (λ net. net.answer ≡ 2) }
 {
     Ok(NetPlan {
+        number: 0,
         members: List::from_vec(Vec::from_slice(alloc, &[2, 5])?),
+        bridges: List::new(alloc),
         fates: List::from_vec(Vec::from_slice(alloc, &[Fate::D])?),
         answer: 2,
         rotations: 1,
@@ -40,9 +43,9 @@ fn net_of(alloc: Global) -> Result<NetPlan, AllocError>
 
 /// One step of a controller.
 fn step(node: u8, station: &mut Station, ring: &Ring) -> Result<(), AllocError>
-    requires { IsReady node station.old.controller station.old.worker station.old.away ring.now.net
+    requires { CanTurn node station.old.controller station.old.worker station.old.away ring.now.net
         ring.now.history }
-    ensures mine { OnOk result (IsReady node station.new.controller station.new.worker
+    ensures mine { OnOk result (CanTurn node station.new.controller station.new.worker
         station.new.away ring.now.net ring.now.history) }
 {
     let _ = ring;
@@ -69,15 +72,15 @@ fn hold(
     other: &Station,
     ring: &mut Ring,
 ) -> Result<TurnEnd, AllocError>
-    requires mine { IsReady node station.old.controller station.old.worker station.old.away
+    requires mine { CanTurn node station.old.controller station.old.worker station.old.away
         ring.old.net ring.old.history }
     requires holds { Holds ring.old.net ring.old.history node }
-    requires theirs { IsReady other_node other.now.controller other.now.worker other.now.away
+    requires theirs { CanTurn other_node other.now.controller other.now.worker other.now.away
         ring.old.net ring.old.history }
     requires apart { other_node ≢ node }
-    ensures mine { OnOk result (IsReady node station.new.controller station.new.worker
+    ensures mine { OnOk result (CanTurn node station.new.controller station.new.worker
         station.new.away ring.new.net ring.new.history) }
-    ensures theirs { OnOk result (IsReady other_node other.now.controller other.now.worker
+    ensures theirs { OnOk result (CanTurn other_node other.now.controller other.now.worker
         other.now.away ring.new.net ring.new.history) }
 {
     let end = station.worker.hold_turn(&mut station.controller, ring)?;
@@ -93,15 +96,15 @@ fn come_back(
     other: &Station,
     ring: &mut Ring,
 ) -> Result<bool, AllocError>
-    requires mine { IsReady node station.old.controller station.old.worker station.old.away
+    requires mine { CanTurn node station.old.controller station.old.worker station.old.away
         ring.old.net ring.old.history }
     requires away { station.old.away ≡ true }
-    requires theirs { IsReady other_node other.now.controller other.now.worker other.now.away
+    requires theirs { CanTurn other_node other.now.controller other.now.worker other.now.away
         ring.old.net ring.old.history }
     requires apart { other_node ≢ node }
-    ensures mine { OnOk result (IsReady node station.new.controller station.new.worker
+    ensures mine { OnOk result (CanTurn node station.new.controller station.new.worker
         station.new.away ring.new.net ring.new.history) }
-    ensures theirs { OnOk result (IsReady other_node other.now.controller other.now.worker
+    ensures theirs { OnOk result (CanTurn other_node other.now.controller other.now.worker
         other.now.away ring.new.net ring.new.history) }
 {
     let joined = station.worker.away_turn(&mut station.controller, ring)?;
@@ -121,13 +124,13 @@ const fn end_letter(end: TurnEnd) -> u8 {
 
 /// The hold of whoever has the token, and its letter; `-` where nobody has it.
 fn hold_next(two: &mut Station, five: &mut Station, ring: &mut Ring) -> Result<u8, AllocError>
-    requires two { IsReady 2 two.old.controller two.old.worker two.old.away ring.old.net
+    requires two { CanTurn 2 two.old.controller two.old.worker two.old.away ring.old.net
         ring.old.history }
-    requires five { IsReady 5 five.old.controller five.old.worker five.old.away ring.old.net
+    requires five { CanTurn 5 five.old.controller five.old.worker five.old.away ring.old.net
         ring.old.history }
-    ensures two { OnOk result (IsReady 2 two.new.controller two.new.worker two.new.away ring.new.net
+    ensures two { OnOk result (CanTurn 2 two.new.controller two.new.worker two.new.away ring.new.net
         ring.new.history) }
-    ensures five { OnOk result (IsReady 5 five.new.controller five.new.worker five.new.away
+    ensures five { OnOk result (CanTurn 5 five.new.controller five.new.worker five.new.away
         ring.new.net ring.new.history) }
 {
     let holder = ring.holder();
@@ -149,14 +152,14 @@ fn try_back(
     other: &Station,
     ring: &mut Ring,
 ) -> Result<u8, AllocError>
-    requires mine { IsReady node station.old.controller station.old.worker station.old.away
+    requires mine { CanTurn node station.old.controller station.old.worker station.old.away
         ring.old.net ring.old.history }
-    requires theirs { IsReady other_node other.now.controller other.now.worker other.now.away
+    requires theirs { CanTurn other_node other.now.controller other.now.worker other.now.away
         ring.old.net ring.old.history }
     requires apart { other_node ≢ node }
-    ensures mine { OnOk result (IsReady node station.new.controller station.new.worker
+    ensures mine { OnOk result (CanTurn node station.new.controller station.new.worker
         station.new.away ring.new.net ring.new.history) }
-    ensures theirs { OnOk result (IsReady other_node other.now.controller other.now.worker
+    ensures theirs { OnOk result (CanTurn other_node other.now.controller other.now.worker
         other.now.away ring.new.net ring.new.history) }
 {
     if !station.away {
@@ -166,16 +169,16 @@ fn try_back(
     Ok(if joined { b'J' } else { b'W' })
 }
 
-/// What a letter of a script asks for: a step of controller 2 or 5, the hold of whoever has the token
-/// (h), a try of node 2 (a) or 5 (b) to come back. The letter of the answer; `.` for a step.
+/// What a letter of a script asks for: a step of controller 2 or 5, the hold of whoever has the
+/// token (h), a try of node 2 (a) or 5 (b) to come back. The letter of the answer; `.` for a step.
 fn act(letter: u8, two: &mut Station, five: &mut Station, ring: &mut Ring) -> Result<u8, AllocError>
-    requires two { IsReady 2 two.old.controller two.old.worker two.old.away ring.old.net
+    requires two { CanTurn 2 two.old.controller two.old.worker two.old.away ring.old.net
         ring.old.history }
-    requires five { IsReady 5 five.old.controller five.old.worker five.old.away ring.old.net
+    requires five { CanTurn 5 five.old.controller five.old.worker five.old.away ring.old.net
         ring.old.history }
-    ensures two { OnOk result (IsReady 2 two.new.controller two.new.worker two.new.away ring.new.net
+    ensures two { OnOk result (CanTurn 2 two.new.controller two.new.worker two.new.away ring.new.net
         ring.new.history) }
-    ensures five { OnOk result (IsReady 5 five.new.controller five.new.worker five.new.away
+    ensures five { OnOk result (CanTurn 5 five.new.controller five.new.worker five.new.away
         ring.new.net ring.new.history) }
 {
     match letter {
@@ -197,9 +200,9 @@ fn follow(
     five: &mut Station,
     ring: &mut Ring,
 ) -> Result<Vec<u8>, AllocError>
-    requires two { IsReady 2 two.old.controller two.old.worker two.old.away ring.old.net
+    requires two { CanTurn 2 two.old.controller two.old.worker two.old.away ring.old.net
         ring.old.history }
-    requires five { IsReady 5 five.old.controller five.old.worker five.old.away ring.old.net
+    requires five { CanTurn 5 five.old.controller five.old.worker five.old.away ring.old.net
         ring.old.history }
 {
     let mut answers = Vec::new(alloc);
@@ -225,9 +228,9 @@ fn told_by(
     five: &mut Station,
     ring: &mut Ring,
 ) -> Result<Told, AllocError>
-    requires two { IsReady 2 two.old.controller two.old.worker two.old.away ring.old.net
+    requires two { CanTurn 2 two.old.controller two.old.worker two.old.away ring.old.net
         ring.old.history }
-    requires five { IsReady 5 five.old.controller five.old.worker five.old.away ring.old.net
+    requires five { CanTurn 5 five.old.controller five.old.worker five.old.away ring.old.net
         ring.old.history }
 {
     let answers = follow(alloc, script, two, five, ring)?;
@@ -246,9 +249,10 @@ fn station_of(
     requires node { controller.fixed.plan.node ≡ node }
     requires history { controller.history ≡ [] }
     requires members { net.now.members ≡ 2 ∷ 5 ∷ [] }
+    requires alone { net.now.bridges ≡ [] }
     requires member { IsMember net.now node }
     requires answer { net.now.answer ≡ 2 }
-    ensures { IfOk result (λ station. IsReady node station.controller station.worker station.away
+    ensures { IfOk result (λ station. CanTurn node station.controller station.worker station.away
         net.now []) }
 {
     let worker = CommWorker::new(alloc, node, net, true)?;
@@ -268,8 +272,8 @@ fn told_on(
     five: &mut Station,
     script: &[u8],
 ) -> Result<Told, AllocError>
-    requires two { IsReady 2 two.old.controller two.old.worker two.old.away net.now [] }
-    requires five { IsReady 5 five.old.controller five.old.worker five.old.away net.now [] }
+    requires two { CanTurn 2 two.old.controller two.old.worker two.old.away net.now [] }
+    requires five { CanTurn 5 five.old.controller five.old.worker five.old.away net.now [] }
 {
     let mut ring = ring_of(rt, alloc, net)?;
     told_by(alloc, script, two, five, &mut ring)
@@ -278,8 +282,9 @@ fn told_on(
 /// The station of node 2, which reads node 5. It has not begun.
 fn reading_station(alloc: Global, net: &NetPlan, power: &[PowerRow]) -> Result<Station, Fail>
     requires members { net.now.members ≡ 2 ∷ 5 ∷ [] }
+    requires alone { net.now.bridges ≡ [] }
     requires answer { net.now.answer ≡ 2 }
-    ensures { IfOk result (λ station. IsReady 2 station.controller station.worker station.away
+    ensures { IfOk result (λ station. CanTurn 2 station.controller station.worker station.away
         net.now []) }
 {
     let controller = reader(alloc, power)?;
@@ -289,8 +294,9 @@ fn reading_station(alloc: Global, net: &NetPlan, power: &[PowerRow]) -> Result<S
 /// The station of node 5, which asks nothing. It has not begun.
 fn silent_station(alloc: Global, net: &NetPlan, power: &[PowerRow]) -> Result<Station, Fail>
     requires members { net.now.members ≡ 2 ∷ 5 ∷ [] }
+    requires alone { net.now.bridges ≡ [] }
     requires answer { net.now.answer ≡ 2 }
-    ensures { IfOk result (λ station. IsReady 5 station.controller station.worker station.away
+    ensures { IfOk result (λ station. CanTurn 5 station.controller station.worker station.away
         net.now []) }
 {
     let controller = controller_of(alloc, 5, List::new(alloc), power)?;
@@ -307,8 +313,9 @@ fn told_with(
     script: &[u8],
 ) -> Result<Told, Fail>
     requires members { net.now.members ≡ 2 ∷ 5 ∷ [] }
+    requires alone { net.now.bridges ≡ [] }
     requires answer { net.now.answer ≡ 2 }
-    requires two { IsReady 2 two.old.controller two.old.worker two.old.away net.now [] }
+    requires two { CanTurn 2 two.old.controller two.old.worker two.old.away net.now [] }
 {
     let mut five = silent_station(alloc, net, power)?;
     Ok(told_on(rt, alloc, net, two, &mut five, script)?)
@@ -323,6 +330,7 @@ fn tell(
     script: &[u8],
 ) -> Result<Told, Fail>
     requires members { net.now.members ≡ 2 ∷ 5 ∷ [] }
+    requires alone { net.now.bridges ≡ [] }
     requires answer { net.now.answer ≡ 2 }
 {
     let mut two = reading_station(alloc, net, power.0)?;

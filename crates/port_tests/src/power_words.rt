@@ -55,8 +55,8 @@ const fn leave_letter(cause: LeaveCause) -> u8 {
 }
 
 /// The node and a letter for an entry: a Request (P) or Reply (p) posted, a Send that was
-/// acknowledged (A) or not (s), a Take, a Local (O), a call given up after no answer (g) or at a node
-/// that is not there (G), a Pass that says done (d) or not (n), a Leave, a Join.
+/// acknowledged (A) or not (s), a Take, a Local (O), a call given up after no answer (g) or at a
+/// node that is not there (G), a Pass that says done (d) or not (n), a Leave, a Join.
 fn entry_letters(entry: &RingEntry) -> (u8, u8) {
     match entry {
         RingEntry::Post { node, frame } => match frame.kind {

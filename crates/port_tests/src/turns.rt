@@ -124,6 +124,7 @@ fn plan_of(
     let segments = one_segment(alloc, networks)?;
     Ok(checked(ControllerPlan {
         node,
+        network: 0,
         coils: 16,
         inputs: 0,
         input_registers: 0,
@@ -177,13 +178,16 @@ fn scan(controller: &mut Controller) -> Result<(), AllocError>
 /// Node 2 with others, all at these fates.
 fn net_of(alloc: Global, others: &[u8], fates: &[Fate], holds: u32) -> Result<NetPlan, AllocError>
     ensures members { IfOk result (λ net. HasFirst 2 net.members) }
+    ensures alone { IfOk result (λ net. net.bridges ≡ []) }
     ensures answer { IfOk result (λ net. net.answer ≡ 20) }
 {
     let mut members = Vec::new(alloc);
     members.push(2)?;
     members.extend_from_slice(others)?;
     Ok(NetPlan {
+        number: 0,
         members: List::from_vec(members),
+        bridges: List::new(alloc),
         fates: List::from_vec(Vec::from_slice(alloc, fates)?),
         answer: 20,
         rotations: 1,
@@ -202,6 +206,7 @@ fn turn_on(
     requires node { controller.old.fixed.plan.node ≡ 2 }
     requires events { filter is_ours controller.old.history ≡ [] }
     requires first { HasFirst 2 net.now.members }
+    requires alone { net.now.bridges ≡ [] }
     requires answer { net.now.answer ≡ 20 }
     requires ring { ring.old.net ≡ net.now }
     requires empty { ring.old.history ≡ [] }
@@ -223,6 +228,7 @@ fn turn_at(
     requires node { controller.old.fixed.plan.node ≡ 2 }
     requires events { filter is_ours controller.old.history ≡ [] }
     requires first { HasFirst 2 net.now.members }
+    requires alone { net.now.bridges ≡ [] }
     requires answer { net.now.answer ≡ 20 }
 {
     let can = is_net(net);
@@ -246,6 +252,7 @@ fn scan_and_turn(
     requires node { controller.old.fixed.plan.node ≡ 2 }
     requires events { filter is_ours controller.old.history ≡ [] }
     requires first { HasFirst 2 net.now.members }
+    requires alone { net.now.bridges ≡ [] }
     requires answer { net.now.answer ≡ 20 }
 {
     scan(controller)?;
@@ -262,6 +269,7 @@ struct Noted {
 /// What the reader and the ring of a net noted in the first turn.
 fn first_turn(rt: &impl Abort, alloc: Global, net: &NetPlan) -> Result<Noted, Fail>
     requires first { HasFirst 2 net.now.members }
+    requires alone { net.now.bridges ≡ [] }
     requires answer { net.now.answer ≡ 20 }
 {
     let mut controller = reader(alloc, &[])?;
@@ -283,8 +291,10 @@ const CALL: CallId = CallId {
 fn is_read(calls: &[Call]) -> bool {
     match calls {
         [call] => match &call.kind {
-            CallKind::Net { to: 5, pdu } => {
-                call.id == CALL && matches!(pdu.bytes(), [3, 0, 0, 0, 2])
+            CallKind::Net { route, pdu } => {
+                call.id == CALL
+                    && matches!(route.addresses(), [5])
+                    && matches!(pdu.bytes(), [3, 0, 0, 0, 2])
             }
             _ => false,
         },

@@ -8,7 +8,7 @@ use Rattle.std.proofs.lemmas.List.{get_or-drop, length_push}
 use Rattle.ring_core.specs.Words.{NetPlan, RingEntry, Post, Send, Take, Local, GiveUp, Pass, Leave}
 use Rattle.ring_core.specs.Words.{Join, maker, Frame, In, Asking, Gone}
 use Rattle.ring_core.specs.Machine.{NodeIs, RingIs, addresses, fresh, part_of, ring_node, is_here}
-use Rattle.ring_core.specs.Machine.{is_in, is_held, with_status, asked_in, after, opening}
+use Rattle.ring_core.specs.Machine.{is_in, is_held, with_status, made_asking, after, opening}
 use Rattle.ring_core.specs.Machine.{opening_nodes}
 use Rattle.ring_core.specs.Machine.{with_members, least_from, or_else, successor, sent_head}
 use Rattle.ring_core.specs.Machine.{ring_after}
@@ -111,7 +111,7 @@ sent-there net r m (f ∷ fs) is =
 
 -- who asks to come in was no member, and does not hold the token
 joined-there : (r : RingIs) (n : ℕ) → n < length r.nodes → is_here (ring_node r n) ≡ false
-    → HolderIsThere (asked_in r n)
+    → HolderIsThere (made_asking r n)
 joined-there r n range left = cond_both (is_held r) _ _ HolderIsThere
     (λ (held : is_held r ≡ true).
     inl (ap is_here (out r.nodes r.holder n _ (λ (e : n ≡ r.holder).

@@ -7,3 +7,4 @@ pub mod Keeping
 pub mod Sending
 pub mod Stability
 pub mod Holders
+pub mod Onward

@@ -10,13 +10,13 @@ use Rattle.ring_core.specs.Words.{Join, LeaveCause, Ended, Spent, Down, NodeStat
 use Rattle.ring_core.specs.Words.{Frame, FrameKind, Request, Reply, CallId, Heard, Acked, Silent}
 use Rattle.ring_core.specs.Words.{Busy, Await, Nothing, Out, Arrived, Failed, Path, Fell}
 use Rattle.ring_core.specs.Words.{AcceptedRequest, RepeatedRequest, CrowdedOut, AcceptedReply}
-use Rattle.ring_core.specs.Words.{DroppedReply, asks_for}
+use Rattle.ring_core.specs.Words.{DroppedReply, asks_for, is_onward}
 use Rattle.ring_core.specs.Machine.{NodeIs, RingIs, part_of, ring_node, no_path, fresh, passes_of}
 use Rattle.ring_core.specs.Machine.{asked, took, after_pass, aged, aged_await, gone, gave_up}
 use Rattle.ring_core.specs.Machine.{is_head, with_frame, heard_by, sent_off, failed, arrived}
 use Rattle.ring_core.specs.Machine.{arrival, sent_head, heard_of, fate_at, addresses, opening}
-use Rattle.ring_core.specs.Machine.{with_members, after, silence_word, busy_word, is_here, is_held}
-use Rattle.ring_core.specs.Machine.{with_status, admitted, downed, left_with, handed_on}
+use Rattle.ring_core.specs.Machine.{with_members, after, silence_word, busy_word, hears, is_held}
+use Rattle.ring_core.specs.Machine.{with_status, admitted, downed, gone_by, handed_on}
 use Rattle.ring_core.specs.Kept.{IsSoundNode, IsSoundRing, HasSource}
 
 -- what holds at each place of a list, past its end too, after a write
@@ -75,7 +75,7 @@ reboxed k c outbox inbox tries s low asked = record {
 }
 
 posted-sound : (k : ℕ) (c : NodeIs) (f : Frame) (kind : FrameKind) → IsSoundNode k c → HasSource f
-    → IsSoundNode k (record c { outbox = c.outbox ++ f ∷ []; paths = asked c kind f.id f.to })
+    → IsSoundNode k (record c { outbox = c.outbox ++ f ∷ []; paths = asked c kind f })
 posted-sound k c f Request s source =
     repathed k (record c { outbox = c.outbox ++ f ∷ [] }) f.id.path _
     (reboxed k c (c.outbox ++ f ∷ []) c.inbox c.tries s s.tries
@@ -103,7 +103,7 @@ gave_up-sound k c id s =
 
 aged-waits : (k : ℕ) (a : Await) → passes_of a ≤ k → passes_of (aged_await a) ≤ k + 1
 aged-waits k Nothing h = omega arith
-aged-waits k (Out number to passes) h = omega arith
+aged-waits k (Out number to onward passes) h = omega arith
 aged-waits k (Arrived number) h = omega arith
 aged-waits k (Failed number word) h = omega arith
 
@@ -145,7 +145,7 @@ downed-sound k c number s = record {
 }
 
 left-sound : (k : ℕ) (c : NodeIs) (cause : LeaveCause) → IsSoundNode k c
-    → IsSoundNode k (left_with cause c)
+    → IsSoundNode k (gone_by cause c)
 left-sound k c Ended s = gone-sound k c s
 left-sound k c Spent s = gone-sound k c s
 left-sound k c (Down number) s = downed-sound k c number s
@@ -223,7 +223,7 @@ sent-sound net k r n [] s =
     record { sent = omega (arith, s.sent); size = s.size; each = all-later k r.nodes s.each }
 sent-sound net k r n (f ∷ fs) s =
     let fate = fate_at net.fates r.sent in
-    let fall = arrival r.nodes fate f in
+    let fall = arrival net r.nodes fate f in
     let nodes = arrived r.nodes f fall in
     let a = arrived-sound k r.nodes f fall (record { size = s.size; each = s.each }) in
     record {
@@ -231,7 +231,7 @@ sent-sound net k r n (f ∷ fs) s =
       size = length-set nodes n _
           ∙ a.size;
       each = all-later k _ (each-set (IsSoundNode k) nodes (fresh false) n _ a.each
-          (heard-sound k (part_of nodes n) f.kind f.id (is_here (ring_node r f.to))
+          (heard-sound k (part_of nodes n) f.kind f.id (hears net r.nodes f.to (is_onward f))
           (heard_of fate fall) (a.each n)));
     }
 

@@ -21,7 +21,7 @@ IsPath path = (1 ≤ path) × (path ≤ 4)
 -- Conditions of a Post: of the frame alone, and of the path.
 abbrev pub IsFrom : ℕ → FrameKind → Frame → Type 0
 IsFrom n Request f = (f.id.node ≡ n) × (f.to ≢ n) × IsPath f.id.path
-IsFrom n Reply f = (f.to ≡ f.id.node) × (f.to ≢ n)
+IsFrom n Reply f = (f.to ≡ f.id.node) × (f.to ≢ n) × (f.rest ≡ [])
 
 -- A Request's number is above all that were posted on its path.
 abbrev pub IsNextNumber : NodeIs → FrameKind → CallId → Type 0
@@ -47,7 +47,7 @@ abbrev pub IsHeard : NetPlan → RingIs → List Frame → Heard → Type 0
 IsHeard net r [] heard = ⊥
 IsHeard net r (f ∷ fs) heard =
     let fate = fate_at net.fates r.sent in
-    heard ≡ heard_of fate (arrival r.nodes fate f)
+    heard ≡ heard_of fate (arrival net r.nodes fate f)
 
 -- What an entry owes by itself, whatever was before.
 abbrev pub IsLawful : NetPlan → RingEntry → Type 0
@@ -69,7 +69,7 @@ IsTimelyEntry net past r (Send n heard) =
 IsTimelyEntry net past r (Take n f) = (turn_no r n ≡ None) × IsFirst (ring_node r n).inbox f
 IsTimelyEntry net past r (Local n id op result) =
     (free_no r n ≡ None) × (result ≡ local_result net past n op)
-IsTimelyEntry net past r (GiveUp id word) = (give_up_no net r id ≡ None) × (word ≡ word_of r id)
+IsTimelyEntry net past r (GiveUp id word) = (give_up_no net r id ≡ None) × (word ≡ word_of net r id)
 IsTimelyEntry net past r (Pass n done words) = (pass_no r n ≡ None) × (words ≡ words_put n past)
 IsTimelyEntry net past r (Leave n cause) = leave_no net r n cause ≡ None
 IsTimelyEntry net past r (Join n) = join_no r n ≡ None

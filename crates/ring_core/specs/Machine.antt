@@ -3,8 +3,10 @@
 -- Guide;
 -- fates, tries, give-ups, leaving and coming back are this project's own.
 use Rattle.std.specs.Prelude.{ℕ, zero, suc, ◌+◌, ◌<◌, ◌%◌, ◌^◌, Bool, true, false, nat_le}
-use Rattle.std.specs.Prelude.{◌==◌, not, if◌then◌else◌, List, [], ◌∷◌, ◌++◌, length, get_or, set}
-use Rattle.std.specs.Prelude.{map, drop, filter, replicate, count_by, Option, Some, None, unwrap_or}
+use Rattle.std.specs.Prelude.{◌==◌, ◌&&◌, ◌||◌, not, if◌then◌else◌, List, [], ◌∷◌, ◌++◌, length}
+use Rattle.std.specs.Prelude.{get_or, set, map, drop, filter, replicate, count_by, Option, Some}
+use Rattle.std.specs.Prelude.{None, unwrap_or}
+use Rattle.std.specs.List.{list_any, list_all}
 use Rattle.std.specs.declared.cmp.Ordering.{Ordering}
 use Rattle.std.specs.Ordering.{nat_cmp, ordering_then}
 use Rattle.std.specs.FinMap.{FinMap, get, insert, empty}
@@ -15,7 +17,7 @@ use Rattle.ring_core.specs.Words.{GiveUp, Pass, Leave, Join, NodeStatus, In, Awa
 use Rattle.ring_core.specs.Words.{LeaveCause, Ended, Spent, Down}
 use Rattle.ring_core.specs.Words.{Await, Nothing, Out, Arrived, Failed, Path}
 use Rattle.ring_core.specs.Words.{Fell, AcceptedRequest, RepeatedRequest, CrowdedOut, AcceptedReply}
-use Rattle.ring_core.specs.Words.{DroppedReply, is_request, asks_for}
+use Rattle.ring_core.specs.Words.{DroppedReply, is_request, is_onward, asks_for}
 
 -- The source of a Request: the node that asks, and the path on which it does.
 abbrev pub Source : Type 0
@@ -103,6 +105,22 @@ is_in Gone = false
 abbrev pub is_here : NodeIs → Bool
 is_here c = is_in c.status
 
+-- The status of a node that is a member, or asks to be one.
+abbrev pub is_in_or_asking : NodeStatus → Bool
+is_in_or_asking In = true
+is_in_or_asking Away = false
+is_in_or_asking Asking = true
+is_in_or_asking Gone = false
+
+-- A node is the end of a bridge on this ring.
+abbrev pub is_bridge : NetPlan → ℕ → Bool
+is_bridge net n = list_any (λ end. end == n) net.bridges
+
+-- Every other node that is a member, or asks to be one, is the end of a bridge.
+abbrev pub only_bridges : NetPlan → List NodeIs → ℕ → Bool
+only_bridges net nodes n = list_all
+    (λ m. (m == n) || is_bridge net m || not (is_in_or_asking (part_of nodes m).status)) net.members
+
 abbrev pub with_status : NodeIs → NodeStatus → NodeIs
 with_status c status = record c { status = status }
 
@@ -126,7 +144,7 @@ with_node r n c = record r { nodes = set r.nodes n c }
 -- The number that a path awaits; 0 for none.
 abbrev pub awaited_number : Await → ℕ
 awaited_number Nothing = 0
-awaited_number (Out seq to passes) = seq
+awaited_number (Out seq to onward passes) = seq
 awaited_number (Arrived seq) = seq
 awaited_number (Failed seq word) = seq
 
@@ -139,15 +157,15 @@ abbrev pub awaiting : NodeIs → ℕ → Await → List Path
 awaiting c path awaits = paths_awaiting c.paths path awaits
 
 -- Post: the frame goes last in the outbox, and a Request's path is out.
-abbrev pub asked : NodeIs → FrameKind → CallId → ℕ → List Path
-asked c Request id to =
-    set c.paths id.path (record { awaits = Out id.seq to 0; posted = id.seq })
-asked c Reply id to = c.paths
+abbrev pub asked : NodeIs → FrameKind → Frame → List Path
+asked c Request f = set c.paths f.id.path
+    (record { awaits = Out f.id.seq f.to (is_onward f) 0; posted = f.id.seq })
+asked c Reply f = c.paths
 
 abbrev pub posted : NodeIs → Frame → NodeIs
 posted c f = record c {
   outbox = c.outbox ++ f ∷ [];
-  paths = asked c f.kind f.id f.to;
+  paths = asked c f.kind f;
 }
 
 -- Take: the first frame leaves the inbox, and a Reply's path awaits nothing.
@@ -176,7 +194,7 @@ gave_up c id = record c {
 -- Pass: each path that is out has waited one Pass more.
 abbrev pub aged_await : Await → Await
 aged_await Nothing = Nothing
-aged_await (Out seq to passes) = Out seq to (passes + 1)
+aged_await (Out seq to onward passes) = Out seq to onward (passes + 1)
 aged_await (Arrived seq) = Arrived seq
 aged_await (Failed seq word) = Failed seq word
 
@@ -192,7 +210,7 @@ after_pass c done = record c {
 
 abbrev pub passes_of : Await → ℕ
 passes_of Nothing = 0
-passes_of (Out seq to passes) = passes
+passes_of (Out seq to onward passes) = passes
 passes_of (Arrived seq) = 0
 passes_of (Failed seq word) = 0
 
@@ -215,10 +233,10 @@ downed c number = record c {
 }
 
 -- Leave, by its cause.
-abbrev pub left_with : LeaveCause → NodeIs → NodeIs
-left_with Ended c = gone c
-left_with Spent c = gone c
-left_with (Down number) c = downed c number
+abbrev pub gone_by : LeaveCause → NodeIs → NodeIs
+gone_by Ended c = gone c
+gone_by Spent c = gone c
+gone_by (Down number) c = downed c number
 
 -- The least member from a place on; 0 where there is none.
 abbrev pub least_from : List NodeIs → ℕ → ℕ
@@ -247,13 +265,15 @@ told D heard = heard
 told L heard = Silent
 told A heard = Silent
 
--- The target of a frame hears it where it is a member.
-abbrev pub hears : List NodeIs → ℕ → Bool
-hears nodes to = is_here (part_of nodes to)
+-- A node hears a frame where it is a member and, if the frame is to go on from there, the end of a
+-- bridge.
+abbrev pub hears : NetPlan → List NodeIs → ℕ → Bool → Bool
+hears net nodes to onward = is_here (part_of nodes to) && (not onward || is_bridge net to)
 
 -- A frame arrives where its target hears it and the letter lets it through.
-abbrev pub arrives : List NodeIs → Fate → ℕ → Bool
-arrives nodes fate to = if hears nodes to then fate_reaches fate else false
+abbrev pub arrives : NetPlan → List NodeIs → Fate → Frame → Bool
+arrives net nodes fate f =
+    if hears net nodes f.to (is_onward f) then fate_reaches fate else false
 
 -- A number that was accepted of its source already, or a lower one.
 abbrev pub is_repeat : NodeIs → CallId → Bool
@@ -266,7 +286,7 @@ is_full c = nat_le 4 (count_by is_request c.inbox)
 -- The path is out with this number.
 abbrev pub waits_for : Await → ℕ → Bool
 waits_for Nothing seq = false
-waits_for (Out out to passes) seq = out == seq
+waits_for (Out out to onward passes) seq = out == seq
 waits_for (Arrived out) seq = false
 waits_for (Failed out word) seq = false
 
@@ -300,9 +320,9 @@ told_by_target AcceptedReply = Acked
 told_by_target DroppedReply = Acked
 
 -- What becomes of a frame; None where it does not arrive.
-abbrev pub arrival : List NodeIs → Fate → Frame → Option Fell
-arrival nodes fate f =
-    if arrives nodes fate f.to then Some (fell (part_of nodes f.to) f.kind f.id) else None
+abbrev pub arrival : NetPlan → List NodeIs → Fate → Frame → Option Fell
+arrival net nodes fate f =
+    if arrives net nodes fate f then Some (fell (part_of nodes f.to) f.kind f.id) else None
 
 abbrev pub heard_of : Fate → Option Fell → Heard
 heard_of fate None = Silent
@@ -320,7 +340,7 @@ failed c Reply id word = c.paths
 abbrev pub sent_off : NodeIs → List Path → NodeIs
 sent_off c paths = record c { outbox = drop 1 c.outbox; tries = 0; paths = paths }
 
--- The word of a target that says nothing: 6101 for a member, 6103 for none.
+-- The word of a target that says nothing: 6101 where it hears the frame, else 6103.
 abbrev pub silence_word : Bool → ℕ
 silence_word there = if there then 0x6101 else 0x6103
 
@@ -336,10 +356,10 @@ heard_by c kind id there Silent =
     else record c { tries = c.tries + 1 }
 
 -- Send: the head frame of the outbox is transmitted.
-abbrev pub sent_with : RingIs → ℕ → Frame → Fate → Option Fell → RingIs
-sent_with r n f fate fall =
+abbrev pub sent_with : NetPlan → RingIs → ℕ → Frame → Fate → Option Fell → RingIs
+sent_with net r n f fate fall =
     let nodes = arrived r.nodes f fall in
-    let there = hears r.nodes f.to in
+    let there = hears net r.nodes f.to (is_onward f) in
     record {
       holder = r.holder;
       sent = r.sent + 1;
@@ -349,7 +369,7 @@ sent_with r n f fate fall =
 abbrev pub sent_one : NetPlan → RingIs → ℕ → Frame → RingIs
 sent_one net r n f =
     let fate = fate_at net.fates r.sent in
-    sent_with r n f fate (arrival r.nodes fate f)
+    sent_with net r n f fate (arrival net r.nodes fate f)
 
 abbrev pub sent_head : NetPlan → RingIs → ℕ → List Frame → RingIs
 sent_head net r n [] = r
@@ -366,8 +386,8 @@ abbrev pub is_held : RingIs → Bool
 is_held r = is_here (ring_node r r.holder)
 
 -- Join: the node asks to come in; where nobody holds the token it is in at once, and holds it.
-abbrev pub asked_in : RingIs → ℕ → RingIs
-asked_in r n =
+abbrev pub made_asking : RingIs → ℕ → RingIs
+made_asking r n =
     if is_held r then with_node r n (with_status (ring_node r n) Asking)
     else record {
       holder = n;
@@ -385,8 +405,8 @@ after net r (GiveUp id word) = with_node r id.node (gave_up (ring_node r id.node
 after net r (Pass n done words) =
     handed_on r (set r.nodes n (after_pass (ring_node r n) done)) n
 after net r (Leave n cause) =
-    handed_on r (set r.nodes n (left_with cause (ring_node r n))) n
-after net r (Join n) = asked_in r n
+    handed_on r (set r.nodes n (gone_by cause (ring_node r n))) n
+after net r (Join n) = made_asking r n
 
 -- The ring after a list of entries.
 abbrev pub after_all : NetPlan → RingIs → List RingEntry → RingIs

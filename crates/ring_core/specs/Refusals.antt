@@ -1,7 +1,6 @@
 -- Why a call is refused: the first reason that fits. This project's own.
-use Rattle.std.specs.Prelude.{◌≡◌, ℕ, ◌+◌, ◌==◌, ◌&&◌, Bool, false, nat_lt, min, if◌then◌else◌}
-use Rattle.std.specs.Prelude.{List, [], ◌∷◌}
-use Rattle.std.specs.Prelude.{length, Option, Some, None}
+use Rattle.std.specs.Prelude.{◌≡◌, ℕ, ◌+◌, ◌==◌, ◌&&◌, Bool, false, not, nat_lt, min, if◌then◌else◌}
+use Rattle.std.specs.Prelude.{List, [], ◌∷◌, length, map, filter, fold, Option, Some, None}
 use Rattle.ring_core.specs.Words.{CallId, FrameKind, Request, Reply, Frame, LeaveCause, Ended}
 use Rattle.ring_core.specs.Words.{Spent, Down, NodeStatus, In, Away, Asking, Gone}
 use Rattle.ring_core.specs.Words.{NetPlan, RingNo, NotMember, NotHolder, Unsent, Untaken, NotAway}
@@ -9,7 +8,7 @@ use Rattle.ring_core.specs.Words.{NoMemory, NotDue, NothingToSend, PathTaken, No
 use Rattle.ring_core.specs.Words.{Nothing, Out}
 use Rattle.ring_core.specs.Words.{Arrived, Failed, LeaveDue}
 use Rattle.ring_core.specs.Machine.{NodeIs, RingIs, ring_node, path_of, silence_word, is_here}
-use Rattle.ring_core.specs.Machine.{hears}
+use Rattle.ring_core.specs.Machine.{part_of, is_bridge, hears}
 
 -- A call is refused for want of memory, and then nothing changes.
 abbrev pub WantsMemory : {X : Type 0} → X → X → RingNo → Type 0
@@ -35,7 +34,7 @@ free_no r n = if is_here (ring_node r n) then not_holder r n else None
 -- The refusal where a path awaits a number.
 abbrev pub taken_no : Await → Option RingNo
 taken_no Nothing = None
-taken_no (Out seq to passes) = Some (PathTaken seq)
+taken_no (Out seq to onward passes) = Some (PathTaken seq)
 taken_no (Arrived seq) = Some (PathTaken seq)
 taken_no (Failed seq word) = Some (PathTaken seq)
 
@@ -79,34 +78,31 @@ pass_no r n = or_no (turn_no r n) (boxes_no (ring_node r n))
 abbrev pub due_no : ℕ → ℕ → Option RingNo
 due_no held needed = if nat_lt held needed then Some (NotDue held needed) else None
 
--- The least number of latest Passes in a row that said done, over the nodes that count.
-abbrev pub least_of : ℕ → Option ℕ → ℕ
-least_of a None = a
-least_of a (Some b) = min a b
+-- The members that are not ends of bridges.
+abbrev pub non_bridges : NetPlan → List NodeIs → List ℕ
+non_bridges net nodes = filter (λ m. is_here (part_of nodes m) && not (is_bridge net m)) net.members
 
-abbrev pub least_over : (NodeIs → Bool) → List NodeIs → Option ℕ
-least_over counts [] = None
-least_over counts (c ∷ cs) =
-    if counts c then Some (least_of c.done_run (least_over counts cs)) else least_over counts cs
+-- How many of a node's latest Passes in a row said done.
+abbrev pub dones_of : List NodeIs → ℕ → ℕ
+dones_of nodes m = (part_of nodes m).done_run
 
--- The same, where the members count.
-abbrev pub least_done : List NodeIs → Option ℕ
-least_done nodes = least_over is_here nodes
+-- The least of a number and of the runs of members that are not ends of bridges.
+abbrev pub least_done : NetPlan → List NodeIs → ℕ → ℕ
+least_done net nodes own = fold min own (map (dones_of nodes) (non_bridges net nodes))
 
-abbrev pub or_zero : Option ℕ → ℕ
-or_zero None = 0
-or_zero (Some a) = a
-
--- For how many Passes in a row every member has been done; 0 for a node that has left.
-abbrev pub quiet_for : RingIs → ℕ → ℕ
-quiet_for r n = if is_here (ring_node r n) then or_zero (least_done r.nodes) else 0
+-- For how many Passes in a row a node itself, and each member that is not the end of a bridge, has
+-- been done; 0 for a node that has left.
+abbrev pub quiet_for : NetPlan → RingIs → ℕ → ℕ
+quiet_for net r n =
+    let c = ring_node r n in
+    if is_here c then least_done net r.nodes c.done_run else 0
 
 -- How much of its cause to leave a node has: Passes in a row at which all were done, Passes of its
 -- own, or failures of its power.
-abbrev pub cause_held : RingIs → ℕ → LeaveCause → ℕ
-cause_held r n Ended = quiet_for r n
-cause_held r n Spent = (ring_node r n).passes
-cause_held r n (Down number) = number
+abbrev pub cause_held : NetPlan → RingIs → ℕ → LeaveCause → ℕ
+cause_held net r n Ended = quiet_for net r n
+cause_held net r n Spent = (ring_node r n).passes
+cause_held net r n (Down number) = number
 
 -- How much of it a node needs; of failures, one more than the number of its latest Down.
 abbrev pub needed_of : NetPlan → RingIs → ℕ → LeaveCause → ℕ
@@ -116,7 +112,8 @@ needed_of net r n (Down number) = 1 + (ring_node r n).down
 
 -- Both, of a ring and a cause.
 abbrev pub leave_due : NetPlan → RingIs → ℕ → LeaveCause → LeaveDue
-leave_due net r n cause = record { held = cause_held r n cause; needed = needed_of net r n cause }
+leave_due net r n cause =
+    record { held = cause_held net r n cause; needed = needed_of net r n cause }
 
 -- The refusal where a box is not empty that a cause to leave wants empty: both, or none where power
 -- failed.
@@ -154,14 +151,14 @@ other_no out seq = if out == seq then None else Some (NotAwaited out)
 
 abbrev pub awaited_no : Await → ℕ → Option RingNo
 awaited_no Nothing seq = Some (NotAwaited 0)
-awaited_no (Out out to passes) seq = other_no out seq
+awaited_no (Out out to onward passes) seq = other_no out seq
 awaited_no (Arrived out) seq = other_no out seq
 awaited_no (Failed out word) seq = other_no out seq
 
 -- The refusal where a member's call is not due to be given up.
 abbrev pub answer_after : ℕ → Await → Option RingNo
 answer_after answer Nothing = None
-answer_after answer (Out seq to passes) = due_no passes answer
+answer_after answer (Out seq to onward passes) = due_no passes answer
 answer_after answer (Arrived seq) = Some (Untaken 1)
 answer_after answer (Failed seq word) = None
 
@@ -175,13 +172,14 @@ give_up_no net r id =
 
 -- The word of a call that is given up: its own, or 6103 for a caller that has left, or its
 -- target's.
-abbrev pub end_word : RingIs → Bool → Await → ℕ
-end_word r here (Failed seq word) = word
-end_word r here Nothing = silence_word false
-end_word r here (Arrived seq) = silence_word false
-end_word r here (Out seq to passes) = silence_word (here && hears r.nodes to)
+abbrev pub end_word : NetPlan → RingIs → Bool → Await → ℕ
+end_word net r here (Failed seq word) = word
+end_word net r here Nothing = silence_word false
+end_word net r here (Arrived seq) = silence_word false
+end_word net r here (Out seq to onward passes) =
+    silence_word (here && hears net r.nodes to onward)
 
-abbrev pub word_of : RingIs → CallId → ℕ
-word_of r id =
+abbrev pub word_of : NetPlan → RingIs → CallId → ℕ
+word_of net r id =
     let c = ring_node r id.node in
-    end_word r (is_here c) (path_of c id.path).awaits
+    end_word net r (is_here c) (path_of c id.path).awaits

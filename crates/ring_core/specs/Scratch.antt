@@ -97,7 +97,7 @@ abbrev pub send_notes : NetPlan → RingIs → ℕ → List Frame → List Note
 send_notes net r n [] = []
 send_notes net r n (f ∷ fs) =
     let fate = fate_at net.fates r.sent in
-    sent_notes n f.to fate (arrival r.nodes fate f)
+    sent_notes n f.to fate (arrival net r.nodes fate f)
 
 -- A clear is not counted; every other Local is the own one or one for another node.
 abbrev pub owner_event : Bool → StatEvent

@@ -1,5 +1,6 @@
 -- The words of the ring: frames, entries, refusals and paths.
-use Rattle.std.specs.Prelude.{ℕ, ◌&&◌, Bool, true, false}
+use Rattle.std.specs.Prelude.{ℕ, ◌&&◌, ◌==◌, Bool, true, false, not, List, ◌∷◌, length, drop}
+use Rattle.std.specs.Prelude.{slice_index}
 pub use Rattle.mstr_block.specs.declared.call.CallId.{CallId}
 pub use Rattle.mstr_block.specs.Call.{is_same_call}
 pub use Rattle.mstr_block.specs.declared.call.MstrResult.{MstrResult}
@@ -54,6 +55,24 @@ asks Reply = false
 
 abbrev pub is_request : Frame → Bool
 is_request frame = asks frame.kind
+
+-- The Request of a call along a route: to its first address, with the others as its rest.
+abbrev pub request_along : CallId → List ℕ → List ℕ → Frame
+request_along id route pdu = record {
+  kind = Request;
+  to = slice_index route 0;
+  rest = drop 1 route;
+  id = id;
+  pdu = pdu;
+}
+
+-- The route of a frame.
+abbrev pub frame_route : Frame → List ℕ
+frame_route frame = frame.to ∷ frame.rest
+
+-- A frame is to go on from its target: it has a rest.
+abbrev pub is_onward : Frame → Bool
+is_onward frame = not (length frame.rest == 0)
 
 -- A frame is the Request of this call.
 abbrev pub asks_for : CallId → Frame → Bool

@@ -2,7 +2,7 @@
 ghost use Rattle.std.specs.Prelude.{◌≡◌, ◌<◌, [], true, length, All, None, OnOk, OnErr};
 ghost use Rattle.std.specs.Prelude.{IfOk, IfSome, MatchOption};
 ghost use Rattle.ring_core.specs.Machine.{addresses, ring_after, ring_node, path_of};
-ghost use Rattle.ring_core.specs.Machine.{awaited_number, successor};
+ghost use Rattle.ring_core.specs.Machine.{awaited_number, successor, only_bridges};
 ghost use Rattle.ring_core.specs.Refusals.{turn_no, free_no, post_no, pass_no, leave_no, join_no};
 ghost use Rattle.ring_core.specs.Refusals.{give_up_no, word_of, quiet_for, leave_due, empty_no};
 ghost use Rattle.ring_core.specs.Scratch.{words_put, local_result, statistics, global_answer};
@@ -17,7 +17,8 @@ use crate::entry::{Heard, LeaveCause, LocalOp, RingEntry};
 use crate::frame::{Frame, FrameKind};
 use crate::global::global_answer;
 use crate::members::{
-    arrival, hand_on, hears, least_done, least_from, members_now, settle, successor,
+    arrival, hand_on, hears, is_here, least_done, least_from, members_now, only_bridges, settle,
+    successor,
 };
 use crate::node::{Node, silence_word};
 use crate::opening::{opening_nodes, opening_stats};
@@ -103,16 +104,28 @@ impl BareRing {
         self.nodes[node as usize].status()
     }
 
-    /// For how many Passes in a row every member has been done; 0 where the node has left.
+    /// For how many Passes in a row a node itself, and each member that is not the end of a bridge,
+    /// has been done; 0 where the node has left.
     pub(crate) fn quiet(&self, past: &[RingEntry], node: u8) -> u64
         requires kept { IsBehind past.now self.now }
         requires member { IsMember (bare_net self.now) node }
-        ensures { result ≡ quiet_for (ring_after (bare_net self.now) past.now) node }
+        ensures { result ≡
+            quiet_for (bare_net self.now) (ring_after (bare_net self.now) past.now) node }
     {
-        if !self.nodes[node as usize].is_here() {
+        let part = &self.nodes[node as usize];
+        if !part.is_here() {
             return 0;
         }
-        least_done(&self.nodes).unwrap_or(0)
+        least_done(&self.plan, &self.nodes, part.done_run())
+    }
+
+    /// Whether every other node that is a member, or asks to be one, is the end of a bridge.
+    pub(crate) fn only_bridges(&self, past: &[RingEntry], node: u8) -> bool
+        requires kept { IsBehind past.now self.now }
+        ensures { result ≡ only_bridges
+            (bare_net self.now) (ring_after (bare_net self.now) past.now).nodes node }
+    {
+        only_bridges(&self.plan, &self.nodes, node)
     }
 
     /// Whether a node is one of the plan's members, whether or not it has left.
@@ -255,8 +268,8 @@ impl BareRing {
         let id = frame.id;
         let to = frame.to;
         let fate = fate_at(self.plan.fates.as_slice(), self.sent);
-        let there = hears(&self.nodes, to);
-        let fell = arrival(&self.nodes, fate, &frame);
+        let there = hears(&self.plan, &self.nodes, to, frame.is_onward());
+        let fell = arrival(&self.plan, &self.nodes, fate, &frame);
         let heard = heard_of(fate, fell);
         settle(&mut self.nodes, frame, fell)?;
         let part = &mut self.nodes[node as usize];
@@ -362,12 +375,15 @@ impl BareRing {
     pub fn word_of(&self, past: &[RingEntry], id: CallId) -> u16
         requires kept { IsBehind past.now self.now }
         requires member { IsMember (bare_net self.now) id.node }
-        ensures { result ≡ word_of (ring_after (bare_net self.now) past.now) id }
+        ensures { result ≡
+            word_of (bare_net self.now) (ring_after (bare_net self.now) past.now) id }
     {
         let part = &self.nodes[id.node as usize];
         match part.awaits(id.path) {
             Await::Failed { word, .. } => word,
-            Await::Out { to, .. } => silence_word(part.is_here() && hears(&self.nodes, to)),
+            Await::Out { to, onward, .. } => {
+                silence_word(part.is_here() && hears(&self.plan, &self.nodes, to, onward))
+            }
             _ => silence_word(false),
         }
     }
@@ -379,7 +395,8 @@ impl BareRing {
         requires path { IsPath id.path }
         requires due { give_up_no (bare_net self.old)
             (ring_after (bare_net self.old) past.now) id ≡ None }
-        requires word { word ≡ word_of (ring_after (bare_net self.old) past.now) id }
+        requires word { word ≡
+            word_of (bare_net self.old) (ring_after (bare_net self.old) past.now) id }
         ensures { BareMade past.now (RingEntry.GiveUp id word) self.old self.new }
     {
         let part = &mut self.nodes[id.node as usize];
@@ -499,7 +516,7 @@ impl BareRing {
         requires free { join_no (ring_after (bare_net self.old) past.now) node ≡ None }
         ensures { BareMade past.now (RingEntry.Join node) self.old self.new }
     {
-        if hears(&self.nodes, self.holder) {
+        if is_here(&self.nodes, self.holder) {
             let part = &mut self.nodes[node as usize];
             part.set_status(NodeStatus::Asking);
         } else {

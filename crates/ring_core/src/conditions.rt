@@ -50,7 +50,7 @@ fn is_reply_from(node: u8, frame: &Frame) -> bool
     ensures only { result ≡ true → IsFrom node FrameKind.Reply frame.now }
     ensures all { IsFrom node FrameKind.Reply frame.now → result ≡ true }
 {
-    frame.to == frame.id.node && frame.to != node
+    frame.to == frame.id.node && frame.to != node && !frame.is_onward()
 }
 
 /// Whether a node may post a frame, by the frame alone.

@@ -9,6 +9,7 @@ impl Copied for Frame {
         Ok(Frame {
             kind: self.kind,
             to: self.to,
+            rest: self.rest,
             id: self.id,
             pdu: self.pdu.copied(alloc)?,
         })
@@ -38,10 +39,7 @@ impl Copied for RingEntry {
                 node: *node,
                 frame: frame.copied(alloc)?,
             }),
-            RingEntry::Send { node, heard } => Ok(RingEntry::Send {
-                node: *node,
-                heard: *heard,
-            }),
+            &RingEntry::Send { node, heard } => Ok(RingEntry::Send { node, heard }),
             RingEntry::Take { node, frame } => Ok(RingEntry::Take {
                 node: *node,
                 frame: frame.copied(alloc)?,
@@ -57,20 +55,14 @@ impl Copied for RingEntry {
                 op: op.copied(alloc)?,
                 result: result.copied(alloc)?,
             }),
-            RingEntry::GiveUp { id, word } => Ok(RingEntry::GiveUp {
-                id: *id,
-                word: *word,
-            }),
+            &RingEntry::GiveUp { id, word } => Ok(RingEntry::GiveUp { id, word }),
             RingEntry::Pass { node, done, words } => Ok(RingEntry::Pass {
                 node: *node,
                 done: *done,
                 words: words.copied(alloc)?,
             }),
-            RingEntry::Leave { node, cause } => Ok(RingEntry::Leave {
-                node: *node,
-                cause: *cause,
-            }),
-            RingEntry::Join { node } => Ok(RingEntry::Join { node: *node }),
+            &RingEntry::Leave { node, cause } => Ok(RingEntry::Leave { node, cause }),
+            &RingEntry::Join { node } => Ok(RingEntry::Join { node }),
         }
     }
 }

@@ -25,7 +25,10 @@ pub use bare::BareRing;
 pub use conditions::{is_from, is_net, is_path};
 pub use entry::{Heard, LeaveCause, LocalOp, RingEntry};
 pub use frame::{Frame, FrameKind};
-pub use laws::{holder_is_member, holders_keep, membership_stays, outsiders_keep};
+pub use laws::{
+    holder_is_member, holders_keep, membership_stays, only_bridges_stays, onward_to_bridges,
+    outsiders_keep,
+};
 pub use refusal::RingNo;
 pub use ring::Ring;
 pub use stats_request::{CLEAR_STATISTICS, GET_STATISTICS, is_stats};

@@ -3,15 +3,16 @@ ghost use Rattle.std.specs.Prelude.{◌≡◌, ◌<◌, ◌≤◌, ◌+◌, fals
 ghost use Rattle.std.specs.Prelude.{OnOk, OnErr, None};
 ghost use Rattle.std.specs.Prelude.{Some};
 ghost use Rattle.ring_core.specs.Machine.{least_from, successor, part_of, arrival, arrived, fresh};
-ghost use Rattle.ring_core.specs.Machine.{is_here, hears, admitted};
-ghost use Rattle.ring_core.specs.Refusals.{least_done, least_of, least_over};
+ghost use Rattle.ring_core.specs.Machine.{is_here, is_in_or_asking, is_bridge, only_bridges};
+ghost use Rattle.ring_core.specs.Machine.{hears, admitted};
+ghost use Rattle.ring_core.specs.Refusals.{least_done};
 ghost use Rattle.ring_core.specs.Scratch.{count_members};
 ghost use Rattle.ring_core.specs.Kept.{IsSource};
 
 use crate::arrival::{Fell, fate_reaches};
 use crate::frame::Frame;
 use crate::node::Node;
-use plant_types::Fate;
+use plant_types::{Fate, NetPlan};
 use std::alloc::AllocError;
 
 // The least member from a place on, or 0.
@@ -40,13 +41,50 @@ pub(crate) fn successor(nodes: &[Node], node: u8) -> u8
     }
 }
 
-// Whether the target of a frame hears it: it is a member. Nobody has an address beyond the nodes.
-pub(crate) fn hears(nodes: &[Node], to: u8) -> bool
-    ensures target { result ≡ hears nodes.now to }
+// Whether a node is a member. Nobody has an address beyond the nodes.
+pub(crate) fn is_here(nodes: &[Node], node: u8) -> bool
+    ensures node { result ≡ is_here (part_of nodes.now node) }
+    ensures beyond { length nodes.now ≤ node → result ≡ false }
+{
+    let at = node as usize;
+    at < nodes.len() && nodes[at].is_here()
+}
+
+// Whether a node is the end of a bridge.
+pub(crate) fn is_bridge(net: &NetPlan, node: u8) -> bool
+    ensures { result ≡ is_bridge net.now node }
+{
+    net.bridges.as_slice().contains(&node)
+}
+
+// Whether a node is a member, or asks to be one.
+fn is_in_or_asking(nodes: &[Node], node: u8) -> bool
+    ensures { result ≡ is_in_or_asking (part_of nodes.now node).status }
+{
+    let at = node as usize;
+    at < nodes.len() && nodes[at].status().is_in_or_asking()
+}
+
+// Whether every other node that is a member, or asks to be one, is the end of a bridge.
+pub(crate) fn only_bridges(net: &NetPlan, nodes: &[Node], node: u8) -> bool
+    ensures { result ≡ only_bridges net.now nodes.now node }
+{
+    let members = net.members.as_slice();
+    for member in members {
+        if *member != node && !is_bridge(net, *member) && is_in_or_asking(nodes, *member) {
+            return false;
+        }
+    }
+    true
+}
+
+// Whether the target of a frame hears it: it is a member and, if the frame is to go on from there,
+// the end of a bridge.
+pub(crate) fn hears(net: &NetPlan, nodes: &[Node], to: u8, onward: bool) -> bool
+    ensures target { result ≡ hears net.now nodes.now to onward }
     ensures beyond { length nodes.now ≤ to → result ≡ false }
 {
-    let at = to as usize;
-    at < nodes.len() && nodes[at].is_here()
+    is_here(nodes, to) && (!onward || is_bridge(net, to))
 }
 
 // How many members there are.
@@ -57,29 +95,19 @@ pub(crate) fn members_now(nodes: &[Node]) -> usize
     nodes.iter().filter(|node| node.is_here()).count()
 }
 
-// The least number of latest Passes in a row that said done, over the members.
-pub(crate) fn least_done(nodes: &[Node]) -> Option<u64>
-    ensures { result ≡ least_done nodes.now }
+// The least of a number and of the latest Passes in a row that said done of each member that is not
+// the end of a bridge.
+pub(crate) fn least_done(net: &NetPlan, nodes: &[Node], own: u64) -> u64
+    ensures { result ≡ least_done net.now nodes.now own }
 {
-    let mut least = None;
-    let mut at = nodes.len();
-    while at > 0 {
-        at -= 1;
-        if nodes[at].is_here() {
-            least = Some(lower(nodes[at].done_run(), least));
+    let mut least = own;
+    let members = net.members.as_slice();
+    for member in members {
+        if is_here(nodes, *member) && !is_bridge(net, *member) {
+            least = least.min(nodes[*member as usize].done_run());
         }
     }
     least
-}
-
-// The lesser of a number and another, if there is another.
-fn lower(number: u64, other: Option<u64>) -> u64
-    ensures { result ≡ least_of number other }
-{
-    match other {
-        None => number,
-        Some(other) => number.min(other),
-    }
 }
 
 // Each node that asks comes in.
@@ -102,15 +130,14 @@ pub(crate) fn hand_on(nodes: &mut Vec<Node>, node: u8) -> u8
 }
 
 // What becomes of a frame; None where it does not arrive, as where its target is none of the nodes.
-pub(crate) fn arrival(nodes: &[Node], fate: Fate, frame: &Frame) -> Option<Fell>
-    ensures fell { result ≡ arrival nodes.now fate frame.now }
+pub(crate) fn arrival(net: &NetPlan, nodes: &[Node], fate: Fate, frame: &Frame) -> Option<Fell>
+    ensures fell { result ≡ arrival net.now nodes.now fate frame.now }
     ensures there { IfSome result (λ _. frame.now.to < length nodes.now) }
 {
-    let at = frame.to as usize;
-    if at >= nodes.len() || !nodes[at].is_here() || !fate_reaches(fate) {
+    if !hears(net, nodes, frame.to, frame.is_onward()) || !fate_reaches(fate) {
         return None;
     }
-    Some(nodes[at].fell(frame.kind, frame.id))
+    Some(nodes[frame.to as usize].fell(frame.kind, frame.id))
 }
 
 // A frame comes to its target, one of the nodes, if it arrives.

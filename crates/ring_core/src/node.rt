@@ -3,7 +3,7 @@ ghost use Rattle.std.specs.Prelude.{◌≡◌, ◌<◌, ◌≤◌, ◌+◌, ◌^
 ghost use Rattle.std.specs.Prelude.{get_or};
 ghost use Rattle.std.specs.Prelude.{set, drop, filter, not, true, false, OnOk, OnErr, IfOk, IfSome};
 ghost use Rattle.std.specs.Prelude.{None, MatchOption, All};
-ghost use Rattle.ring_core.specs.Machine.{NodeIs, posted, took, after_pass, left_with, fresh};
+ghost use Rattle.ring_core.specs.Machine.{NodeIs, posted, took, after_pass, gone_by, fresh};
 ghost use Rattle.ring_core.specs.Machine.{path_of, is_here, downed, admitted, with_status};
 ghost use Rattle.ring_core.specs.Machine.{no_path, awaited_number, CanAge, is_repeat, is_full};
 ghost use Rattle.ring_core.specs.Machine.{waits_for, fell, with_frame, heard_by, sent_off, failed};
@@ -21,7 +21,7 @@ use crate::frame::{Frame, FrameKind};
 use crate::path::{Await, Path, no_path};
 use crate::refusal::{RingNo, or_no};
 use crate::status::NodeStatus;
-use mstr_block::CallId;
+use mstr_block::{CallId, NOBODY_THERE};
 use plant_types::{Copied, PATH_PLACES};
 use std::alloc::{AllocError, Global};
 use std::collections::VecDeque;
@@ -36,10 +36,8 @@ const INBOX_LIMIT: usize = 4;
 // The word of a Request whose target had no room.
 const BUSY: u16 = 0x6105;
 
-// The words of a target that says nothing: a member, and nobody.
+// The word of a target that hears the frame and says nothing.
 const NO_ANSWER: u16 = 0x6101;
-
-const NO_MEMBER: u16 = 0x6103;
 
 #[derive(Drop)]
 pub(crate) struct Node {
@@ -77,11 +75,17 @@ impl Model for Node {
 }
 
 // The path after a Request was posted on it.
-fn asked_path(seq: u32, to: u8) -> Path
-    ensures { result ≡ record { awaits = Await.Out seq to 0; posted = seq } }
+fn asked_path(seq: u32, to: u8, onward: bool) -> Path
+    ensures { result ≡ record { awaits = Await.Out seq to onward 0; posted = seq } }
 {
+    let passes = 0;
     Path {
-        awaits: Await::Out { seq, to, passes: 0 },
+        awaits: Await::Out {
+            seq,
+            to,
+            onward,
+            passes,
+        },
         posted: seq,
     }
 }
@@ -264,9 +268,10 @@ impl Node {
         let kind = frame.kind;
         let id = frame.id;
         let to = frame.to;
+        let onward = frame.is_onward();
         self.outbox.push_back(frame)?;
         if let FrameKind::Request = kind {
-            self.paths[id.path as usize] = asked_path(id.seq, to);
+            self.paths[id.path as usize] = asked_path(id.seq, to, onward);
         }
         Ok(())
     }
@@ -471,7 +476,7 @@ impl Node {
 
     /// The node leaves.
     pub fn leave(&mut self, cause: LeaveCause)
-        ensures { self.new ≡ left_with cause self.old }
+        ensures { self.new ≡ gone_by cause self.old }
     {
         match cause {
             LeaveCause::Ended | LeaveCause::Spent => {
@@ -501,5 +506,5 @@ impl Node {
 pub(crate) fn silence_word(there: bool) -> u16
     ensures { result ≡ silence_word there }
 {
-    if there { NO_ANSWER } else { NO_MEMBER }
+    if there { NO_ANSWER } else { NOBODY_THERE }
 }

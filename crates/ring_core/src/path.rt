@@ -9,12 +9,21 @@ use crate::refusal::RingNo;
 #[derive(Clone, Copy, Drop)]
 pub(crate) enum Await {
     Nothing,
-    // The reply to a Request of this number to a node, for so many of the own Passes.
-    Out { seq: u32, to: u8, passes: u64 },
+    // The reply to a Request of this number to a node, from which it goes on or not, for so many of
+    // the own Passes.
+    Out {
+        seq: u32,
+        to: u8,
+        onward: bool,
+        passes: u64,
+    },
     // The reply of this number is in the inbox.
     Arrived(u32),
     // No reply comes; why.
-    Failed { seq: u32, word: u16 },
+    Failed {
+        seq: u32,
+        word: u16,
+    },
 }
 
 // A path: what it awaits, and the greatest number that was posted on it.
@@ -121,9 +130,15 @@ impl Path {
         ensures { result ≡ aged self }
     {
         let awaits = match self.awaits {
-            Await::Out { seq, to, passes } => Await::Out {
+            Await::Out {
                 seq,
                 to,
+                onward,
+                passes,
+            } => Await::Out {
+                seq,
+                to,
+                onward,
                 passes: passes + 1,
             },
             other => other,

@@ -4,7 +4,7 @@ ghost use Rattle.std.specs.Prelude.{max, true, Option, Some, None, OnOk, OnErr, 
 ghost use Rattle.std.specs.Prelude.{IfSome, MatchOption, vec_len, vec_capacity};
 ghost use Rattle.ring_core.specs.Words.{NetPlan};
 ghost use Rattle.ring_core.specs.Machine.{RingIs, addresses, ring_node, path_of, awaited_number};
-ghost use Rattle.ring_core.specs.Machine.{successor};
+ghost use Rattle.ring_core.specs.Machine.{successor, only_bridges};
 ghost use Rattle.ring_core.specs.Refusals.{turn_no, free_no, post_no, send_no, pass_no, leave_no};
 ghost use Rattle.ring_core.specs.Refusals.{give_up_no, join_no, word_of, quiet_for, WantsMemory};
 ghost use Rattle.ring_core.specs.Scratch.{local_result};
@@ -100,12 +100,20 @@ impl Ring {
         self.bare.status(self.history.as_slice(), node)
     }
 
-    /// For how many Passes in a row every member has been done; 0 where the node has left.
+    /// For how many Passes in a row a node itself, and each member that is not the end of a bridge,
+    /// has been done; 0 where the node has left.
     pub fn quiet(&self, node: u8) -> u64
         requires { IsMember self.now.net node }
-        ensures { result ≡ quiet_for (ring_of self.now) node }
+        ensures { result ≡ quiet_for self.now.net (ring_of self.now) node }
     {
         self.bare.quiet(self.history.as_slice(), node)
+    }
+
+    /// Whether every other node that is a member, or asks to be one, is the end of a bridge.
+    pub fn only_bridges(&self, node: u8) -> bool
+        ensures { result ≡ only_bridges self.now.net (ring_of self.now).nodes node }
+    {
+        self.bare.only_bridges(self.history.as_slice(), node)
     }
 
     /// For how many entries memory is kept.
@@ -146,7 +154,7 @@ impl Ring {
     }
 
     /// Puts a frame last into the node's outbox. A Request's path, 1 to 4, is out from then on, and
-    /// its number is above all that were posted there; a Reply goes to who asked.
+    /// its number is above all that were posted there; a Reply goes to who asked, and no further.
     pub fn post(&mut self, node: u8, frame: Frame) -> Result<(), RingNo>
         requires member { IsMember self.old.net node }
         requires from { IsFrom node frame.kind frame }
@@ -257,7 +265,7 @@ impl Ring {
     pub fn give_up(&mut self, id: CallId) -> Result<u16, RingNo>
         requires member { IsMember self.old.net id.node }
         requires path { IsPath id.path }
-        ensures word { IfOk result (λ word. word ≡ word_of (ring_of self.old) id) }
+        ensures word { IfOk result (λ word. word ≡ word_of self.old.net (ring_of self.old) id) }
         ensures ok { IfOk result (λ word.
             self.new ≡ with_entry self.old (RingEntry.GiveUp id word)) }
         ensures err { OnErr result (self.new ≡ self.old) }

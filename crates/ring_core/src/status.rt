@@ -1,6 +1,6 @@
 //! Whether a node is on the ring.
 ghost use Rattle.std.specs.Prelude.{◌≡◌};
-ghost use Rattle.ring_core.specs.Machine.{first_status, is_in, admitted_status};
+ghost use Rattle.ring_core.specs.Machine.{first_status, is_in, is_in_or_asking, admitted_status};
 
 /// Where a node stands toward the ring. This project's own.
 #[derive(Clone, Copy, Debug, Drop, PartialEq, Eq)]
@@ -34,6 +34,16 @@ impl NodeStatus {
         match self {
             NodeStatus::In => true,
             NodeStatus::Away | NodeStatus::Asking | NodeStatus::Gone => false,
+        }
+    }
+
+    /// Whether it is that of a member, or of one that asks to be.
+    pub(crate) fn is_in_or_asking(self) -> bool
+        ensures { result ≡ is_in_or_asking self }
+    {
+        match self {
+            NodeStatus::In | NodeStatus::Asking => true,
+            NodeStatus::Away | NodeStatus::Gone => false,
         }
     }
 

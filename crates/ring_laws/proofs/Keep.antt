@@ -51,7 +51,7 @@ came-more net h e n f c = record {
 pub awaits-more : (h : List RingEntry) (e : RingEntry) (n p : ℕ) (a : Await) → IsAskedFor h n p a
     → IsAskedFor (h ++ e ∷ []) n p a
 awaits-more h e n p Nothing k = tt
-awaits-more h e n p (Out seq to passes) k = asked-more h e n _ k
+awaits-more h e n p (Out seq to onward passes) k = asked-more h e n _ k
 awaits-more h e n p (Arrived seq) k = asked-more h e n _ k
 awaits-more h e n p (Failed seq word) k = k
 

@@ -46,7 +46,8 @@ pub record CameTo (net : NetPlan) (h : List RingEntry) (n : ℕ) (f : Frame) : T
 -- What a path awaits was asked; what failed has one of the three words.
 abbrev pub IsAskedFor : List RingEntry → ℕ → ℕ → Await → Type 0
 IsAskedFor h n p Nothing = Unit {0}
-IsAskedFor h n p (Out seq to passes) = HasAsked h n (record { node = n; path = p; seq = seq })
+IsAskedFor h n p (Out seq to onward passes) =
+    HasAsked h n (record { node = n; path = p; seq = seq })
 IsAskedFor h n p (Arrived seq) = HasAsked h n (record { node = n; path = p; seq = seq })
 IsAskedFor h n p (Failed seq word) = IsFailWord word
 

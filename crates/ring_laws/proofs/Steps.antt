@@ -23,7 +23,7 @@ use Rattle.ring_core.specs.declared.entry.RingEntry.{RingEntry}
 use Rattle.ring_core.specs.declared.entry.RingEntry.TheVariants.{Post, Send, Take, Local, GiveUp}
 use Rattle.ring_core.specs.declared.entry.RingEntry.TheVariants.{Pass, Leave, Join}
 use Rattle.ring_core.specs.declared.entry.LeaveCause.TheVariants.{Ended, Spent, Down}
-use Rattle.ring_core.specs.Words.{is_same_call, asks, asks_for}
+use Rattle.ring_core.specs.Words.{is_same_call, asks, asks_for, is_onward}
 use Rattle.ring_core.specs.declared.status.NodeStatus.TheVariants.{In, Asking}
 use Rattle.ring_core.specs.declared.path.Await.{Await}
 use Rattle.ring_core.specs.declared.path.Await.TheVariants.{Nothing, Out, Arrived, Failed}
@@ -32,10 +32,10 @@ use Rattle.ring_core.specs.Machine.{NodeIs, RingIs, addresses, no_path, fresh, p
 use Rattle.ring_core.specs.Machine.{path_of, asked, awaiting, posted, paths_after_take, took, aged}
 use Rattle.ring_core.specs.Machine.{aged_await, is_repeat, is_full, waits_for, fell, with_frame}
 use Rattle.ring_core.specs.Machine.{AcceptedIs, accepted_of, accepting, arrives, arrival, arrived}
-use Rattle.ring_core.specs.Machine.{heard_of, fate_at}
+use Rattle.ring_core.specs.Machine.{heard_of, hears, fate_at}
 use Rattle.ring_core.specs.Machine.{heard_by, failed, silence_word, sent_head, after, opening}
 use Rattle.ring_core.specs.Machine.{with_members, ring_after, is_here, is_held, with_status}
-use Rattle.ring_core.specs.Machine.{admitted, left_with}
+use Rattle.ring_core.specs.Machine.{admitted, gone_by}
 use Rattle.ring_core.specs.Refusals.{end_word}
 use Rattle.ring_core.specs.Legal.{IsMember, IsFrom, IsNextNumber, IsFirst, IsLawful, IsRingStep}
 use Rattle.ring_core.specs.Legal.{IsRun, IsLegalRing}
@@ -66,7 +66,7 @@ next-marks ps q v lt = each-put (λ p x. (get_or ps p no_path).posted ≤ x.post
 post-paths : (net : NetPlan) (h : List RingEntry) (n : ℕ) (c : NodeIs) (f : Frame)
     (kind : FrameKind) → f.kind ≡ kind → IsLawful net (Post n f)
     → IsFrom n kind f → IsNextNumber c kind f.id
-    → NodeRests net h n c → PartsRest net (h ++ Post n f ∷ []) n (asked c kind f.id f.to) c.accepted
+    → NodeRests net h n c → PartsRest net (h ++ Post n f ∷ []) n (asked c kind f) c.accepted
     (c.outbox ++ f ∷ []) c.inbox
 post-paths net h n c f Reply is law from next i =
     let j = quiet net h (Post n f) n c.paths c.accepted c.outbox c.inbox
@@ -75,7 +75,7 @@ post-paths net h n c f Reply is law from next i =
     (each-push _ c.outbox f j.sending (Contains-push h (Post n f), law)) j
 post-paths net h n c f Request is law from next i =
     let e = Post n f in
-    let v : Path = record { awaits = Out f.id.seq f.to 0; posted = f.id.seq } in
+    let v : Path = record { awaits = Out f.id.seq f.to (is_onward f) 0; posted = f.id.seq } in
     let range : f.id.path < length c.paths =
     let l = i.paths_all in let k = from.2.1 in omega (arith, l, k) in
     let here : Contains (h ++ e ∷ []) e = Contains-push h e in
@@ -219,12 +219,14 @@ fail-word : (there : Bool) → IsFailWord (silence_word there)
 fail-word true = inl refl
 fail-word false = inr (inl refl)
 
-word-is : (h : List RingEntry) (n p : ℕ) (r : RingIs) (here : Bool) (a : Await) → IsAskedFor h n p a
-    → IsFailWord (end_word r here a)
-word-is h n p r here Nothing k = fail-word false
-word-is h n p r here (Out seq to passes) k = fail-word (here && is_here (ring_node r to))
-word-is h n p r here (Arrived seq) k = fail-word false
-word-is h n p r here (Failed seq word) k = k
+word-is : (net : NetPlan) (h : List RingEntry) (n p : ℕ) (r : RingIs) (here : Bool) (a : Await)
+    → IsAskedFor h n p a
+    → IsFailWord (end_word net r here a)
+word-is net h n p r here Nothing k = fail-word false
+word-is net h n p r here (Out seq to onward passes) k =
+    fail-word (here && hears net r.nodes to onward)
+word-is net h n p r here (Arrived seq) k = fail-word false
+word-is net h n p r here (Failed seq word) k = k
 
 give_up-step : (net : NetPlan) (h : List RingEntry) (id : CallId) (word : ℕ)
     → IsRingStep net h (GiveUp id word) → (r : RingIs) → r ≡ ring_after net h
@@ -235,16 +237,17 @@ give_up-step net h id word s r is i =
     let c = ring_node r n in
     let all = quiet-all net h r e (λ x. refl) (λ k x. refl) i in
     let k = awaiting-rests net (h ++ e ∷ []) n c _ _ _ id.path Nothing tt (all n) in
-    let told : word ≡ end_word r (is_here c) (path_of c id.path).awaits = subst
+    let told : word ≡ end_word net r (is_here c) (path_of c id.path).awaits = subst
     (λ (x : RingIs). word
-    ≡ end_word x (is_here (ring_node x n)) (path_of (ring_node x n) id.path).awaits)
+    ≡ end_word net x (is_here (ring_node x n)) (path_of (ring_node x n) id.path).awaits)
     (sym is) s.1.1 in
     quiet-step net h r (after net r e) e (length-set _ _ _)
     (each-put (NodeRests net (h ++ e ∷ [])) r.nodes (fresh false) n _ all
     (out-rests net _ n _ _ c.outbox _ c.inbox
     (each-filter _ (λ f. not (asks_for id f)) c.outbox (all n).sending) k))
     (subst IsFailWord (sym told)
-    (word-is h n id.path r (is_here c) (path_of c id.path).awaits ((i.nodes n).awaits id.path))) i
+    (word-is net h n id.path r (is_here c) (path_of c id.path).awaits
+    ((i.nodes n).awaits id.path))) i
 
 -- Local
 local-step : (net : NetPlan) (h : List RingEntry) (n : ℕ) (id : CallId) (op : LocalOp)
@@ -274,7 +277,7 @@ length-aged (x ∷ xs) = ap suc (length-aged xs)
 aged-asked : (h : List RingEntry) (n p : ℕ) (a : Await) → IsAskedFor h n p a
     → IsAskedFor h n p (aged_await a)
 aged-asked h n p Nothing k = tt
-aged-asked h n p (Out seq to passes) k = k
+aged-asked h n p (Out seq to onward passes) k = k
 aged-asked h n p (Arrived seq) k = k
 aged-asked h n p (Failed seq word) k = k
 
@@ -304,7 +307,7 @@ pass-step net h n done words r i =
 
 -- Leave
 left-rests : (net : NetPlan) (h : List RingEntry) (n : ℕ) (cause : LeaveCause) (c : NodeIs)
-    → NodeRests net h n c → NodeRests net h n (left_with cause c)
+    → NodeRests net h n c → NodeRests net h n (gone_by cause c)
 left-rests net h n Ended c i = empty-rests net h n _ _ _ _ i
 left-rests net h n Spent c i = empty-rests net h n _ _ _ _ i
 left-rests net h n (Down number) c i =
@@ -374,7 +377,7 @@ awaited : (h : List RingEntry) (m p seq : ℕ) (a : Await) → waits_for a seq �
     → IsAskedFor h m p a → HasAsked h m
     (record { node = m; path = p; seq = seq })
 awaited h m p seq Nothing w k = absurd (let no' : false ≡ true = w in cc)
-awaited h m p seq (Out out to passes) w k =
+awaited h m p seq (Out out to onward passes) w k =
     subst (λ (x : ℕ). HasAsked h m (record { node = m; path = p; seq = x })) (eqb-true out seq w) k
 awaited h m p seq (Arrived out) w k = absurd (let no' : false ≡ true = w in cc)
 awaited h m p seq (Failed out word) w k = absurd (let no' : false ≡ true = w in cc)
@@ -433,18 +436,18 @@ fell-rests net h n c f Reply is all sent from i =
 
 arrived-rests : (net : NetPlan) (h : List RingEntry) (nodes : List NodeIs) (n : ℕ) (fate : Fate)
     (f : Frame) → AreLow net → Sending net h n f → ((k : ℕ) → NodeRests net h k (part_of nodes k))
-    → (k : ℕ) → NodeRests net h k (part_of (arrived nodes f (arrival nodes fate f)) k)
+    → (k : ℕ) → NodeRests net h k (part_of (arrived nodes f (arrival net nodes fate f)) k)
 arrived-rests net h nodes n fate f low' sent all =
-    cond_both (arrives nodes fate f.to) (Some (fell (part_of nodes f.to) f.kind f.id)) None
+    cond_both (arrives net nodes fate f) (Some (fell (part_of nodes f.to) f.kind f.id)) None
     (λ x. (k : ℕ) → NodeRests net h k (part_of (arrived nodes f x) k))
     (λ _. each-put (NodeRests net h) nodes (fresh false) f.to _ all
     (fell-rests net h n (part_of nodes f.to) f f.kind refl low' sent sent.1.1 (all f.to)))
     (λ _. all)
 
-length-arrived : (nodes : List NodeIs) (fate : Fate) (f : Frame)
-    → length (arrived nodes f (arrival nodes fate f)) ≡ length nodes
-length-arrived nodes fate f =
-    cond_both (arrives nodes fate f.to) (Some (fell (part_of nodes f.to) f.kind f.id)) None
+length-arrived : (net : NetPlan) (nodes : List NodeIs) (fate : Fate) (f : Frame)
+    → length (arrived nodes f (arrival net nodes fate f)) ≡ length nodes
+length-arrived net nodes fate f =
+    cond_both (arrives net nodes fate f) (Some (fell (part_of nodes f.to) f.kind f.id)) None
     (λ x. length (arrived nodes f x) ≡ length nodes) (λ _. length-set _ _ _) (λ _. refl)
 
 -- Send: the sender
@@ -476,17 +479,17 @@ sent-rests : (net : NetPlan) (h : List RingEntry) (r : RingIs) (n : ℕ) (box : 
 sent-rests net h r n [] low' box all = all
 sent-rests net h r n (f ∷ fs) low' box all =
     let fate = fate_at net.fates r.sent in
-    let nodes = arrived r.nodes f (arrival r.nodes fate f) in
+    let nodes = arrived r.nodes f (arrival net r.nodes fate f) in
     let here = arrived-rests net h r.nodes n fate f low' box.0 all in
     each-put (NodeRests net h) nodes (fresh false) n _ here
     (heard-rests net h n (part_of nodes n) f.kind f.id _
-    (heard_of fate (arrival r.nodes fate f)) (here n))
+    (heard_of fate (arrival net r.nodes fate f)) (here n))
 
 length-sent : (net : NetPlan) (r : RingIs) (n : ℕ) (box : List Frame)
     → length (sent_head net r n box).nodes ≡ length r.nodes
 length-sent net r n [] = refl
 length-sent net r n (f ∷ fs) =
-    length-set _ _ _ ∙ length-arrived r.nodes (fate_at net.fates r.sent) f
+    length-set _ _ _ ∙ length-arrived net r.nodes (fate_at net.fates r.sent) f
 
 send-step : (net : NetPlan) (h : List RingEntry) (n : ℕ) (heard : Heard) → AreLow net → (r : RingIs)
     → RingRests net h r → RingRests net

@@ -2,6 +2,8 @@
 #![tactic(auto)]
 
 #[cfg(test)]
+mod bridges;
+#[cfg(test)]
 mod coming_back;
 #[cfg(test)]
 mod fates;

@@ -1,12 +1,14 @@
 //! Scripts of calls on rings, and how they are played.
 //!
 //! A script has scenarios. Each begins with `#` and what it shows; its second line has the letters
-//! of the transmissions and the members of the ring, and each further line a call and its answer.
-//! A call says which node makes it, what it does, and up to three numbers:
+//! of the transmissions and the members of the ring, with a `b` before the end of a bridge, and each
+//! further line a call and its answer. A call says which node makes it, what it does, and up to three
+//! numbers:
 //!
 //! | Call | Means |
 //! |---|---|
 //! | `2 asks 5 1 3` | node 2 posts a Request to node 5 on path 1 with number 3 |
+//! | `2 asks_over 5 1 3` | the same for a Request that is to go on from node 5 |
 //! | `5 replies 2 1 3` | node 5 posts the Reply to that call |
 //! | `2 sends`, `5 takes` | a frame is transmitted, or taken out of the inbox |
 //! | `2 gives_up 1 3` | the call of path 1 with number 3 is given up |
@@ -20,10 +22,12 @@
 //! | `5 counts 2 1 3` | the node's statistics, for the call 2 1 3 |
 //! | `5 clears 2 1 3` | the same call clears them |
 //! | `5 sees` | who holds the token, and the successor of node 5 |
+//! | `5 waits` | for how many Passes in a row those whom node 5 waits for have been done |
+//! | `5 is_alone` | whether all others that are there, or ask to be, are ends of bridges |
 ghost use Rattle.ring_core.specs.Legal.{HasRoom};
 
 use mstr_block::{CallId, MstrResult};
-use plant_types::{Fate, List, NetPlan, Pdu, Words};
+use plant_types::{Fate, List, NetPlan, Pdu, Route, Words};
 use ring_core::{
     Frame, FrameKind, Heard, LeaveCause, LocalOp, NodeStatus, Ring, RingNo, is_from, is_net,
     is_path,
@@ -45,8 +49,9 @@ struct Call<'a> {
 enum Told {
     Done,
     Heard(Heard),
-    // The Request, or the Reply, of a call: its node, path and number.
+    // The Request, or the Reply, of a call: its node, path and number. A Request may be to go on.
     Request(u8, u8, u32),
+    Onward(u8, u8, u32),
     Reply(u8, u8, u32),
     Nothing,
     // The word of a call that is given up: 6101, 6103, 6105.
@@ -56,6 +61,8 @@ enum Told {
     OtherWord(u16),
     Sees { holder: u8, next: u8 },
     Stands(NodeStatus),
+    Waits(u64),
+    IsAlone(bool),
     No(RingNo),
 }
 
@@ -101,12 +108,27 @@ fn fates(alloc: Global, letters: &str) -> Result<Vec<Fate>, AllocError> {
     Ok(fates)
 }
 
+// The address of a member.
+fn address(word: &str) -> u8 {
+    byte(number(Some(word.strip_prefix("b").unwrap_or(word))))
+}
+
 fn members(alloc: Global, words: &str) -> Result<Vec<u8>, AllocError> {
     let mut members = Vec::new(alloc);
     for word in words.split_whitespace() {
-        members.push(byte(number(Some(word))))?;
+        members.push(address(word))?;
     }
     Ok(members)
+}
+
+fn bridges(alloc: Global, words: &str) -> Result<Vec<u8>, AllocError> {
+    let mut bridges = Vec::new(alloc);
+    for word in words.split_whitespace() {
+        if word.starts_with("b") {
+            bridges.push(address(word))?;
+        }
+    }
+    Ok(bridges)
 }
 
 // A net in which a call is given up after 2 own Passes, and that is left after 1 round or 3 Passes.
@@ -114,8 +136,11 @@ fn plan_of(alloc: Global, net: &str) -> Result<NetPlan, Fail> {
     let (letters, words) = net.split_once(" ").ok_or("members")?;
     let fates = fates(alloc, letters)?;
     let members = members(alloc, words)?;
+    let bridges = bridges(alloc, words)?;
     Ok(NetPlan {
+        number: 0,
         members: List::from_vec(members),
+        bridges: List::from_vec(bridges),
         fates: List::from_vec(fates),
         answer: 2,
         rotations: 1,
@@ -131,11 +156,35 @@ fn ring_of(rt: &impl Abort, alloc: Global, net: &str) -> Result<Ring, Fail> {
     Ok(Ring::new(alloc, &plan)?)
 }
 
-fn frame(alloc: Global, kind: FrameKind, to: u8, id: CallId) -> Result<Frame, AllocError> {
+fn frame(
+    alloc: Global,
+    kind: FrameKind,
+    to: u8,
+    rest: Route,
+    id: CallId,
+) -> Result<Frame, AllocError> {
     let Some(pdu) = Pdu::of(alloc, &[7])? else {
         return Err(AllocError);
     };
-    Ok(Frame { kind, to, id, pdu })
+    Ok(Frame {
+        kind,
+        to,
+        rest,
+        id,
+        pdu,
+    })
+}
+
+fn request(alloc: Global, to: u8, id: CallId) -> Result<Frame, AllocError> {
+    frame(alloc, FrameKind::Request, to, Route::of(&[]), id)
+}
+
+fn request_over(alloc: Global, to: u8, id: CallId) -> Result<Frame, AllocError> {
+    frame(alloc, FrameKind::Request, to, Route::of(&[64, 1]), id)
+}
+
+fn reply(alloc: Global, to: u8, id: CallId) -> Result<Frame, AllocError> {
+    frame(alloc, FrameKind::Reply, to, Route::of(&[]), id)
 }
 
 fn done(res: Result<(), RingNo>) -> Told {
@@ -165,7 +214,13 @@ fn send(rt: &impl Abort, ring: &mut Ring, node: u8) -> Told {
 fn taken(frame: &Frame) -> Told {
     let id = frame.id;
     match frame.kind {
-        FrameKind::Request => Told::Request(id.node, id.path, id.seq),
+        FrameKind::Request => {
+            if frame.rest.addresses().is_empty() {
+                Told::Request(id.node, id.path, id.seq)
+            } else {
+                Told::Onward(id.node, id.path, id.seq)
+            }
+        }
         FrameKind::Reply => Told::Reply(id.node, id.path, id.seq),
     }
 }
@@ -222,6 +277,12 @@ fn stands(rt: &impl Abort, ring: &Ring, node: u8) -> Told {
     let can = ring.is_member(node);
     assert!(rt; can);
     Told::Stands(ring.status(node))
+}
+
+fn waits(rt: &impl Abort, ring: &Ring, node: u8) -> Told {
+    let can = ring.is_member(node);
+    assert!(rt; can);
+    Told::Waits(ring.quiet(node))
 }
 
 // A local call; at most 32 words are put.
@@ -292,11 +353,15 @@ fn called(
     let told = match call.does {
         "asks" => {
             let id = id(node, byte(second), third);
-            post(rt, ring, node, frame(alloc, FrameKind::Request, to, id)?)
+            post(rt, ring, node, request(alloc, to, id)?)
+        }
+        "asks_over" => {
+            let id = id(node, byte(second), third);
+            post(rt, ring, node, request_over(alloc, to, id)?)
         }
         "replies" => {
             let id = id(to, byte(second), third);
-            post(rt, ring, node, frame(alloc, FrameKind::Reply, to, id)?)
+            post(rt, ring, node, reply(alloc, to, id)?)
         }
         "sends" => send(rt, ring, node),
         "takes" => take(rt, ring, node),
@@ -308,6 +373,8 @@ fn called(
         "is_down" => leave(rt, ring, node, LeaveCause::Down(first)),
         "joins" => join(rt, ring, node),
         "stands" => stands(rt, ring, node),
+        "waits" => waits(rt, ring, node),
+        "is_alone" => Told::IsAlone(ring.only_bridges(node)),
         _ => seen(ring, node),
     };
     Ok(told)

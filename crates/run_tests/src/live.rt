@@ -21,7 +21,9 @@ fn lonely_ring(alloc: Global) -> Result<Ring, AllocError>
     ensures { IfOk result (λ ring. ring.net.members ≡ 7 ∷ []) }
 {
     let net = NetPlan {
+        number: 0,
         members: List::from_vec(Vec::from_slice(alloc, &[7])?),
+        bridges: List::new(alloc),
         fates: List::from_vec(Vec::from_slice(alloc, &[Fate::D])?),
         answer: 20,
         rotations: 2,

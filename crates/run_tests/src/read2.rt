@@ -144,6 +144,7 @@ fn checked(plan: ControllerPlan) -> Option<ControllerPlan>
     ensures runs { IfSome result IsRunnablePlan }
     ensures passes { IfSome result PassesTests }
     ensures node { IfSome result (λ checked. checked.node ≡ plan.node) }
+    ensures network { IfSome result (λ checked. checked.network ≡ plan.network) }
 {
     checks_are_exact();
     match plan.check() {
@@ -162,9 +163,11 @@ fn controller(
     ensures runs { IfOk result (λ plan. IfSome plan IsRunnablePlan) }
     ensures passes { IfOk result (λ plan. IfSome plan PassesTests) }
     ensures node { IfOk result (λ plan. IfSome plan (λ plan. plan.node ≡ node)) }
+    ensures network { IfOk result (λ plan. IfSome plan (λ plan. plan.network ≡ 0)) }
 {
     Ok(checked(ControllerPlan {
         node,
+        network: 0,
         coils: 16,
         inputs: 0,
         input_registers: 0,
@@ -181,9 +184,11 @@ fn one_plan(alloc: Global, plan: Option<ControllerPlan>) -> Result<List<Controll
     requires runs { IfSome plan IsRunnablePlan }
     requires passes { IfSome plan PassesTests }
     requires node { IfSome plan (λ plan. plan.node ≡ 2) }
+    requires network { IfSome plan (λ plan. plan.network ≡ 0) }
     ensures runs { IfOk result (All IsRunnablePlan) }
     ensures passes { IfOk result (All PassesTests) }
     ensures nodes { IfOk result (λ plans. map (λ plan. plan.node) plans ≡ 2 ∷ []) }
+    ensures there { IfOk result (All (λ plan. plan.network ≡ 0)) }
 {
     let mut plans = List::new(alloc);
     match plan {
@@ -200,12 +205,15 @@ fn two_plans(
     requires all_run { All IsRunnablePlan plans }
     requires all_pass { All PassesTests plans }
     requires nodes { map (λ plan. plan.node) plans ≡ 2 ∷ [] }
+    requires all_there { All (λ plan. plan.network ≡ 0) plans }
     requires runs { IfSome plan IsRunnablePlan }
     requires passes { IfSome plan PassesTests }
     requires node { IfSome plan (λ plan. plan.node ≡ 5) }
+    requires network { IfSome plan (λ plan. plan.network ≡ 0) }
     ensures runs { IfOk result (All IsRunnablePlan) }
     ensures passes { IfOk result (All PassesTests) }
     ensures nodes { IfOk result (λ plans. map (λ plan. plan.node) plans ≡ 2 ∷ 5 ∷ []) }
+    ensures there { IfOk result (All (λ plan. plan.network ≡ 0)) }
 {
     match plan {
         Some(plan) => plans.push(plan)?,
@@ -218,6 +226,7 @@ fn controllers(alloc: Global, change: Change) -> Result<List<ControllerPlan>, Al
     ensures runs { IfOk result (All IsRunnablePlan) }
     ensures passes { IfOk result (All PassesTests) }
     ensures nodes { IfOk result (λ plans. map (λ plan. plan.node) plans ≡ 2 ∷ 5 ∷ []) }
+    ensures there { IfOk result (All (λ plan. plan.network ≡ 0)) }
 {
     let two = controller(alloc, 2, 20, asking(alloc, change.to)?, &[])?;
     let plans = one_plan(alloc, two)?;
@@ -228,9 +237,13 @@ fn controllers(alloc: Global, change: Change) -> Result<List<ControllerPlan>, Al
 fn net(alloc: Global, change: Change) -> Result<NetPlan, AllocError>
     ensures sound { IfOk result IsNetPlan }
     ensures members { IfOk result (λ net. net.members ≡ 2 ∷ 5 ∷ []) }
+    ensures alone { IfOk result (λ net. net.number ≡ 0) }
+    ensures no_bridge { IfOk result (λ net. net.bridges ≡ []) }
 {
     let net = NetPlan {
+        number: 0,
         members: List::from_vec(Vec::from_slice(alloc, &[2, 5])?),
+        bridges: List::new(alloc),
         fates: List::from_vec(Vec::from_slice(alloc, change.fates)?),
         answer: 20,
         rotations: change.rotations,
@@ -246,9 +259,12 @@ fn net(alloc: Global, change: Change) -> Result<NetPlan, AllocError>
 fn plant_of(alloc: Global, net: NetPlan, controllers: List<ControllerPlan>) -> Plant
     requires net { IsNetPlan net }
     requires members { net.members ≡ 2 ∷ 5 ∷ [] }
+    requires alone { net.number ≡ 0 }
+    requires no_bridge { net.bridges ≡ [] }
     requires runs { All IsRunnablePlan controllers }
     requires passes { All PassesTests controllers }
     requires nodes { map (λ plan. plan.node) controllers ≡ 2 ∷ 5 ∷ [] }
+    requires there { All (λ plan. plan.network ≡ 0) controllers }
     ensures { CanRunPlant result }
 {
     Plant {

@@ -62,6 +62,7 @@ fn plan_of(
 {
     Ok(ControllerPlan {
         node: 1,
+        network: 0,
         coils: 0,
         inputs: 0,
         input_registers: 0,

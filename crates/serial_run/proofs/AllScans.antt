@@ -15,20 +15,21 @@ use Rattle.ring_core.specs.Legal.{IsLegalRing}
 use Rattle.controller_core.specs.declared.fixed.Fixed.{Fixed}
 use Rattle.controller_core.specs.Controller.{has_ended, left_of}
 use Rattle.joint_history.specs.JointLaws.{fixed_of}
+use Rattle.joint_history.specs.Reading.{controller_at}
+use Rattle.whole_scan.specs.Scans.{IsBetweenScans, LessensScan, MadeEvents, with_scan}
 use Rattle.serial_run.specs.declared.stations.ControllerStation.{ControllerStation}
 use Rattle.serial_run.specs.declared.stations.Stations.{Stations}
-use Rattle.serial_run.specs.Serial.{log_with_scan, scanned, with_scan}
-use Rattle.serial_run.specs.Stations.{Did, MadeEvents, StandAll, StandsController, StandsHost}
+use Rattle.serial_run.specs.Serial.{log_with_scan, scanned}
+use Rattle.serial_run.specs.Stations.{Did, StandAll, StandsController, StandsHost}
 use Rattle.serial_run.specs.Stations.{host_log_of, log_of}
-use Rattle.serial_run.specs.Scans.{have_ended, steps_left, AreBetweenScans, IsBetweenScans}
-use Rattle.serial_run.specs.Scans.{LessensScan}
+use Rattle.serial_run.specs.Scans.{have_ended, steps_left, AreBetweenScans}
 use Rattle.serial_run.proofs.Lists.{zip-both}
 use Rattle.serial_run.proofs.Standings.{stands-scans}
 
 -- a station whose controller made a scan
 pub record Scanned (s t : ControllerStation) : Type 0 where
   pub same : t ≡ record s { controller = t.controller }
-  pub made : MadeEvents (with_scan s.controller.fixed s.controller.history) s.controller
+  pub made : MadeEvents (with_scan s.controller) s.controller
       t.controller
   pub between : IsBetweenScans t.controller
   pub less : LessensScan s.controller t.controller
@@ -137,7 +138,7 @@ module _ (old new : Stations) (hosts : new.hosts.items ≡ old.hosts.items)
   scanned-stands plant scans plan s t st it =
       subst (StandsController plant scans old.ring.history plan) (sym it.same)
       (stands-scans plant scans old.ring.history plan s t.controller
-      (with_scan s.controller.fixed s.controller.history) it.made st)
+      (with_scan s.controller) it.made st)
 
   all-stand : (plant : Plant) (scans : ℕ) → StandAll plant scans old → StandAll plant scans new
   all-stand plant scans all =
@@ -168,8 +169,10 @@ module _ (old new : Stations) (hosts : new.hosts.items ≡ old.hosts.items)
   logs-by plant scans ring (p ∷ plans) (x ∷ xs) [] a b = absurd b
   logs-by plant scans ring (p ∷ plans) (x ∷ xs) (y ∷ ys) a b =
       let node : y.node ≡ x.node = ap (λ (s : ControllerStation). s.node) b.0.same in
-      let history : y.controller.history ≡ with_scan (fixed_of plant scans p) x.controller.history =
-      b.0.made.history_is ∙ ap (λ (f : Fixed). with_scan f x.controller.history) a.0.fixed in
+      let history : y.controller.history
+      ≡ with_scan (controller_at (fixed_of plant scans p) x.controller.history) =
+      b.0.made.history_is
+      ∙ ap (λ (f : Fixed). with_scan (controller_at f x.controller.history)) a.0.fixed in
       λ i. record { node = node i; entries = history i } ∷ logs-by plant scans ring plans xs ys a.1
       b.1 i
 

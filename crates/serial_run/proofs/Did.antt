@@ -27,6 +27,7 @@ use Rattle.comm_port.specs.WholeTurn.{HoldsTurn}
 use Rattle.comm_port.specs.HostStands.{own_side}
 use Rattle.tied_lists.specs.Own.{is_of}
 use Rattle.tied_lists.specs.Waits.{Holds, has_left, status_at}
+use Rattle.whole_scan.specs.Scans.{MadeEvents}
 use Rattle.serial_run.specs.declared.order.Turn.TheVariants as turns
 use Rattle.serial_run.specs.declared.order.Turn.TheVariants.{Step, Hold, Visit}
 use Rattle.serial_run.specs.declared.stations.ControllerStation.{ControllerStation}
@@ -36,7 +37,7 @@ use Rattle.serial_run.specs.Turns.{coming_back, may_visit, node_has_left, place_
 use Rattle.serial_run.specs.Turns.{place_of_host, stepped_list, visit_is_due, with_list}
 use Rattle.serial_run.specs.Turns.{MakesAwayTurn, MakesTurn, MakesHold, MakesStep, MakesVisit}
 use Rattle.serial_run.specs.Turns.{VisitsWhere}
-use Rattle.serial_run.specs.Stations.{StandsController, StandAll, Did, MadeEvents, log_of}
+use Rattle.serial_run.specs.Stations.{StandsController, StandAll, Did, log_of}
 use Rattle.serial_run.specs.Stations.{host_log_of}
 use Rattle.serial_run.specs.Stations.{joint_of, plain_ram_side}
 use Rattle.serial_run.specs.Held.{StaysStation, CameBack, HeldController, StandsBeside, HasToken}
@@ -91,7 +92,8 @@ token-by law net history n low legal from holder = ⊎_elim
     absurd (let z = none.0 in omega (arith, z, holder, from)))
     (law net history low legal)
 
-pub has-token : SomebodyHolds → (plant : Plant) (scans : ℕ) (run : Stations) (at : ℕ) (s : ControllerStation)
+pub has-token : SomebodyHolds → (plant : Plant) (scans : ℕ) (run : Stations) (at : ℕ)
+    (s : ControllerStation)
     → StandAll plant scans run
     → slice_get run.controllers.items at ≡ Some s → (s.node == (ring_of run.ring).holder) ≡ true
     → HasToken s.worker.node run.ring
@@ -104,10 +106,12 @@ has-token law plant scans run at s all is holds =
     token-by law run.ring.net run.ring.history s.worker.node
     (subst (λ (net : NetPlan). All (λ m. m < addresses) net.members) (sym all.net)
     (low-members plant all.sound))
-    (subst (λ (net : NetPlan). IsLegalRing net run.ring.history) (sym all.net) all.legal) (omega (arith, low, worker))
+    (subst (λ (net : NetPlan). IsLegalRing net run.ring.history) (sym all.net) all.legal)
+    (omega (arith, low, worker))
     (sym (eqb-true s.node (ring_of run.ring).holder holds) ∙ (p.stands.node ∙ sym worker))
 
-pub host-has-token : SomebodyHolds → (plant : Plant) (scans : ℕ) (run : Stations) (at : ℕ) (s : HostStation)
+pub host-has-token : SomebodyHolds → (plant : Plant) (scans : ℕ) (run : Stations) (at : ℕ)
+    (s : HostStation)
     → StandAll plant scans run
     → slice_get run.hosts.items at ≡ Some s → (s.node == (ring_of run.ring).holder) ≡ true
     → HasToken s.worker.node run.ring
@@ -120,7 +124,8 @@ host-has-token law plant scans run at s all is holds =
     token-by law run.ring.net run.ring.history s.worker.node
     (subst (λ (net : NetPlan). All (λ m. m < addresses) net.members) (sym all.net)
     (low-members plant all.sound))
-    (subst (λ (net : NetPlan). IsLegalRing net run.ring.history) (sym all.net) all.legal) (omega (arith, low, worker))
+    (subst (λ (net : NetPlan). IsLegalRing net run.ring.history) (sym all.net) all.legal)
+    (omega (arith, low, worker))
     (sym (eqb-true s.node (ring_of run.ring).holder holds) ∙ (p.stands.node ∙ sym worker))
 
 -- ---- the due step

@@ -109,7 +109,7 @@ not-both plant sound i j p q at-i at-j same =
     in
     let all = count-more (λ n. m == n) (controller_nodes plant) (host_nodes plant) in
     let members = once-rising m plant.net.members
-    (AllPairs-from_increasing plant.net.members sound.net.rising) in
+    (AllPairs-from_increasing plant.net.members sound.net.members.rise) in
     let moved = sum_by-IsPermutation (λ n. cond (m == n) 1 0)
     (controller_nodes plant ++ host_nodes plant) plant.net.members sound.members in
     omega arith
@@ -139,11 +139,12 @@ host-member plant sound k p is =
     (contains-at (host_nodes plant) k p.node (node-at (λ plan. plan.node) plant.hosts k p is)))
 
 pub member-node : (plant : Plant) → IsPlant plant → (n : ℕ) → IsMember plant.net n → IsNode n
-member-node plant sound n member = All-contains IsNode plant.net.members n sound.net.members member
+member-node plant sound n member =
+    All-contains IsNode plant.net.members n sound.net.members.each member
 
 pub low-members : (plant : Plant) → IsPlant plant → All (λ m. m < addresses) plant.net.members
-low-members plant sound k d within = let node = sound.net.members k d within in let to = node.to in
-    omega arith
+low-members plant sound k d within =
+    let to = (sound.net.members.each k d within).to in omega (arith, to)
 
 -- a member is the node of a controller or of a host
 pub record IsStation (plant : Plant) (n : ℕ) : Type 0 where

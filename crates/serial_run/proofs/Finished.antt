@@ -21,9 +21,10 @@ use Rattle.turn_laws.specs.KeepsOn.{HasFinished, HostHasFinished, HostKeepsOn, H
 use Rattle.turn_laws.specs.KeepsOn.{KeepsOn, is_out_of_ring}
 use Rattle.turn_laws.specs.KeepsOn.{StandsTied}
 use Rattle.turn_laws.proofs.Stands.{host-stands-of, stands-of}
+use Rattle.whole_scan.specs.Scans.{KeepsStepsLeft}
 use Rattle.serial_run.specs.declared.stations.ControllerStation.{ControllerStation}
 use Rattle.serial_run.specs.declared.stations.Stations.{Stations}
-use Rattle.serial_run.specs.Scans.{have_ended, KeepScans, KeepsStepsLeft}
+use Rattle.serial_run.specs.Scans.{have_ended, KeepScans}
 use Rattle.serial_run.specs.Stations.{StandAll, StandsController, StandsHost, host_log_of, log_of}
 use Rattle.serial_run.specs.Stations.{plain_ram_side}
 use Rattle.serial_run.specs.Held.{AllHave, IsOffAway, IsVisited, stations_here, status_in}
@@ -103,7 +104,7 @@ module _ (plant : Plant) (scans : ℕ) (run : Stations) (all : StandAll plant sc
       → StandsController plant scans ring plan s
       → HasFinished plant scans ring plan (log_of s)
   finished-at k plan s at-plan left ended collected out' st =
-      let answer = all.sound.net.answer.from in
+      let answer = all.sound.net.numbers.answer.from in
       let node : s.worker.node ≡ s.node = st.worker_node ∙ sym st.node in
       let member : IsMemberWorker plant.net s.worker.node = subst (IsMemberWorker plant.net)
       (sym st.worker_node) (record {
@@ -143,7 +144,8 @@ module _ (plant : Plant) (scans : ℕ) (run : Stations) (all : StandAll plant sc
       let out' = out-at plan s st left
       (all-at (IsOffAway run.ring) run.controllers.items k s off at-s) in
       finished-at k plan s at-plan left over
-      (none-started s over out' (all-at (IsVisited run.ring) run.controllers.items k s visited at-s))
+      (none-started s over out'
+      (all-at (IsVisited run.ring) run.controllers.items k s visited at-s))
       out' st))
 
   pub all-hosts-finished : AllZip (HostHasFinished plant ring) plant.hosts

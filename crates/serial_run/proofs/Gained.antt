@@ -19,7 +19,8 @@ module _ (Has : RingLog → ControllerStation → Type 0) where
   abbrev StaysOne : RingLog → RingLog → ControllerStation → ControllerStation → Type 0
   StaysOne ring new_ring a b = Has ring a → Has new_ring b
 
-  pub stays-same : (ring : RingLog) (xs : List ControllerStation) → AllZip (StaysOne ring ring) xs xs
+  pub stays-same : (ring : RingLog) (xs : List ControllerStation)
+      → AllZip (StaysOne ring ring) xs xs
   stays-same ring [] = tt
   stays-same ring (x ∷ xs) = ((λ h. h), stays-same ring xs)
 
@@ -82,7 +83,8 @@ module _ (Has : RingLog → ControllerStation → Type 0) where
   OtherStays node ring new_ring x = (x.node ≢ node) × (Has ring x → Has new_ring x)
 
   gains-rest : (node : ℕ) (ring new_ring : RingLog) (xs : List ControllerStation)
-      → ((k : ℕ) (x : ControllerStation) → slice_get xs k ≡ Some x → OtherStays node ring new_ring x)
+      → ((k : ℕ) (x : ControllerStation) → slice_get xs k ≡ Some x
+      → OtherStays node ring new_ring x)
       → AllZip (Gains Has node ring new_ring) xs xs
   gains-rest node ring new_ring [] other = tt
   gains-rest node ring new_ring (x ∷ xs) other = (

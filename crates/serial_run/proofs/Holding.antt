@@ -10,12 +10,13 @@ use Rattle.tied_lists.specs.Own.{is_of}
 use Rattle.tied_lists.specs.Waits.{has_left}
 use Rattle.joint_history.specs.Reading.{is_ours}
 use Rattle.comm_port.specs.WholeTurn.{HoldsTurn}
+use Rattle.whole_scan.specs.Scans.{KeepsStepsLeft}
 use Rattle.serial_run.specs.declared.stations.ControllerStation.{ControllerStation}
 use Rattle.serial_run.specs.declared.stations.HostStation.{HostStation}
 use Rattle.serial_run.specs.declared.stations.Stations.{Stations}
 use Rattle.serial_run.specs.Turns.{node_has_left}
 use Rattle.comm_port.specs.HostTurns.{HoldsHostTurn}
-use Rattle.serial_run.specs.Scans.{KeepScans, KeepsStepsLeft}
+use Rattle.serial_run.specs.Scans.{KeepScans}
 use Rattle.serial_run.specs.Stations.{StandAll}
 use Rattle.serial_run.specs.Held.{HasToken, HeldController, HeldHost, KnowsLeft, Lessens}
 use Rattle.serial_run.specs.Held.{VisitedController, VisitedWhere, failures_of, is_visit_due}

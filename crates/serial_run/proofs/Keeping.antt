@@ -19,16 +19,18 @@ use Rattle.comm_port.specs.Worker.{IsMemberWorker, IsSameWorker, Standing, Worke
 use Rattle.comm_port.specs.HostTurns.{HostWorkerIs, after_turn}
 use Rattle.comm_port.specs.Leaving.{IsHere}
 use Rattle.comm_port.specs.HostStands.{own_side}
+use Rattle.comm_port.specs.Turns.{IsNoBridge}
+use Rattle.comm_port.proofs.Onward.{none-bridges}
 use Rattle.tied_lists.specs.Own.{is_of}
 use Rattle.tied_lists.specs.Waits.{HasLeft, has_left, status_at}
 use Rattle.turn_laws.specs.KeepsOn.{HostKeepsOn, KeepsOn, StandsTied, is_out_of_ring}
 use Rattle.turn_laws.specs.KeepsOn.{leaves_out}
 use Rattle.turn_laws.specs.Laws.{StandsAs}
 use Rattle.turn_laws.proofs.Stands.{stands-of}
+use Rattle.whole_scan.specs.Scans.{KeepsStepsLeft}
 use Rattle.serial_run.specs.declared.stations.ControllerStation.{ControllerStation}
 use Rattle.serial_run.specs.declared.stations.HostStation.{HostStation}
 use Rattle.serial_run.specs.declared.stations.Stations.{Stations}
-use Rattle.serial_run.specs.Scans.{KeepsStepsLeft}
 use Rattle.serial_run.specs.Turns.{node_has_left}
 use Rattle.serial_run.specs.Stations.{StandAll, plain_ram_side}
 use Rattle.serial_run.specs.Held.{HasToken, HostKeepsBeside, IsOffAway, KeepsBeside, is_away_status}
@@ -60,13 +62,19 @@ stands-behind w u v x ring new_ring member legal worker fixed net s =
     (stands-of u (plain_ram_side x) x.history (own_side new_ring.net) new_ring.history there legal
     s)))
 
+-- no station of a plant is the end of a bridge
+pub no-bridge-beside : (plant : Plant) (scans : ℕ) (run : Stations) (n : ℕ)
+    → StandAll plant scans run → IsNoBridge run.ring.net n
+no-bridge-beside plant scans run n all = subst (λ (net : NetPlan). IsNoBridge net n) (sym all.net)
+    (none-bridges plant.net n all.sound.no_bridge)
+
 -- what a station keeps, beside the ring alone
 pub keeps-beside : (plant : Plant) (scans : ℕ) (run : Stations) (at : ℕ) (s : ControllerStation)
     → StandAll plant scans run
     → slice_get run.controllers.items at ≡ Some s → KeepsBeside s run.ring
 keeps-beside plant scans run at s all is =
     let p = at-place plant scans run at s all is in
-    let answer = all.sound.net.answer.from in
+    let answer = all.sound.net.numbers.answer.from in
     record {
       member = subst (λ (net : NetPlan). IsMemberWorker net s.worker.node) (sym all.net)
           (subst (IsMemberWorker plant.net) (sym p.stands.worker_node) (record {

@@ -2,7 +2,6 @@ pub mod Lists
 pub mod Rings
 pub mod Distinct
 pub mod Grown
-pub mod ScanSteps
 pub mod Standings
 pub mod HeldTurns
 pub mod TurnsMade
@@ -13,7 +12,6 @@ pub mod Starting
 pub mod Laws
 pub mod Rounds
 pub mod AllScans
-pub mod Collecting
 pub mod Keeping
 pub mod Off
 pub mod Gained

@@ -1,5 +1,6 @@
 -- What hold turns and visits leave of scans and of hold turns.
-use Rattle.std.proofs.Common.{◌≡◌, ◌≢◌, ◌⊎◌, ℕ, zero, suc, ◌+◌, ◌-◌, ◌*◌, ◌<◌, ◌≤◌, ◌==◌, Bool, true}
+use Rattle.std.proofs.Common.{◌≡◌, ◌≢◌, ◌⊎◌, ℕ, zero, suc, ◌+◌}
+use Rattle.std.proofs.Common.{◌-◌, ◌*◌, ◌<◌, ◌≤◌, ◌==◌, Bool, true}
 use Rattle.std.proofs.Common.{false}
 use Rattle.std.proofs.Common.{cond, not, List, [], ◌∷◌, filter, set, length, Some, None}
 use Rattle.std.proofs.Common.{refl, sym, ap, subst, ◌∙◌, arith, ⊎_elim, inl, inr, count_by}
@@ -21,13 +22,14 @@ use Rattle.joint_history.specs.Reading.{is_ours}
 use Rattle.tied_lists.specs.Own.{is_of}
 use Rattle.tied_lists.specs.Waits.{status_at}
 use Rattle.ring_core.specs.declared.status.NodeStatus.TheVariants.{In}
+use Rattle.whole_scan.specs.Scans.{KeepsStepsLeft}
 use Rattle.serial_run.specs.Turns.{node_has_left}
 use Rattle.tied_lists.proofs.Boxes.{count-cons, none-if}
 use Rattle.joint_history.specs.Complete.{is_pass}
 use Rattle.serial_run.specs.declared.stations.ControllerStation.{ControllerStation}
 use Rattle.serial_run.specs.declared.stations.HostStation.{HostStation}
 use Rattle.serial_run.specs.declared.stations.Stations.{Stations}
-use Rattle.serial_run.specs.Scans.{KeepsStepsLeft, KeepScans}
+use Rattle.serial_run.specs.Scans.{KeepScans}
 use Rattle.serial_run.specs.Stations.{StandAll, StandsController, StandsHost}
 use Rattle.serial_run.specs.Held.{failures_of, stations_here, turns_left, turns_of, unnoticed_of}
 use Rattle.serial_run.specs.Held.{Lessens}
@@ -37,7 +39,7 @@ use Rattle.serial_run.proofs.Grown.{Further, others-own}
 use Rattle.turn_laws.specs.Laws.{SomebodyHolds}
 use Rattle.turn_laws.proofs.Holders.{there-member}
 use Rattle.serial_run.proofs.Lists.{zip-at, zip-at-first, position-none}
-use Rattle.serial_run.proofs.ScanSteps.{quiet-scan}
+use Rattle.whole_scan.proofs.ScanSteps.{quiet-scan}
 
 -- ---- scans
 
@@ -375,7 +377,8 @@ module _ (law : SomebodyHolds) (plant : Plant) (scans : ℕ) (run : Stations)
       (sym (nobody.1 somebody.0) ∙ somebody.1))
       (law plant.net run.ring.history (low-members plant all.sound) all.legal)
 
-pub lessens-none : (law : SomebodyHolds) (plant : Plant) (scans : ℕ) (run : Stations) → StandAll plant scans run
+pub lessens-none : (law : SomebodyHolds) (plant : Plant) (scans : ℕ) (run : Stations)
+    → StandAll plant scans run
     → position (λ (s : ControllerStation). s.node == (ring_of run.ring).holder)
     run.controllers.items ≡ None
     → position (λ (s : HostStation). s.node == (ring_of run.ring).holder) run.hosts.items ≡ None

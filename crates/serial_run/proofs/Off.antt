@@ -1,5 +1,5 @@
 -- Stations that are away without power, turn by turn.
-use Rattle.std.proofs.Common.{◌≡◌, ◌≢◌, ℕ, zero, suc, ◌+◌, ◌==◌, Bool, true, false, cond, List, []}
+use Rattle.std.proofs.Common.{◌≡◌, ◌≢◌, ℕ, zero, suc, ◌==◌, Bool, true, false, cond, List, []}
 use Rattle.std.proofs.Common.{◌∷◌, ◌++◌, Some, set, not, refl, sym, ap, subst, ◌∙◌, arith, ⊎_elim}
 use Rattle.std.proofs.Common.{All, count_by}
 use Rattle.std.proofs.lemmas.List.Elements.{All-cons, All-nil}
@@ -17,10 +17,11 @@ use Rattle.tied_lists.proofs.Boxes.{count-cons}
 use Rattle.tied_lists.proofs.Turns.{membership-kept}
 use Rattle.ring_core.specs.Kept.{RingLog}
 use Rattle.ring_core.specs.declared.status.NodeStatus.{NodeStatus}
+use Rattle.whole_scan.specs.Scans.{KeepsStepsLeft}
 use Rattle.serial_run.specs.declared.stations.ControllerStation.{ControllerStation}
 use Rattle.serial_run.specs.declared.stations.HostStation.{HostStation}
 use Rattle.serial_run.specs.declared.stations.Stations.{Stations}
-use Rattle.serial_run.specs.Scans.{KeepScans, KeepsStepsLeft}
+use Rattle.serial_run.specs.Scans.{KeepScans}
 use Rattle.serial_run.specs.Stations.{StandAll, StandsController}
 use Rattle.serial_run.specs.Turns.{may_visit}
 use Rattle.serial_run.specs.Held.{AllHave}
@@ -55,7 +56,8 @@ hold-off plant scans old new at s t all is items held =
     (λ was away. own-away held.end (status_at old.ring.net new.ring.history n) (is_off t.controller)
     held.ends_where.stands (λ e. ap (λ (f : Fixed). is_off_at f t.controller.history)
     held.stays.fixed ∙ held.ends_where.off e)
-    ((λ i. is_away_status (status_at (sym held.stays.net i) new.ring.history (sym there i))) ∙ away))
+    ((λ i. is_away_status (status_at (sym held.stays.net i) new.ring.history (sym there i)))
+    ∙ away))
     (λ x other. other-away old.ring new.ring n x held.stays.net (λ e. other (e ∙ same)) further)
 
 pub host-hold-off : (plant : Plant) (scans : ℕ) (old new : Stations) (at : ℕ) (s t : HostStation)
@@ -188,7 +190,8 @@ module _ (plant : Plant) (scans : ℕ) (old new : Stations) (at : ℕ) (s t : Co
 pub nobody-away : (plant : Plant) (scans : ℕ) (run : Stations) → StandAll plant scans run
     → All (λ (s : ControllerStation). s.left ≡ false) run.controllers.items
     → AllHave IsOffAway run
-nobody-away plant scans run all here = by plant.controllers run.controllers.items all.controllers here
+nobody-away plant scans run all here =
+    by plant.controllers run.controllers.items all.controllers here
   where
     by : (plans : List ControllerPlan) (xs : List ControllerStation)
         → AllZip (StandsController plant scans run.ring.history) plans xs

@@ -10,10 +10,10 @@ use Rattle.plant_types.specs.declared.net.NetPlan.{NetPlan}
 use Rattle.ring_core.specs.declared.entry.RingEntry.{RingEntry}
 use Rattle.ring_core.specs.declared.entry.RingEntry.TheVariants.{Post, Send, Take, Local, GiveUp}
 use Rattle.ring_core.specs.declared.entry.RingEntry.TheVariants.{Pass, Leave, Join}
-use Rattle.ring_core.specs.Words.{maker}
+use Rattle.ring_core.specs.Words.{maker, is_onward}
 use Rattle.ring_core.specs.Machine.{NodeIs, RingIs, addresses, fresh, part_of, ring_node}
-use Rattle.ring_core.specs.Machine.{after_pass, admitted, left_with}
-use Rattle.ring_core.specs.Machine.{after, ring_after, is_held, is_here, sent_head}
+use Rattle.ring_core.specs.Machine.{after_pass, admitted, gone_by}
+use Rattle.ring_core.specs.Machine.{after, ring_after, is_held, hears, sent_head}
 use Rattle.ring_core.specs.Machine.{arrival, arrived, fate_at, heard_by, heard_of, sent_off, failed}
 use Rattle.ring_core.specs.Machine.{fell, is_full, is_repeat, path_of, silence_word, waits_for}
 use Rattle.ring_core.specs.Machine.{with_frame, with_members}
@@ -83,10 +83,10 @@ passes-fell c f Request =
 passes-fell c f Reply = cond_both (waits_for (path_of c f.id.path).awaits f.id.seq) _ _
     (λ x. (with_frame c x f).passes ≡ c.passes) (λ _. refl) (λ _. refl)
 
-passes-arrived : (nodes : List NodeIs) (f : Frame) (fate : Fate) (k : ℕ)
-    → (part_of (arrived nodes f (arrival nodes fate f)) k).passes ≡ (part_of nodes k).passes
-passes-arrived nodes f fate k =
-    arrived-part nodes f fate (λ (k : ℕ) (c : NodeIs). c.passes ≡ (part_of nodes k).passes)
+passes-arrived : (net : NetPlan) (nodes : List NodeIs) (f : Frame) (fate : Fate) (k : ℕ)
+    → (part_of (arrived nodes f (arrival net nodes fate f)) k).passes ≡ (part_of nodes k).passes
+passes-arrived net nodes f fate k =
+    arrived-part net nodes f fate (λ (k : ℕ) (c : NodeIs). c.passes ≡ (part_of nodes k).passes)
     (λ k. refl) (λ here. passes-fell (part_of nodes f.to) f f.kind) k
 
 passes-heard : (c : NodeIs) (kind : FrameKind) (id : CallId) (there : Bool) (h : Heard)
@@ -101,13 +101,15 @@ passes-sent : (net : NetPlan) (r : RingIs) (m : ℕ) (box : List Frame) (k : ℕ
     → passes (sent_head net r m box) k ≡ passes r k
 passes-sent net r m [] k = refl
 passes-sent net r m (f ∷ fs) k =
-    let fall = arrival r.nodes (fate_at net.fates r.sent) f in
+    let fate = fate_at net.fates r.sent in
+    let fall = arrival net r.nodes fate f in
     let nodes = arrived r.nodes f fall in
-    passes-set nodes m k _ (passes-heard (part_of nodes m) f.kind f.id (is_here (ring_node r f.to))
-    (heard_of (fate_at net.fates r.sent) fall))
-    ∙ passes-arrived r.nodes f (fate_at net.fates r.sent) k
+    let there = hears net r.nodes f.to (is_onward f) in
+    passes-set nodes m k _
+    (passes-heard (part_of nodes m) f.kind f.id there (heard_of fate fall))
+    ∙ passes-arrived net r.nodes f fate k
 
-passes-left : (cause : LeaveCause) (c : NodeIs) → (left_with cause c).passes ≡ c.passes
+passes-left : (cause : LeaveCause) (c : NodeIs) → (gone_by cause c).passes ≡ c.passes
 passes-left Ended c = refl
 passes-left Spent c = refl
 passes-left (Down number) c = refl
@@ -168,7 +170,7 @@ passes-after net past r n (Pass m done words) size low step =
     passes-admitted (set r.nodes m (after_pass (ring_node r m) done)) n
     ∙ passes-with r.nodes r.holder r.sent m n done words (λ _. omega (arith, size, small))
 passes-after net past r n (Leave m cause) size low step =
-    none-more _ _ _ (passes-admitted (set r.nodes m (left_with cause (ring_node r m))) n
+    none-more _ _ _ (passes-admitted (set r.nodes m (gone_by cause (ring_node r m))) n
     ∙ passes-set r.nodes m n _ (passes-left cause (ring_node r m)))
     (quiet-entry n m (Leave m cause) refl)
 passes-after net past r n (Join m) size low step =

@@ -1,5 +1,5 @@
 -- Rounds, visits and repetitions, turn by turn.
-use Rattle.std.proofs.Common.{◌≡◌, ◌≢◌, ◌⊎◌, ℕ, zero, suc, ◌+◌, ◌<◌, ◌≤◌, ◌++◌, Bool, true, false}
+use Rattle.std.proofs.Common.{◌≡◌, ◌≢◌, ℕ, zero, suc, ◌+◌, ◌<◌, ◌≤◌, ◌++◌, Bool, true, false}
 use Rattle.std.proofs.Common.{cond, not, List, [], ◌∷◌, length, map, replicate, take, Some, ⊎_elim}
 use Rattle.std.proofs.Common.{refl, sym, ap, subst, ◌∙◌, arith, get_or, All, count_by}
 use Rattle.std.specs.Prelude.{◌&&◌}
@@ -24,6 +24,7 @@ use Rattle.tied_lists.specs.Waits.{has_left, status_at}
 use Rattle.tied_lists.proofs.Boxes.{count-cons, one-if}
 use Rattle.turn_laws.specs.KeepsOn.{is_out_of_ring}
 use Rattle.turn_laws.specs.Laws.{SomebodyHolds}
+use Rattle.whole_scan.specs.Scans.{IsBetweenScans, KeepsStepsLeft}
 use Rattle.serial_run.specs.declared.order.Turn.{Turn}
 use Rattle.serial_run.specs.declared.order.Turn.TheVariants.{Hold}
 use Rattle.serial_run.specs.declared.stations.ControllerStation.{ControllerStation}
@@ -31,22 +32,21 @@ use Rattle.serial_run.specs.declared.stations.HostStation.{HostStation}
 use Rattle.serial_run.specs.declared.stations.Stations.{Stations}
 use Rattle.serial_run.specs.Turns.{MakesTurn, MakesTurns}
 use Rattle.serial_run.specs.Serial.{all_are_out, all_have_ended, away_turns_of, host_is_out}
-use Rattle.serial_run.specs.Serial.{log_has_ended, log_is_out, members_now, visits_of, IsChain}
+use Rattle.serial_run.specs.Serial.{log_has_ended, log_is_out, members_on, visits_of, IsChain}
 use Rattle.serial_run.specs.Serial.{Finishes, IsLateRound, IsRepetition, MakesLateRounds}
 use Rattle.serial_run.specs.Serial.{MakesRound, MakesRounds, Repeats, scanned}
 use Rattle.serial_run.specs.Stations.{Did, DidWith, StandAll, StandsController, StandsHost}
 use Rattle.serial_run.specs.Stations.{joint_of, log_of}
 use Rattle.serial_run.specs.Held.{is_away_status, is_in_ring, members_in, stations_here, status_in}
 use Rattle.serial_run.specs.Held.{turns_left, AllHave, GainFor, IsOffAway, Lessens, Stay}
-use Rattle.serial_run.specs.Scans.{have_ended, steps_left, AreBetweenScans, IsBetweenScans}
-use Rattle.serial_run.specs.Scans.{KeepsStepsLeft}
+use Rattle.serial_run.specs.Scans.{have_ended, steps_left, AreBetweenScans}
 use Rattle.serial_run.specs.Scans.{KeepScans}
 use Rattle.serial_run.proofs.Gained.{SomeHave, all-stay, one-more-has, stays-both, stays-same}
 use Rattle.serial_run.proofs.Laws.{one-more-turn}
 use Rattle.serial_run.proofs.Lists.{zip-at, zip-at-first, zip-both}
 use Rattle.serial_run.proofs.Measures.{holder-member, scans-same, station-open}
 use Rattle.serial_run.proofs.Rings.{count-more}
-use Rattle.serial_run.proofs.ScanSteps.{between-kept}
+use Rattle.whole_scan.proofs.ScanSteps.{between-kept}
 
 -- ---- what was done, one after another
 
@@ -69,7 +69,7 @@ count-zip R f p q (x ∷ xs) (y ∷ ys) all same =
     omega (arith, here, rest, a, b)
 
 pub in-members : (plant : Plant) (scans : ℕ) (run : Stations) → StandAll plant scans run
-    → members_in run ≡ members_now plant run.ring.history
+    → members_in run ≡ members_on plant run.ring.history
 in-members plant scans run all =
     let p : ℕ → Bool = λ n. is_in (status_at plant.net run.ring.history n) in
     let at : (n m : ℕ) → n ≡ m → is_in_ring run.ring n ≡ p m = λ n m e i.
@@ -583,7 +583,8 @@ module _ (plant : Plant) (scans : ℕ) (run : Stations) (all : StandAll plant sc
       × (slice_get run.hosts.items k ≡ Some s) × (s.left ≡ false)).
       let its = zip-at (StandsHost plant run.ring.history) plant.hosts
       run.hosts.items h.0 h.1 all.hosts h.2 in
-      ap (λ b. list_all (log_is_out plant scans run.ring.history) (logged plant (joint_of run)) && b)
+      ap (λ b. list_all (log_is_out plant scans run.ring.history) (logged plant (joint_of run))
+      && b)
       (not-all (host_is_out plant run.ring.history) plant.hosts h.0 its.0 its.1
       (open-out false (status_at plant.net run.ring.history its.0.node)
       (sym its.2.left ∙ h.3)))
@@ -624,7 +625,8 @@ module _ (plant : Plant) (scans : ℕ) (run : Stations) (all : StandAll plant sc
 
         hosts-out : list_all (host_is_out plant run.ring.history) plant.hosts ≡ true
         hosts-out = all-true (host_is_out plant run.ring.history) plant.hosts (λ k plan is.
-            let its = zip-at-first (StandsHost plant run.ring.history) plant.hosts run.hosts.items k plan
+            let its = zip-at-first (StandsHost plant run.ring.history) plant.hosts
+            run.hosts.items k plan
             all.hosts is in
             let left = host-left run none k its.0 its.1 in
             ap (is_out_of_ring false) ((its.2.keeps.gone left).gone))

@@ -29,10 +29,11 @@ use Rattle.turn_laws.proofs.Others.{others, scans as scans-keep}
 use Rattle.turn_laws.proofs.HostOthers.{host-others}
 use Rattle.controller_core.specs.Controller.{IsLegal}
 use Rattle.joint_history.specs.JointLaws.{fixed_of}
+use Rattle.whole_scan.specs.Scans.{MadeEvents}
 use Rattle.serial_run.proofs.Distinct.{low-members}
 use Rattle.serial_run.specs.declared.stations.ControllerStation.{ControllerStation}
 use Rattle.serial_run.specs.declared.stations.HostStation.{HostStation}
-use Rattle.serial_run.specs.Stations.{StandsController, StandsHost, MadeEvents, plain_ram_side}
+use Rattle.serial_run.specs.Stations.{StandsController, StandsHost, plain_ram_side}
 use Rattle.serial_run.proofs.Grown.{Further, others-own, others-left, others-none}
 
 -- ---- others have their turns

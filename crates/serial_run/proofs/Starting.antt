@@ -13,6 +13,7 @@ use Rattle.comm_port.specs.HostTurns.{HostWorkerIs}
 use Rattle.comm_port.proofs.HostTurnLaws.{host-ties-new}
 use Rattle.host_port.specs.Host.{HostIs}
 use Rattle.host_port.specs.Legal.{IsHostHistory}
+use Rattle.whole_scan.specs.Scans.{IsBetweenScans}
 use Rattle.serial_run.specs.declared.stations.ControllerStation.{ControllerStation}
 use Rattle.std.specs.List.{AllZip}
 use Rattle.ring_core.specs.declared.entry.RingEntry.{RingEntry}
@@ -24,7 +25,6 @@ use Rattle.controller_core.specs.Scans.{scans_from}
 use Rattle.serial_run.specs.declared.stations.Stations.{Stations}
 use Rattle.tied_lists.specs.Waits.{has_left}
 use Rattle.serial_run.specs.Turns.{empty_host_log, empty_log, node_has_left}
-use Rattle.serial_run.specs.Scans.{IsBetweenScans}
 use Rattle.serial_run.specs.Stations.{StandsController, StandsHost, StartsController, StartsHost}
 use Rattle.serial_run.specs.Stations.{StartControllers, StartHosts, Starts, host_log_of, log_of}
 use Rattle.serial_run.proofs.Lists.{zip-each, zip-other, zip-same-map}
@@ -104,7 +104,7 @@ start-host plant plan v w sound member legal v-is w-is =
               member = member;
               patient = tt;
             })
-            (let from = sound.net.answer.from in omega (arith, from));
+            (let from = sound.net.numbers.answer.from in omega (arith, from));
         counts = refl;
         left = nobody-left plant sound plan.node member;
         keeps = host-starts plan plant.net [] refl;

@@ -15,7 +15,8 @@ use Rattle.joint_history.specs.declared.joint.ControllerLog.{ControllerLog}
 use Rattle.joint_history.specs.declared.joint.Joint.{Joint}
 use Rattle.joint_history.specs.JointLaws.{fixed_of, logged}
 use Rattle.joint_history.specs.Nets.{net_of}
-use Rattle.joint_history.specs.Reading.{has_ended_at, is_off_at}
+use Rattle.joint_history.specs.Reading.{controller_at, has_ended_at, is_off_at}
+use Rattle.whole_scan.specs.Scans.{with_scan}
 use Rattle.ring_core.specs.Machine.{is_in}
 use Rattle.tied_lists.specs.Waits.{status_at}
 use Rattle.turn_laws.specs.KeepsOn.{is_out_of_ring}
@@ -23,18 +24,11 @@ use Rattle.serial_run.specs.declared.order.Turn.{Turn}
 use Rattle.serial_run.specs.declared.order.Turn.TheVariants.{Hold, Visit, Away}
 use Rattle.serial_run.specs.Turns.{nothing_made, MakesTurns}
 
--- A controller's list behind its next whole scan, or behind the part of it up to a stop; the same
--- list where it has ended.
-abbrev pub with_scan : Fixed → List Entry → List Entry
-with_scan fixed entries =
-    let now = replay fixed entries in
-    if has_ended_at fixed entries then entries
-    else entries ++ entries_from fixed now (due fixed.plan (now.gone + 1))
-
+-- A controller's list behind its next whole scan, or behind the part of it up to a stop.
 abbrev pub log_with_scan : Plant → ℕ → ControllerPlan × ControllerLog → ControllerLog
 log_with_scan plant scans of = record {
   node = of.1.node;
-  entries = with_scan (fixed_of plant scans of.0) of.1.entries;
+  entries = with_scan (controller_at (fixed_of plant scans of.0) of.1.entries);
 }
 
 -- Each controller whose scans are not gone made one.
@@ -49,9 +43,9 @@ log_has_ended plant scans of = has_ended_at (fixed_of plant scans of.0) of.1.ent
 abbrev pub all_have_ended : Plant → ℕ → Joint → Bool
 all_have_ended plant scans joint = list_all (log_has_ended plant scans) (logged plant joint)
 
--- How many members the ring has now.
-abbrev pub members_now : Plant → List RingEntry → ℕ
-members_now plant ring = count_by (λ node. is_in (status_at plant.net ring node)) plant.net.members
+-- How many members are in the ring behind these entries.
+abbrev pub members_on : Plant → List RingEntry → ℕ
+members_on plant ring = count_by (λ node. is_in (status_at plant.net ring node)) plant.net.members
 
 -- Each node is gone; or it is away, and its controller has no power.
 abbrev pub log_is_out : Plant → ℕ → List RingEntry → ControllerPlan × ControllerLog → Bool
@@ -80,7 +74,7 @@ visits_of plant = map (λ plan. Visit plan.node) plant.controllers
 -- A round: as many hold turns as there are members at its beginning.
 abbrev pub MakesRound : Plant → ℕ → Joint → Joint → Type 0
 MakesRound plant scans old new =
-    MakesTurns plant scans (replicate (members_now plant old.ring) Hold) old new
+    MakesTurns plant scans (replicate (members_on plant old.ring) Hold) old new
 
 -- By way of these joint histories, each of which came of the one before, to the last.
 abbrev pub IsChain : (Joint → Joint → Type 0) → Joint → List Joint → Joint → Type 0

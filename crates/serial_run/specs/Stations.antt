@@ -135,9 +135,3 @@ pub record Starts (plant : Plant) (scans : ℕ) (run : Stations) : Type 0 where
   pub nothing : joint_of run ≡ nothing_made plant
   pub between : AreBetweenScans run
   pub here : All (λ (station : ControllerStation). station.left ≡ false) run.controllers.items
-
--- A controller went on by events of its scan alone, to this history.
-pub record MadeEvents (history : List Entry) (old new : ControllerIs) : Type 0 where
-  pub history_is : new.history ≡ history
-  pub events : List Entry
-  pub went_on : ControllerWentOn Scan events old new

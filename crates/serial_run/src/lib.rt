@@ -5,7 +5,6 @@ mod coils;
 mod joining;
 mod order;
 mod runs;
-mod scanning;
 mod serial;
 mod stations;
 mod turning;

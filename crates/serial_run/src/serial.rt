@@ -10,11 +10,11 @@ ghost use Rattle.serial_run.specs.Held.{is_in_ring, members_in, stations_here, A
 ghost use Rattle.serial_run.specs.Held.{IsVisited};
 ghost use Rattle.serial_run.specs.Held.{Lessens, Stay};
 
-use crate::scanning::scan;
 use crate::stations::Stations;
 use ring_core::{NodeStatus, Ring};
 use std::alloc::AllocError;
 use turn_laws::somebody_holds;
+use whole_scan::scan;
 
 /// Whether a node is a member of the ring now.
 fn is_in(node: u8, ring: &Ring) -> bool
@@ -84,8 +84,8 @@ impl Stations {
     /// Each controller that is away and has power asks to come in again.
     fn come_back_all(&mut self) -> Result<(), AllocError>
         requires { Stand self.old }
-        ensures came { OnOk result (Did (λ plant scans. MakesTurns plant scans (away_turns_of plant))
-            self.old self.new) }
+        ensures came { OnOk result
+            (Did (λ plant scans. MakesTurns plant scans (away_turns_of plant)) self.old self.new) }
         ensures scans { OnOk result (KeepScans self.old self.new) }
         ensures off { OnOk result (AllHave IsOffAway self.new) }
     {

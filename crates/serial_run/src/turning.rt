@@ -3,8 +3,10 @@ ghost use Rattle.std.specs.Prelude.{◌≡◌, true, false, OnOk};
 ghost use Rattle.controller_core.specs.Controller.{stepped};
 ghost use Rattle.turn_laws.specs.KeepsOn.{is_out_of_ring, leaves_out};
 ghost use Rattle.ring_core.specs.Legal.{IsMember};
+ghost use Rattle.comm_port.specs.Turns.{IsNoBridge};
+ghost use Rattle.whole_scan.specs.Scans.{MadeEvents};
 ghost use Rattle.serial_run.specs.Turns.{MakesTurn};
-ghost use Rattle.serial_run.specs.Stations.{Did, MadeEvents, Stand};
+ghost use Rattle.serial_run.specs.Stations.{Did, Stand};
 ghost use Rattle.serial_run.specs.Scans.{KeepScans};
 ghost use Rattle.serial_run.specs.Held.{HasToken, HeldController, HeldHost, HostStandsBeside};
 ghost use Rattle.serial_run.specs.Held.{HostKeepsBeside, KeepsBeside, KnowsLeft, Lessens};
@@ -62,6 +64,7 @@ fn leaves_out(end: TurnEnd) -> bool
 fn hold_controller(station: &mut ControllerStation, ring: &mut Ring) -> Result<(), AllocError>
     requires stands { StandsBeside station.old ring.old }
     requires token { HasToken station.old.worker.node ring.old }
+    requires no_bridge { IsNoBridge ring.old.net station.old.worker.node }
     requires keeps { KeepsBeside station.old ring.old }
     requires here { station.old.left ≡ false }
     ensures { OnOk result (HeldController station.old station.new ring.old ring.new) }
@@ -79,6 +82,7 @@ fn hold_controller(station: &mut ControllerStation, ring: &mut Ring) -> Result<(
 fn hold_host(station: &mut HostStation, ring: &mut Ring) -> Result<(), AllocError>
     requires stands { HostStandsBeside station.old ring.old }
     requires token { HasToken station.old.worker.node ring.old }
+    requires no_bridge { IsNoBridge ring.old.net station.old.worker.node }
     requires keeps { HostKeepsBeside station.old ring.old }
     requires here { station.old.left ≡ false }
     ensures { OnOk result (HeldHost station.old station.new ring.old ring.new) }
@@ -101,8 +105,8 @@ fn is_out_of_ring(stays: bool, status: NodeStatus) -> bool
     }
 }
 
-/// Whether a controller's visit is due: its node is gone, or it is away with no scan left that could
-/// bring power back; and it has calls that were not collected.
+/// Whether a controller's visit is due: its node is gone, or it is away with no scan left that
+/// could bring power back; and it has calls that were not collected.
 fn is_visit_due(station: &ControllerStation, ring: &Ring) -> bool
     requires member { IsMember ring.now.net station.now.worker.node }
     requires node { station.now.node ≡ station.now.worker.node }

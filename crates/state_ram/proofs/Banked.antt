@@ -78,13 +78,6 @@ count-discrete w Input d = refl
 count-discrete w InputRegister d = absurd cc
 count-discrete w Register d = absurd cc
 
-count-register : (w : Words) (kind : RefKind) → is_discrete kind ≡ false
-    → count_of (packed_sizes w) kind ≡ length (words_of_kind w kind)
-count-register w Coil d = absurd cc
-count-register w Input d = absurd cc
-count-register w InputRegister d = refl
-count-register w Register d = refl
-
 number_in-discrete : (kind : RefKind) (xs : List ℕ) (place : ℕ) → is_discrete kind ≡ true
     → number_in kind xs place ≡ bit_in xs place
 number_in-discrete Coil xs place d = refl
@@ -92,23 +85,11 @@ number_in-discrete Input xs place d = refl
 number_in-discrete InputRegister xs place d = absurd cc
 number_in-discrete Register xs place d = absurd cc
 
-number_in-register : (kind : RefKind) (xs : List ℕ) (place : ℕ) → is_discrete kind ≡ false
-    → number_in kind xs place ≡ get_or xs place 0
-number_in-register Coil xs place d = absurd cc
-number_in-register Input xs place d = absurd cc
-number_in-register InputRegister xs place d = refl
-number_in-register Register xs place d = refl
-
 -- ---- where a place is
 
 pub group_place : (w : Words) (at : Ref) → is_discrete at.kind ≡ true → HasPlaceFor w at
     → (at.number - 1) / 16 < length (words_of_kind w at.kind)
 group_place w at d place = let c = count-discrete w at.kind d in let from = place.from_one in
-    let within = place.within in omega arith
-
-pub register_place : (w : Words) (at : Ref) → is_discrete at.kind ≡ false → HasPlaceFor w at
-    → at.number - 1 < length (words_of_kind w at.kind)
-register_place w at d place = let c = count-register w at.kind d in let from = place.from_one in
     let within = place.within in omega arith
 
 both_hold : (a b : Bool) → a ≡ true → b ≡ true → a && b ≡ true
@@ -190,29 +171,6 @@ sets_bit w at on word d place bit =
           (let n : q.number ≡ at.number = omega arith in λ i. record { kind = k i; number = n i }))
           bit
           ∙ sym (number_in-discrete at.kind ws (q.number - 1) d));
-    }
-
--- a word is one register set
-pub sets_word : (w : Words) (at : Ref) (word : ℕ) → is_discrete at.kind ≡ false → HasPlaceFor w at
-    → Sets w
-    (with_words_of_kind w at.kind (set (words_of_kind w at.kind) (at.number - 1) word)) at word
-sets_word w at word d place =
-    let p = at.number - 1 in
-    let ws = words_of_kind w at.kind in
-    let xs = set ws p word in
-    let h = register_place w at d place in
-    let at_one = place.from_one in
-    record {
-      sizes = sizes-with w at.kind xs (length-set ws p word);
-      here =
-          ap (λ ys. number_in at.kind ys p) (words_at-with w at.kind xs)
-          ∙ number_in-register at.kind xs p d
-          ∙ get_or-set_same ws p word 0 h;
-      others = λ q from apart. others_with w at.kind q.kind xs (q.number - 1) (λ k.
-          number_in-register at.kind xs (q.number - 1) d
-          ∙ get_or-set_other ws p (q.number - 1) word 0 (λ e. apart
-          (let n : q.number ≡ at.number = omega arith in λ i. record { kind = k i; number = n i }))
-          ∙ sym (number_in-register at.kind ws (q.number - 1) d));
     }
 
 -- ---- the map

@@ -62,13 +62,6 @@ if_there : (b : Bool) (v w : ℕ) → (b ≡ true → v ≡ w)
 if_there true v w h = ap Some (h refl)
 if_there false v w h = refl
 
--- two maps that are given one number at each of their references are one
-pub filled-same : (sizes : Sizes) (g h : Ref → ℕ)
-    → ((q : Ref) → has_reference sizes q ≡ true → g q ≡ h q) → filled sizes g ≡ filled sizes h
-filled-same sizes g h same = same_map refs_total exact_refs _ _ (λ q.
-    get-filled sizes g q ∙ if_there (has_reference sizes q) (g q) (h q) (same q)
-    ∙ sym (get-filled sizes h q))
-
 -- a map that is given 0 at each reference is a fresh one
 pub filled-cleared : (sizes : Sizes) (g : Ref → ℕ) → ((q : Ref) → g q ≡ 0)
     → filled sizes g ≡ cleared sizes

@@ -1,10 +1,12 @@
 //! Journals whose every line was written by hand.
+ghost use Rattle.plant_types.specs.Routes.{FitsRoute};
+
 use controller_core::{Call, CallKind, Entry};
 use host_port::{HostEntry, HostResult};
 use joint_history::{ControllerLog, HostLog, Joint};
 use journal_text::{is_plain, journal_text};
 use mstr_block::{CallId, MstrResult};
-use plant_types::{Block, List, Pdu, Words};
+use plant_types::{Block, List, Pdu, Route, Words};
 use ring_core::{Frame, FrameKind, Heard, LeaveCause, LocalOp, RingEntry};
 use std::alloc::{AllocError, Global};
 use std::test::Fail;
@@ -78,7 +80,8 @@ const TELLS: [u8; 6] = [3, 4, 0, 42, 0, 43];
 /// Calls of a controller, and its entry for them.
 fn push_call(alloc: Global, calls: &mut List<Call>, to: u8, bytes: &[u8]) -> Result<(), Fail> {
     let pdu = pdu(alloc, bytes)?;
-    let kind = CallKind::Net { to, pdu };
+    let route = Route::of(&[to]);
+    let kind = CallKind::Net { route, pdu };
     let id = id(2, 1, 1);
     calls.push(Call { id, kind })?;
     Ok(())
@@ -171,10 +174,13 @@ fn push_asker(alloc: Global, entries: &mut List<Entry>) -> Result<(), Fail> {
 }
 
 /// The entries of a host.
-fn push_ask(alloc: Global, entries: &mut List<HostEntry>) -> Result<(), Fail> {
+fn push_ask(alloc: Global, entries: &mut List<HostEntry>, route: &[u8]) -> Result<(), Fail>
+    requires { FitsRoute route.now }
+{
     let pdu = pdu(alloc, &[3, 0, 0, 0, 1])?;
     let id = id(10, 1, 1);
-    entries.push(HostEntry::Ask { id, to: 2, pdu })?;
+    let route = Route::of(route);
+    entries.push(HostEntry::Ask { id, route, pdu })?;
     Ok(())
 }
 
@@ -200,7 +206,14 @@ fn push_served(alloc: Global, entries: &mut List<HostEntry>) -> Result<(), Fail>
 fn frame(alloc: Global, kind: FrameKind, to: u8, bytes: &[u8]) -> Result<Frame, Fail> {
     let pdu = pdu(alloc, bytes)?;
     let id = id(2, 1, 1);
-    Ok(Frame { kind, to, id, pdu })
+    let rest = Route::of(&[]);
+    Ok(Frame {
+        kind,
+        to,
+        rest,
+        id,
+        pdu,
+    })
 }
 
 fn push_post(alloc: Global, ring: &mut List<RingEntry>, node: u8, to: u8) -> Result<(), Fail> {
@@ -324,7 +337,7 @@ fn add_asker(alloc: Global, joint: &mut Joint) -> Result<(), Fail> {
 }
 
 fn push_host_entries(alloc: Global, entries: &mut List<HostEntry>) -> Result<(), Fail> {
-    push_ask(alloc, entries)?;
+    push_ask(alloc, entries, &[2])?;
     push_answers(alloc, entries)?;
     push_served(alloc, entries)
 }
@@ -385,6 +398,32 @@ fn a_reply_that_strays(rt: HostRuntime) -> Result<(), Fail> {
     let alloc = rt.alloc();
     let mut joint = new_joint(alloc);
     push_post(alloc, &mut joint.ring, 5, 9)?;
+    let plain = is_plain(&joint);
+    assert!(rt; !plain);
+    Ok(())
+}
+
+/// A Reply that goes on from there is in none either.
+#[test]
+fn a_reply_that_goes_on(rt: HostRuntime) -> Result<(), Fail> {
+    let alloc = rt.alloc();
+    let mut joint = new_joint(alloc);
+    let mut frame = frame(alloc, FrameKind::Reply, 2, &TELLS)?;
+    frame.rest = Route::of(&[6]);
+    joint.ring.push(RingEntry::Post { node: 5, frame })?;
+    let plain = is_plain(&joint);
+    assert!(rt; !plain);
+    Ok(())
+}
+
+/// Nor is a request without an address.
+#[test]
+fn a_request_to_nobody(rt: HostRuntime) -> Result<(), Fail> {
+    let alloc = rt.alloc();
+    let mut joint = new_joint(alloc);
+    let mut entries = List::new(alloc);
+    push_ask(alloc, &mut entries, &[])?;
+    joint.hosts.push(HostLog { node: 10, entries })?;
     let plain = is_plain(&joint);
     assert!(rt; !plain);
     Ok(())

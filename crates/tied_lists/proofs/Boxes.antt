@@ -1,7 +1,7 @@
 -- Boxes of frames, and paths that change.
-use Rattle.std.proofs.Common.{◌≡◌, ℕ, ◌+◌, ◌<◌, ◌≤◌, ◌==◌, ◌&&◌, Bool, true, false, cond}
+use Rattle.std.proofs.Common.{◌≡◌, ℕ, ◌+◌, ◌≤◌, ◌==◌, ◌&&◌, Bool, true, false, cond}
 use Rattle.std.proofs.Common.{not, List, [], ◌∷◌, ◌++◌, get_or, set, drop, filter}
-use Rattle.std.proofs.Common.{count_by, refl, sym, ap, ◌∙◌, subst, ⊎_elim, arith}
+use Rattle.std.proofs.Common.{count_by, refl, sym, ap, subst, ⊎_elim, arith}
 use Rattle.std.proofs.Common.{get_or-set_other}
 use Rattle.std.specs.List.{AllByRecursion as Each}
 use Rattle.std.proofs.lemmas.Bool.{eq-eqb, ne_eqb, cases_Bool}
@@ -114,31 +114,31 @@ HasCome n ps f = CameOn n ps f.kind f.id
 -- what a path awaits
 abbrev pub is_out : Await → Bool
 is_out Nothing = false
-is_out (Out seq to passes) = true
+is_out (Out seq to onward passes) = true
 is_out (Arrived seq) = false
 is_out (Failed seq word) = false
 
 abbrev pub has_arrived : Await → Bool
 has_arrived Nothing = false
-has_arrived (Out seq to passes) = false
+has_arrived (Out seq to onward passes) = false
 has_arrived (Arrived seq) = true
 has_arrived (Failed seq word) = false
 
 pub waits-out : (a : Await) (seq : ℕ) → waits_for a seq ≡ true → is_out a ≡ true
 waits-out Nothing seq w = absurd (let no' : false ≡ true = w in cc)
-waits-out (Out s to passes) seq w = refl
+waits-out (Out s to onward passes) seq w = refl
 waits-out (Arrived s) seq w = absurd (let no' : false ≡ true = w in cc)
 waits-out (Failed s word) seq w = absurd (let no' : false ≡ true = w in cc)
 
 pub out-not-arrived : (a : Await) → is_out a ≡ true → has_arrived a ≡ false
 out-not-arrived Nothing w = refl
-out-not-arrived (Out s to passes) w = refl
+out-not-arrived (Out s to onward passes) w = refl
 out-not-arrived (Arrived s) w = absurd (let no' : false ≡ true = w in cc)
 out-not-arrived (Failed s word) w = refl
 
 pub arrived-not-out : (a : Await) → has_arrived a ≡ true → is_out a ≡ false
 arrived-not-out Nothing w = refl
-arrived-not-out (Out s to passes) w = absurd (let no' : false ≡ true = w in cc)
+arrived-not-out (Out s to onward passes) w = absurd (let no' : false ≡ true = w in cc)
 arrived-not-out (Arrived s) w = refl
 arrived-not-out (Failed s word) w = refl
 

@@ -1,5 +1,5 @@
 -- Each legal history keeps what a node's paths and boxes follow.
-use Rattle.std.proofs.Common.{◌≡◌, ◌≢◌, ℕ, zero, suc, ◌+◌, ◌<◌, ◌≤◌, ◌==◌, ◌&&◌, nat_le, Bool, true}
+use Rattle.std.proofs.Common.{◌≡◌, ◌≢◌, ℕ, zero, suc, ◌+◌, ◌<◌, ◌≤◌, ◌&&◌, nat_le, Bool, true}
 use Rattle.std.proofs.Common.{false, cond, List, [], ◌∷◌, ◌++◌, get_or, set, map, drop, length}
 use Rattle.std.proofs.Common.{replicate, Option, Some, None, refl, sym, ap}
 use Rattle.std.proofs.Common.{◌∙◌, subst, inl, inr, ◌⊎◌, ⊎_elim, arith}
@@ -12,16 +12,16 @@ use Rattle.ring_core.specs.declared.path.Await.{Await}
 use Rattle.ring_core.specs.declared.path.Await.TheVariants.{Nothing, Out, Arrived, Failed}
 use Rattle.ring_core.specs.declared.path.Path.{Path}
 use Rattle.plant_types.specs.declared.net.Fate.{Fate}
-use Rattle.ring_core.specs.Words.{asks, maker}
+use Rattle.ring_core.specs.Words.{asks, is_onward, maker}
 use Rattle.ring_core.specs.Machine.{NodeIs, RingIs, addresses, path_places, no_path, fresh, part_of}
 use Rattle.ring_core.specs.Machine.{ring_node, path_of, asked, posted, paths_after_take}
-use Rattle.ring_core.specs.Machine.{took, gave_up, aged, after_pass, gone, is_repeat, is_full}
-use Rattle.ring_core.specs.Machine.{waits_for, fell, with_frame, arrives, arrival, arrived}
+use Rattle.ring_core.specs.Machine.{took, gave_up, aged, after_pass, is_repeat, is_full}
+use Rattle.ring_core.specs.Machine.{waits_for, fell, with_frame, hears, arrives, arrival, arrived}
 use Rattle.ring_core.specs.Machine.{heard_of, fate_at, heard_by, failed, silence_word, busy_word}
 use Rattle.ring_core.specs.Machine.{sent_off, sent_head, sent_one, after, opening}
 use Rattle.ring_core.specs.Machine.{with_members, ring_after, awaited_number, is_here, is_in}
-use Rattle.ring_core.specs.Machine.{admitted, with_status, left_with}
-use Rattle.ring_core.specs.Machine.{is_held, asked_in}
+use Rattle.ring_core.specs.Machine.{admitted, with_status, gone_by}
+use Rattle.ring_core.specs.Machine.{is_held, made_asking}
 use Rattle.ring_core.specs.Refusals.{or_no, free_no, post_no, path_no}
 use Rattle.ring_core.specs.Refusals.{pass_no, give_up_no}
 use Rattle.ring_core.specs.Refusals.{answer_after, away_no, paths_no, join_no}
@@ -50,13 +50,15 @@ post-paths : (net : NetPlan) (n : ℕ) (b : List RingEntry) (c : NodeIs) (f : Fr
     (kind : FrameKind) → f.kind ≡ kind → IsFrom n
     kind f → IsNextNumber c kind f.id → path_no c kind f.id.path ≡ None
     → Follows n b c.paths c.outbox c.inbox c.tries
-    → Follows n (b ++ Post n f ∷ []) (asked c kind f.id f.to) (c.outbox ++ f ∷ []) c.inbox c.tries
+    → Follows n (b ++ Post n f ∷ []) (asked c kind f) (c.outbox ++ f ∷ []) c.inbox c.tries
 post-paths net n b c f Request is from next free i = post-request n b c.paths c.outbox c.inbox
     c.tries f is from.0 from.1 from.2 (taken-none _ free) next i
-post-paths net n b c f Reply is from next free i = post-reply n b c.paths c.outbox c.inbox c.tries f is i
+post-paths net n b c f Reply is from next free i =
+    post-reply n b c.paths c.outbox c.inbox c.tries f is i
 
 post-step : (net : NetPlan) (h : List RingEntry) (n m : ℕ) (f : Frame) → n < addresses
-    → IsPatient (status_at net h n) n (Post m f) → IsRingStep net h (Post m f) → (r : RingIs) → r ≡ ring_after net h → RingFollows n h r
+    → IsPatient (status_at net h n) n (Post m f) → IsRingStep net h (Post m f) → (r : RingIs)
+    → r ≡ ring_after net h → RingFollows n h r
     → RingFollows n (h ++ Post m f ∷ []) (after net r (Post m f))
 post-step net h n m f range patient s r is i =
     let t : IsTimelyEntry net h r (Post m f) =
@@ -73,7 +75,8 @@ post-step net h n m f range patient s r is i =
       part = post-paths net n (own n h) c f f.kind refl from next (second-none _ _ no') i.node.part;
       left = i.node.left;
       busy = inr (free-holds r n (first-none _ _ no'));
-      asking = λ asks. absurd (patient e (sym (ap (λ (x : RingIs). (ring_node x n).status) is) ∙ asks));
+      asking = λ asks. absurd (patient e
+          (sym (ap (λ (x : RingIs). (ring_node x n).status) is) ∙ asks));
     })
     (each-push (IsOwn n) c.outbox f (i.frames n) from) i))
     (λ (o : m ≡ n → ⊥). other-step n h r (after net r (Post m f)) (Post m f) o (length-set _ _ _)
@@ -93,7 +96,8 @@ path-low ps p a size is not_nothing = ⊎_elim (λ (x : nat_le path_places p ≡
     absurd (not_nothing (sym is ∙ ap (λ (y : Path). y.awaits)
     (default-at ps no_path p (let l = leb-true path_places p x in let s
     = size in omega (arith, l, s))))))
-    (λ (x : nat_le path_places p ≡ false). leb-false path_places p x) (cases_Bool (nat_le path_places p))
+    (λ (x : nat_le path_places p ≡ false). leb-false path_places p x)
+    (cases_Bool (nat_le path_places p))
   where
     default-at : {X : Type 0} (xs : List X) (d : X) (k : ℕ) → length xs ≤ k → get_or xs k d ≡ d
     default-at [] d k le = refl
@@ -142,7 +146,8 @@ take-step net h n m f range s r is i =
     (cases_eq m n)
 
 -- GiveUp
-own-request : (n : ℕ) (f : Frame) (kind : FrameKind) → IsFrom n kind f → kind ≡ Request → f.id.node ≡ n
+own-request : (n : ℕ) (f : Frame) (kind : FrameKind) → IsFrom n kind f → kind ≡ Request
+    → f.id.node ≡ n
 own-request n f Request from is = from.0
 own-request n f Reply from is = absurd (cc)
 
@@ -152,11 +157,12 @@ come-left n ps q v box e = subst (Each (HasCome n (set ps q v))) (sym e) tt
 
 answer-none : (answer : ℕ) (a : Await) → answer_after answer a ≡ None → has_arrived a ≡ false
 answer-none answer Nothing e = refl
-answer-none answer (Out seq to passes) e = refl
+answer-none answer (Out seq to onward passes) e = refl
 answer-none answer (Arrived seq) e = absurd (cc)
 answer-none answer (Failed seq word) e = refl
 
-give_up-come : (net : NetPlan) (n : ℕ) (c : NodeIs) (q : ℕ) (v : Path) (here : Bool) → is_here c ≡ here
+give_up-come : (net : NetPlan) (n : ℕ) (c : NodeIs) (q : ℕ) (v : Path) (here : Bool)
+    → is_here c ≡ here
     → (is_here c ≡ false → c.inbox ≡ [])
     → (cond here (answer_after net.answer (path_of c q).awaits) None) ≡ None
     → Each (HasCome n c.paths) c.inbox → Each (HasCome n (set c.paths q v)) c.inbox
@@ -270,7 +276,7 @@ pass-step net h n m done words range s r is i =
 -- Leave
 left-follows : (n : ℕ) (b : List RingEntry) (holder : ℕ) (c : NodeIs) (cause : LeaveCause)
     → Follows n b c.paths c.outbox c.inbox c.tries
-    → NodeFollows n b holder (admitted (left_with cause c))
+    → NodeFollows n b holder (admitted (gone_by cause c))
 left-follows n b holder c Ended i = record {
   part = empty-box n b c.paths c.outbox c.inbox c.tries i;
   left = λ _. refl;
@@ -291,7 +297,7 @@ left-follows n b holder c (Down number) i = record {
   asking = λ _. tt;
 }
 
-left-own : (m : ℕ) (c : NodeIs) (cause : LeaveCause) → OwnBox m c → OwnBox m (left_with cause c)
+left-own : (m : ℕ) (c : NodeIs) (cause : LeaveCause) → OwnBox m c → OwnBox m (gone_by cause c)
 left-own m c Ended all = all
 left-own m c Spent all = all
 left-own m c (Down number) all = tt
@@ -307,10 +313,10 @@ leave-step net h n m cause range s r is i =
     ⊎_elim (λ (e : m ≡ n).
     subst (λ (k : ℕ). RingFollows n (h ++ Leave k cause ∷ []) (after net r (Leave k cause))) (sym e)
     (let c = ring_node r n in
-    handed-own n h r (Leave n cause) (left_with cause c) range refl
+    handed-own n h r (Leave n cause) (gone_by cause c) range refl
     (left-follows n _ _ c cause (quiet-own n (own n h) _ _ _ _ (Leave n cause) (λ p now. refl)
     (λ p now. refl) i.node.part)) (left-own n c cause (i.frames n)) i))
-    (λ (o : m ≡ n → ⊥). handed-other n h r (Leave m cause) m (left_with cause (ring_node r m)) o refl
+    (λ (o : m ≡ n → ⊥). handed-other n h r (Leave m cause) m (gone_by cause (ring_node r m)) o refl
     holds (left-own m (ring_node r m) cause (i.frames m)) i)
     (cases_eq m n)
 
@@ -355,7 +361,8 @@ was-away Asking e = absurd (cc)
 was-away Gone e = absurd (cc)
 
 join-follows : (n : ℕ) (b : List RingEntry) (holder holder' : ℕ) (c : NodeIs) (s : NodeStatus)
-    → or_no (away_no c.status) (paths_no c) ≡ None → Each (IsOwn n) c.outbox → NodeFollows n b holder c
+    → or_no (away_no c.status) (paths_no c) ≡ None → Each (IsOwn n) c.outbox
+    → NodeFollows n b holder c
     → NodeFollows n (b ++ Join n ∷ []) holder' (with_status c s)
 join-follows n b holder holder' c s none from i =
     let free = all-free n c (second-none _ _ none) c.outbox from i.part.outs in
@@ -381,7 +388,7 @@ join-step : (net : NetPlan) (h : List RingEntry) (n m : ℕ) → n < addresses
 join-step net h n m range s r is i =
     let t : join_no r m ≡ None = subst (λ (x : RingIs). join_no x m ≡ None) (sym is) s.1 in
     ⊎_elim (λ (e : m ≡ n).
-    subst (λ (k : ℕ). RingFollows n (h ++ Join k ∷ []) (asked_in r k)) (sym e)
+    subst (λ (k : ℕ). RingFollows n (h ++ Join k ∷ []) (made_asking r k)) (sym e)
     (let none : join_no r n ≡ None = subst (λ (k : ℕ). join_no r k ≡ None) e t in
     let join : (holder : ℕ) (s : NodeStatus) → RingFollows n (h ++ Join n ∷ []) (record {
       holder = holder;
@@ -421,7 +428,8 @@ low-if n f Reply from = tt
 
 failed-follows : (n : ℕ) (b : List RingEntry) (c : NodeIs) (f : Frame) (fs : List Frame) (word : ℕ)
     (kind : FrameKind) → f.kind ≡ kind → LowIfAsk kind f.id.path
-    → Follows n b c.paths (f ∷ fs) c.inbox c.tries → Follows n b (failed c kind f.id word) fs c.inbox 0
+    → Follows n b c.paths (f ∷ fs) c.inbox c.tries
+    → Follows n b (failed c kind f.id word) fs c.inbox 0
 failed-follows n b c f fs word Request is low' i =
     fail-request n b c f fs c.inbox c.tries 0 word is low' (omega arith) i
 failed-follows n b c f fs word Reply is low' i =
@@ -504,13 +512,15 @@ to-other m f Reply from = from.1
 
 fell-follows : (n m : ℕ) (b : List RingEntry) (c : NodeIs) (f : Frame) (kind : FrameKind)
     → f.kind ≡ kind → IsFrom m kind f → f.to
-    ≡ n → m ≢ n → AsksNothing c.outbox → NodeOf n b c → NodeOf n b (with_frame c (fell c kind f.id) f)
+    ≡ n → m ≢ n → AsksNothing c.outbox → NodeOf n b c
+    → NodeOf n b (with_frame c (fell c kind f.id) f)
 fell-follows n m b c f Request is from to other out i =
     cond_both (is_repeat c f.id) _ _ (λ x. NodeOf n b (with_frame c x f)) (λ _. i)
     (λ _. cond_both (is_full c) _ _ (λ x. NodeOf n b (with_frame c x f)) (λ _. i)
     (λ _. come-request n b c.paths c.outbox c.inbox c.tries f is (λ e. other (sym from.0 ∙ e)) i))
 fell-follows n m b c f Reply is from to other out i =
-    cond_both (waits_for (path_of c f.id.path).awaits f.id.seq) _ _ (λ x. NodeOf n b (with_frame c x f))
+    cond_both (waits_for (path_of c f.id.path).awaits f.id.seq) _ _
+    (λ x. NodeOf n b (with_frame c x f))
     (λ (w : waits_for (path_of c f.id.path).awaits f.id.seq ≡ true).
     come-reply n b c c.outbox c.inbox c.tries f is (sym from.0 ∙ to)
     (path-low c.paths f.id.path _ i.size refl (λ e. not-nothing
@@ -526,7 +536,8 @@ fell-outbox : (c : NodeIs) (f : Frame) (kind : FrameKind)
     → (with_frame c (fell c kind f.id) f).outbox ≡ c.outbox
 fell-outbox c f Request =
     cond_both (is_repeat c f.id) _ _ (λ x. (with_frame c x f).outbox ≡ c.outbox) (λ _. refl)
-    (λ _. cond_both (is_full c) _ _ (λ x. (with_frame c x f).outbox ≡ c.outbox) (λ _. refl) (λ _. refl))
+    (λ _. cond_both (is_full c) _ _ (λ x. (with_frame c x f).outbox ≡ c.outbox) (λ _. refl)
+    (λ _. refl))
 fell-outbox c f Reply = cond_both (waits_for (path_of c f.id.path).awaits f.id.seq) _ _
     (λ x. (with_frame c x f).outbox ≡ c.outbox) (λ _. refl) (λ _. refl)
 
@@ -534,29 +545,31 @@ fell-status : (c : NodeIs) (f : Frame) (kind : FrameKind)
     → (with_frame c (fell c kind f.id) f).status ≡ c.status
 fell-status c f Request =
     cond_both (is_repeat c f.id) _ _ (λ x. (with_frame c x f).status ≡ c.status) (λ _. refl)
-    (λ _. cond_both (is_full c) _ _ (λ x. (with_frame c x f).status ≡ c.status) (λ _. refl) (λ _. refl))
+    (λ _. cond_both (is_full c) _ _ (λ x. (with_frame c x f).status ≡ c.status) (λ _. refl)
+    (λ _. refl))
 fell-status c f Reply = cond_both (waits_for (path_of c f.id.path).awaits f.id.seq) _ _
     (λ x. (with_frame c x f).status ≡ c.status) (λ _. refl) (λ _. refl)
 
-arrives-here : (here : Bool) (x : Bool) → cond here x false ≡ true → here ≡ true
-arrives-here true x e = refl
-arrives-here false x e = absurd (let no' : false ≡ true = e in cc)
+arrives-here : (here goes x : Bool) → cond (here && goes) x false ≡ true → here ≡ true
+arrives-here true goes x e = refl
+arrives-here false goes x e = absurd (let no' : false ≡ true = e in cc)
 
-pub arrived-part : (nodes : List NodeIs) (f : Frame) (fate : Fate) (P : ℕ → NodeIs → Type 0)
-    → ((k : ℕ) → P k (part_of nodes k)) → (is_here (part_of nodes f.to) ≡ true
+pub arrived-part : (net : NetPlan) (nodes : List NodeIs) (f : Frame) (fate : Fate)
+    (P : ℕ → NodeIs → Type 0) → ((k : ℕ) → P k (part_of nodes k))
+    → (is_here (part_of nodes f.to) ≡ true
     → P f.to (with_frame (part_of nodes f.to) (fell (part_of nodes f.to) f.kind f.id) f))
-    → (k : ℕ) → P k (part_of (arrived nodes f (arrival nodes fate f)) k)
-arrived-part nodes f fate P all at =
-    cond_both (arrives nodes fate f.to) (Some (fell (part_of nodes f.to) f.kind f.id)) None (λ x.
+    → (k : ℕ) → P k (part_of (arrived nodes f (arrival net nodes fate f)) k)
+arrived-part net nodes f fate P all at =
+    cond_both (arrives net nodes fate f) (Some (fell (part_of nodes f.to) f.kind f.id)) None (λ x.
     (k : ℕ) → P k (part_of (arrived nodes f x) k))
-    (λ (y : arrives nodes fate f.to ≡ true). each-put P nodes (fresh false) f.to _ all
-    (at (arrives-here _ _ y)))
+    (λ (y : arrives net nodes fate f ≡ true). each-put P nodes (fresh false) f.to _ all
+    (at (arrives-here (is_here (part_of nodes f.to)) _ _ y)))
     (λ _. all)
 
-pub length-arrived : (nodes : List NodeIs) (fate : Fate) (f : Frame)
-    → length (arrived nodes f (arrival nodes fate f)) ≡ length nodes
-length-arrived nodes fate f =
-    cond_both (arrives nodes fate f.to) (Some (fell (part_of nodes f.to) f.kind f.id)) None
+pub length-arrived : (net : NetPlan) (nodes : List NodeIs) (fate : Fate) (f : Frame)
+    → length (arrived nodes f (arrival net nodes fate f)) ≡ length nodes
+length-arrived net nodes fate f =
+    cond_both (arrives net nodes fate f) (Some (fell (part_of nodes f.to) f.kind f.id)) None
     (λ x. length (arrived nodes f x) ≡ length nodes) (λ _. length-set _ _ _) (λ _. refl)
 
 -- what is said of the node, of each place
@@ -592,21 +605,21 @@ sent-other : (net : NetPlan) (h : List RingEntry) (n m : ℕ) (heard : Heard) (f
     → RingFollows n (h ++ Send m heard ∷ []) (sent_one net r m f)
 sent-other net h n m heard f fs other r holds box i =
     let fate = fate_at net.fates r.sent in
-    let nodes = arrived r.nodes f (arrival r.nodes fate f) in
+    let nodes = arrived r.nodes f (arrival net r.nodes fate f) in
     let from : IsOwn m f = (subst (λ (l : List Frame). Each (IsOwn m) l) box (i.frames m)).0 in
     let mine : (k : ℕ) → If n (NodeFollows n (own n h) r.holder) k (part_of nodes k) =
-    arrived-part r.nodes f fate (If n (NodeFollows n (own n h) r.holder))
+    arrived-part net r.nodes f fate (If n (NodeFollows n (own n h) r.holder))
     (λ k e. subst (λ (x : ℕ). NodeFollows n (own n h) r.holder (part_of r.nodes x)) (sym e) i.node)
     (λ here e. came-node n m (own n h) r.holder (part_of r.nodes f.to) f from e other
     (λ x. other (sym holds ∙ x)) here (subst (λ
     (x : ℕ). NodeFollows n (own n h) r.holder (part_of r.nodes x)) (sym e) i.node)) in
-    let frames : (k : ℕ) → OwnBox k (part_of nodes k) = arrived-part r.nodes f fate OwnBox i.frames
-    (λ here. subst (Each
+    let frames : (k : ℕ) → OwnBox k (part_of nodes k) =
+    arrived-part net r.nodes f fate OwnBox i.frames (λ here. subst (Each
     (IsOwn f.to)) (sym (fell-outbox (part_of r.nodes f.to) f f.kind)) (i.frames f.to)) in
-    let c' = heard_by (part_of nodes m) f.kind f.id (is_here (ring_node r f.to))
-    (heard_of fate (arrival r.nodes fate f)) in
+    let c' = heard_by (part_of nodes m) f.kind f.id (hears net r.nodes f.to (is_onward f))
+    (heard_of fate (arrival net r.nodes fate f)) in
     record {
-      size = length-set _ _ _ ∙ (length-arrived r.nodes fate f ∙ i.size);
+      size = length-set _ _ _ ∙ (length-arrived net r.nodes fate f ∙ i.size);
       node = subst (λ (x : NodeIs). NodeFollows n (own n (h ++ Send m heard ∷ [])) r.holder x)
           (sym (at-other nodes m n c' (λ x. other (sym x))))
           (subst (λ (l : List RingEntry). NodeFollows n l r.holder (part_of nodes n))
@@ -621,19 +634,19 @@ sent-own : (net : NetPlan) (h : List RingEntry) (n : ℕ) (heard : Heard) (f : F
     → RingFollows n (h ++ Send n heard ∷ []) (sent_one net r n f)
 sent-own net h n heard f fs range r holds box i =
     let fate = fate_at net.fates r.sent in
-    let nodes = arrived r.nodes f (arrival r.nodes fate f) in
+    let nodes = arrived r.nodes f (arrival net r.nodes fate f) in
     let from : IsOwn n f = (subst (λ (l : List Frame). Each (IsOwn n) l) box (i.frames n)).0 in
     let same : part_of nodes n ≡ ring_node r n =
-    arrived-part r.nodes f fate (If n (λ c. c ≡ ring_node r n))
+    arrived-part net r.nodes f fate (If n (λ c. c ≡ ring_node r n))
     (λ k e. ap (part_of r.nodes) e) (λ here e. absurd (to-other n f f.kind from e)) n refl in
-    let frames : (k : ℕ) → OwnBox k (part_of nodes k) = arrived-part r.nodes f fate OwnBox i.frames
-    (λ here. subst (Each
+    let frames : (k : ℕ) → OwnBox k (part_of nodes k) =
+    arrived-part net r.nodes f fate OwnBox i.frames (λ here. subst (Each
     (IsOwn f.to)) (sym (fell-outbox (part_of r.nodes f.to) f f.kind)) (i.frames f.to)) in
-    let there = is_here (ring_node r f.to) in
-    let told = heard_of fate (arrival r.nodes fate f) in
+    let there = hears net r.nodes f.to (is_onward f) in
+    let told = heard_of fate (arrival net r.nodes fate f) in
     let c = part_of nodes n in
     let c' = heard_by c f.kind f.id there told in
-    let size : length nodes ≡ addresses = length-arrived r.nodes fate f ∙ i.size in
+    let size : length nodes ≡ addresses = length-arrived net r.nodes fate f ∙ i.size in
     let now : NodeFollows n (own n h) r.holder c = subst (NodeFollows n (own n h) r.holder)
     (sym same) i.node in
     let b' = own n h ++ Send n heard ∷ [] in
@@ -677,15 +690,18 @@ send-step : (net : NetPlan) (h : List RingEntry) (n m : ℕ) (heard : Heard) →
 send-step net h n m heard range s r is i =
     let t : IsTimelyEntry net h r (Send m heard) =
     subst (λ (x : RingIs). IsTimelyEntry net h x (Send m heard)) (sym is) s.1 in
-    sent-step net h n m heard (ring_node r m).outbox range r (turn-holds r m (first-none _ _ t.0)) refl i
+    sent-step net h n m heard (ring_node r m).outbox range r (turn-holds r m (first-none _ _ t.0))
+    refl i
 
 -- all eight, and lists of them
 step-follows : (net : NetPlan) (h : List RingEntry) (n : ℕ) (e : RingEntry) → n < addresses
     → IsPatient (status_at net h n) n e
     → IsRingStep net h e → (r : RingIs) → r ≡ ring_after net h → RingFollows n h r
     → RingFollows n (h ++ e ∷ []) (after net r e)
-step-follows net h n (Post m f) range patient s r is i = post-step net h n m f range patient s r is i
-step-follows net h n (Send m heard) range patient s r is i = send-step net h n m heard range s r is i
+step-follows net h n (Post m f) range patient s r is i =
+    post-step net h n m f range patient s r is i
+step-follows net h n (Send m heard) range patient s r is i =
+    send-step net h n m heard range s r is i
 step-follows net h n (Take m f) range patient s r is i = take-step net h n m f range s r is i
 step-follows net h n (Local m id op result) range patient s r is i =
     local-step net h n (Local m id op result) r (λ p now. refl) (λ p now. refl) i
@@ -717,7 +733,8 @@ get_or-same (suc k) x zero = refl
 get_or-same (suc k) x (suc p) = get_or-same k x p
 
 abbrev IsFresh : NodeIs → Type 0
-IsFresh c = (c.paths ≡ replicate path_places no_path) × (c.outbox ≡ []) × (c.inbox ≡ []) × (c.tries ≡ 0)
+IsFresh c = (c.paths ≡ replicate path_places no_path) × (c.outbox ≡ []) × (c.inbox ≡ [])
+    × (c.tries ≡ 0)
 
 joined-fresh : (nodes : List NodeIs) (ms : List ℕ) → ((k : ℕ) → IsFresh (part_of nodes k)) → (k : ℕ)
     → IsFresh (part_of (with_members nodes ms) k)

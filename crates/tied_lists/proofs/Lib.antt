@@ -6,3 +6,4 @@ pub mod Steps
 pub mod Turns
 pub mod Growth
 pub mod Asked
+pub mod Routes

@@ -1,5 +1,5 @@
 -- What a node's part follows, its own list being known, and as others go on.
-use Rattle.std.proofs.Common.{◌≡◌, ◌≢◌, ℕ, zero, suc, ◌+◌, ◌<◌, ◌≤◌, ◌==◌, ◌&&◌, Bool, true}
+use Rattle.std.proofs.Common.{◌≡◌, ◌≢◌, ℕ, zero, suc, ◌<◌, ◌==◌, Bool, true}
 use Rattle.std.proofs.Common.{false, cond, List, [], ◌∷◌, ◌++◌, get_or, set, length}
 use Rattle.std.proofs.Common.{All, Option, Some, None, refl, sym, ap}
 use Rattle.std.proofs.Common.{◌∙◌, subst, inl, inr, ◌⊎◌, ⊎_elim, arith, get_or-set_same}
@@ -96,7 +96,7 @@ free-holds r m e = ⊎_elim (λ (x : (r.holder == m) ≡ true). inl (eqb-true r.
 
 pub taken-none : (a : Await) → taken_no a ≡ None → a ≡ Nothing
 taken-none Nothing e = refl
-taken-none (Out seq to passes) e = absurd (cc)
+taken-none (Out seq to onward passes) e = absurd (cc)
 taken-none (Arrived seq) e = absurd (cc)
 taken-none (Failed seq word) e = absurd (cc)
 
@@ -114,12 +114,13 @@ other-none out seq e = cond_both (out == seq) None (Some (NotAwaited out))
 
 pub awaited-none : (a : Await) (seq : ℕ) → awaited_no a seq ≡ None → awaited_number a ≡ seq
 awaited-none Nothing seq e = absurd (cc)
-awaited-none (Out out to passes) seq e = other-none out seq e
+awaited-none (Out out to onward passes) seq e = other-none out seq e
 awaited-none (Arrived out) seq e = other-none out seq e
 awaited-none (Failed out word) seq e = other-none out seq e
 
 -- the low addresses
-pub low : (net : NetPlan) (n : ℕ) → All (λ m. m < addresses) net.members → IsMember net n → n < addresses
+pub low : (net : NetPlan) (n : ℕ) → All (λ m. m < addresses) net.members → IsMember net n
+    → n < addresses
 low net n all member = All-contains (λ m. m < addresses) net.members n all member
 
 pub at-same : (nodes : List NodeIs) (n : ℕ) (c : NodeIs) → length nodes ≡ addresses → n < addresses
@@ -161,7 +162,8 @@ own-after n h s e c mine size is node frames = record {
 pub own-step : (n : ℕ) (h : List RingEntry) (r : RingIs) (e : RingEntry) (holder' : ℕ) (c : NodeIs)
     → n < addresses → maker e ≡ n
     → NodeFollows n (own n h ++ e ∷ []) holder' c → OwnBox n c → RingFollows n h r
-    → RingFollows n (h ++ e ∷ []) (record { holder = holder'; sent = r.sent; nodes = set r.nodes n c })
+    → RingFollows n (h ++ e ∷ [])
+    (record { holder = holder'; sent = r.sent; nodes = set r.nodes n c })
 own-step n h r e holder' c range mine node box i =
     own-after n h (record { holder = holder'; sent = r.sent; nodes = set r.nodes n c }) e c mine
     (length-set _ _ _ ∙ i.size) (at-same r.nodes n c i.size range) node
@@ -195,14 +197,16 @@ came-in n b holder holder' c s is not_mine i = record {
   left = λ out. i.left (was-out s is out);
   busy = ⊎_elim (λ (x : AsksNothing c.outbox). inl x)
       (λ (y : (holder ≡ n) ⊎ (is_here c ≡ false)). ⊎_elim
-      (λ (z : holder ≡ n). absurd (not_mine z)) (λ (z : is_here c ≡ false). was-busy s is z) y) i.busy;
+      (λ (z : holder ≡ n). absurd (not_mine z)) (λ (z : is_here c ≡ false). was-busy s is z) y)
+      i.busy;
   asking = λ (e : admitted_status c.status ≡ Asking). absurd
       (none-asks s (ap admitted_status (sym is) ∙ e));
 }
   where
     was-out : (s : NodeStatus) → c.status ≡ s → is_here (admitted c) ≡ false → is_here c ≡ false
     was-out In e out = ap is_in e
-        ∙ (let no' : true ≡ false = sym (ap (λ x. is_in (admitted_status x)) e) ∙ out in absurd (cc))
+        ∙ (let no' : true ≡ false = sym (ap (λ x. is_in (admitted_status x)) e)
+        ∙ out in absurd (cc))
     was-out Away e out = ap is_in e
     was-out Asking e out = ap is_in e
     was-out Gone e out = ap is_in e

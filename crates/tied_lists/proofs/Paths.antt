@@ -1,8 +1,8 @@
 -- What the paths and boxes of a node follow: its own list.
-use Rattle.std.proofs.Common.{◌≡◌, ◌≢◌, ℕ, zero, suc, ◌+◌, ◌<◌, ◌≤◌, ◌==◌, ◌&&◌, Bool, true}
+use Rattle.std.proofs.Common.{◌≡◌, ◌≢◌, ℕ, zero, suc, ◌<◌, ◌≤◌, ◌==◌, ◌&&◌, Bool, true}
 use Rattle.std.proofs.Common.{false, cond, not, List, [], ◌∷◌, ◌++◌, get_or, set, map, drop, length}
 use Rattle.std.proofs.Common.{count_by, Option, Some, None, refl, sym, ap, ◌∙◌, subst}
-use Rattle.std.proofs.Common.{◌⊎◌, ⊎_elim, arith, get_or-set_same, get_or-set_other}
+use Rattle.std.proofs.Common.{⊎_elim, arith, get_or-set_same, get_or-set_other}
 use Rattle.std.specs.List.{AllByRecursion as Each}
 use Rattle.std.proofs.lemmas.Bool.{eqb-true, eq-eqb, ne_eqb, cases_eq}
 use Rattle.std.proofs.lemmas.Bool.{cond-true, cond-false}
@@ -10,7 +10,7 @@ use Rattle.std.proofs.lemmas.List.{length-set}
 use Rattle.ring_core.specs.declared.path.Await.{Await}
 use Rattle.ring_core.specs.declared.path.Await.TheVariants.{Nothing, Out, Arrived, Failed}
 use Rattle.ring_core.specs.declared.path.Path.{Path}
-use Rattle.ring_core.specs.Words.{asks, is_same_call, asks_for}
+use Rattle.ring_core.specs.Words.{asks, is_onward, is_same_call, asks_for}
 use Rattle.ring_core.specs.Machine.{NodeIs, no_path, path_of, path_places, waits_for, awaiting}
 use Rattle.ring_core.specs.Machine.{aged, aged_await, gave_up}
 use Rattle.ring_core.specs.Machine.{awaited_number}
@@ -163,10 +163,11 @@ pub post-request : (n : ℕ) (b : List RingEntry) (ps : List Path) (out box : Li
     → (get_or ps f.id.path no_path).awaits ≡ Nothing
     → (get_or ps f.id.path no_path).posted < f.id.seq → Follows n b ps out box tries
     → Follows n (b ++ Post n f ∷ []) (set ps f.id.path
-    (record { awaits = Out f.id.seq f.to 0; posted = f.id.seq })) (out ++ f ∷ []) box tries
+    (record { awaits = Out f.id.seq f.to (is_onward f) 0; posted = f.id.seq }))
+    (out ++ f ∷ []) box tries
 post-request n b ps out box tries f kind own to path free above i =
     let q = f.id.path in
-    let v : Path = record { awaits = Out f.id.seq f.to 0; posted = f.id.seq } in
+    let v : Path = record { awaits = Out f.id.seq f.to (is_onward f) 0; posted = f.id.seq } in
     let e = Post n f in
     let low : q < path_places = let k = path.1 in omega (arith, k) in
     let range : q < length ps = let s = i.size in omega (arith, s, low) in
@@ -294,7 +295,7 @@ others-kept n q seq ps v Request g id own path number mine other o = out-apart p
   where
     out-number : (a : Await) (s : ℕ) → waits_for a s ≡ true → awaited_number a ≡ s
     out-number Nothing s w = absurd (let no' : false ≡ true = w in cc)
-    out-number (Out out to passes) s w = eqb-true out s w
+    out-number (Out out to onward passes) s w = eqb-true out s w
     out-number (Arrived out) s w = absurd (let no' : false ≡ true = w in cc)
     out-number (Failed out word) s w = absurd (let no' : false ≡ true = w in cc)
 
@@ -372,8 +373,8 @@ fail-request n b c f fs box tries tries' word kind low few i =
     failed-awaits : (a : Await) (s : ℕ) (w : Option Frame) → waits_for a s ≡ true → AwaitsThis a w
         → AwaitsThis (Failed s word) w
     failed-awaits Nothing s w o k = absurd (let no' : false ≡ true = o in cc)
-    failed-awaits (Out out to passes) s None o k = absurd k
-    failed-awaits (Out out to passes) s (Some g) o k = sym (eqb-true out s o) ∙ k
+    failed-awaits (Out out to onward passes) s None o k = absurd k
+    failed-awaits (Out out to onward passes) s (Some g) o k = sym (eqb-true out s o) ∙ k
     failed-awaits (Arrived out) s w o k = absurd (let no' : false ≡ true = o in cc)
     failed-awaits (Failed out x) s w o k = absurd (let no' : false ≡ true = o in cc)
 
@@ -441,8 +442,8 @@ come-reply n b c sent box tries f kind own low out none i =
     arrived-awaits : (a : Await) (s : ℕ) (w : Option Frame) → waits_for a s ≡ true → AwaitsThis a w
         → AwaitsThis (Arrived s) w
     arrived-awaits Nothing s w o k = absurd (let no' : false ≡ true = o in cc)
-    arrived-awaits (Out o' to passes) s None o k = absurd k
-    arrived-awaits (Out o' to passes) s (Some g) o k = sym (eqb-true o' s o) ∙ k
+    arrived-awaits (Out o' to onward passes) s None o k = absurd k
+    arrived-awaits (Out o' to onward passes) s (Some g) o k = sym (eqb-true o' s o) ∙ k
     arrived-awaits (Arrived o') s w o k = absurd (let no' : false ≡ true = o in cc)
     arrived-awaits (Failed o' x) s w o k = absurd (let no' : false ≡ true = o in cc)
 
@@ -459,8 +460,8 @@ length-aged (x ∷ xs) = ap suc (length-aged xs)
 aged-awaits : (a : Await) (w : Option Frame) → AwaitsThis a w → AwaitsThis (aged_await a) w
 aged-awaits Nothing None k = tt
 aged-awaits Nothing (Some f) k = absurd k
-aged-awaits (Out s to passes) None k = absurd k
-aged-awaits (Out s to passes) (Some f) k = k
+aged-awaits (Out s to onward passes) None k = absurd k
+aged-awaits (Out s to onward passes) (Some f) k = k
 aged-awaits (Arrived s) None k = absurd k
 aged-awaits (Arrived s) (Some f) k = k
 aged-awaits (Failed s word) None k = absurd k

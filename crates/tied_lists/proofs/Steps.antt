@@ -1,18 +1,19 @@
 -- The laws of a station and its node, as both lists go on.
-use Rattle.std.proofs.Common.{◌≡◌, ◌≢◌, ℕ, ◌==◌, true, false, cond, List, [], ◌∷◌, ◌++◌, map}
+use Rattle.std.proofs.Common.{◌≡◌, ℕ, ◌==◌, true, false, cond, List, [], ◌∷◌, ◌++◌, map}
 use Rattle.std.proofs.Common.{filter_map, Option, Some, None, refl, sym, ap, ◌∙◌}
 use Rattle.std.proofs.Common.{append_assoc, append-nil, eq-eqb, ne_eqb, subst, arith, ◌<◌, ◌≤◌}
 use Rattle.std.specs.List.{AllByRecursion as Each, cons_option}
 use Rattle.std.proofs.lemmas.Bool.{cond-true, cond-false}
 use Rattle.std.proofs.lemmas.List.Elements.{filter_map-append}
-use Rattle.ring_core.specs.Statistics.{is_stats}
+use Rattle.ring_core.specs.Statistics.{is_for_stats}
+use Rattle.ring_core.specs.Words.{frame_route}
 use Rattle.tied_lists.specs.Words.{CallId, Request, Reply, Frame, MstrResult}
 use Rattle.tied_lists.specs.Words.{LocalOp, RingEntry, Post, Take, Local}
 use Rattle.tied_lists.specs.Words.{GiveUp, Leave, Down}
 use Rattle.tied_lists.specs.Items.{Asked, Called, Answered, Kind}
 use Rattle.tied_lists.specs.Items.{NetCall, LocalCall, Outcome, Came, Station, Items}
 use Rattle.tied_lists.specs.Items.{net_ask, kind_in, asked_in, asked_of, asked_by, last_asked}
-use Rattle.tied_lists.specs.Items.{Taken, Plain, ForStats, taken_in, taken_of, taken_by, Item}
+use Rattle.tied_lists.specs.Items.{Taken, Plain, ForStats, taken_in, taken_of, taken_by, RequestItem}
 use Rattle.tied_lists.specs.Items.{item_of, plain_items, stats_items, request_of, reply_of}
 use Rattle.tied_lists.specs.Items.{answered_of, port_answers, replied_in, replied_of}
 use Rattle.tied_lists.specs.Items.{replied_by, replies_in, due_replies, outcome_of_reply}
@@ -79,7 +80,8 @@ no-more-downs : (a : Items) (b c : List RingEntry) → downs_by c ≡ [] → Dow
     → DownsAreFails a (b ++ c)
 no-more-downs a b c none t = subst
     (λ (l : List ℕ). RiseAbove 0 l × Each (λ k. k ≤ a.fails) l)
-    (sym (filter_map-append down_of b c ∙ (ap (λ l. downs_by b ++ l) none ∙ append-nil (downs_by b))))
+    (sym (filter_map-append down_of b c
+    ∙ (ap (λ l. downs_by b ++ l) none ∙ append-nil (downs_by b))))
     t
 
 rise-push : (m : ℕ) (ks : List ℕ) (k : ℕ) → RiseAbove m ks → last_from m ks < k
@@ -124,36 +126,41 @@ ends-append station asked (x ∷ b) c =
 
 plain-append : (ts us : List Taken) → plain_items (ts ++ us) ≡ plain_items ts ++ plain_items us
 plain-append [] us = refl
-plain-append (Plain id pdu ∷ ts) us =
-    ap (λ (l : List Item). (id, Some pdu) ∷ l) (plain-append ts us)
+plain-append (Plain id rest pdu ∷ ts) us =
+    ap (λ (l : List RequestItem). record { id = id; rest = rest; request = Some pdu } ∷ l)
+    (plain-append ts us)
 plain-append (ForStats id pdu ∷ ts) us = plain-append ts us
 
 stats-append : (ts us : List Taken) → stats_items (ts ++ us) ≡ stats_items ts ++ stats_items us
 stats-append [] us = refl
-stats-append (Plain id pdu ∷ ts) us = stats-append ts us
+stats-append (Plain id rest pdu ∷ ts) us = stats-append ts us
 stats-append (ForStats id pdu ∷ ts) us =
-    ap (λ (l : List Item). (id, Some pdu) ∷ l) (stats-append ts us)
+    ap (λ (l : List RequestItem). record { id = id; rest = []; request = Some pdu } ∷ l)
+    (stats-append ts us)
 
 cons-tail : {X : Type 0} (x y : X) (xs ys : List X) → x ∷ xs ≡ y ∷ ys → xs ≡ ys
 cons-tail x y xs ys e = cc
 
 -- no answer is missing, so what is due composes
-pub due-append : (ts us : List Taken) (ps qs ls ms : List Answered) → map item_of ps ≡ plain_items ts
+pub due-append : (ts us : List Taken) (ps qs ls ms : List Answered)
+    → map item_of ps ≡ plain_items ts
     → map item_of ls ≡ stats_items ts
     → due_replies (ts ++ us) (replies_in (ps ++ qs)) (replies_in (ls ++ ms)) ≡ due_replies ts
     (replies_in ps) (replies_in ls) ++ due_replies us (replies_in qs) (replies_in ms)
 due-append [] us [] qs [] ms p l = refl
 due-append [] us [] qs (y ∷ ls) ms p l = absurd (cc)
 due-append [] us (x ∷ ps) qs ls ms p l = absurd (cc)
-due-append (Plain j q ∷ ts) us [] qs ls ms p l = absurd (cc)
-due-append (Plain j q ∷ ts) us (x ∷ ps) qs ls ms p l =
+due-append (Plain j more q ∷ ts) us [] qs ls ms p l = absurd (cc)
+due-append (Plain j more q ∷ ts) us (x ∷ ps) qs ls ms p l =
+    let first : RequestItem = record { id = j; rest = more; request = Some q } in
     ap (cons_option (due_reply j (Some x.reply))) (due-append ts us ps qs ls ms
-    (cons-tail (item_of x) (j, Some q) (map item_of ps) (plain_items ts) p) l)
+    (cons-tail (item_of x) first (map item_of ps) (plain_items ts) p) l)
     ∙ cons-append (due_reply j (Some x.reply)) _ _
 due-append (ForStats j q ∷ ts) us ps qs [] ms p l = absurd (cc)
 due-append (ForStats j q ∷ ts) us ps qs (x ∷ ls) ms p l =
+    let first : RequestItem = record { id = j; rest = []; request = Some q } in
     ap (cons_option (due_reply j (Some x.reply))) (due-append ts us ps qs ls
-    ms p (cons-tail (item_of x) (j, Some q) (map item_of ls) (stats_items ts) l))
+    ms p (cons-tail (item_of x) first (map item_of ls) (stats_items ts) l))
     ∙ cons-append (due_reply j (Some x.reply)) _ _
 
 -- what is added keeps the laws by itself
@@ -201,17 +208,20 @@ tied-adds station rest rest' a a' b c answers t m downs =
 -- a Request that was served
 pub tied-served : (station : Station) (rest : List Called) (a : Items) (b : List RingEntry) (n : ℕ)
     (f g : Frame) (reply : List ℕ)
-    → f.kind ≡ Request → is_stats f.pdu ≡ false → g.kind ≡ Reply → g.id ≡ f.id → g.pdu ≡ reply
+    → f.kind ≡ Request → is_for_stats f ≡ false → g.kind ≡ Reply → g.id ≡ f.id → g.pdu ≡ reply
     → TiedBut station rest a b → TiedBut station rest
-    (with_answer a (record { id = f.id; request = Some f.pdu; reply = Some reply }))
+    (with_answer a
+    (record { id = f.id; rest = f.rest; request = Some f.pdu; reply = Some reply }))
     (b ++ (Take n f ∷ Post n g ∷ []))
 tied-served station rest a b n f g reply kind plain gkind gid gpdu t =
-    let answer : Answered = record { id = f.id; request = Some f.pdu; reply = Some reply } in
+    let answer : Answered =
+    record { id = f.id; rest = f.rest; request = Some f.pdu; reply = Some reply } in
     let c = Take n f ∷ Post n g ∷ [] in
     let none : asked_by c ≡ [] = ap (λ k. cons_option (asked_in k g) []) gkind in
-    let taken : taken_by c ≡ Plain f.id f.pdu ∷ [] = ap (λ k. cons_option (taken_in k f) []) kind
+    let taken : taken_by c ≡ Plain f.id f.rest f.pdu ∷ [] =
+    ap (λ k. cons_option (taken_in k f) []) kind
     ∙ ap (λ x. x ∷ []) (cond-false
-    (is_stats f.pdu) (ForStats f.id f.pdu) (Plain f.id f.pdu) plain) in
+    (is_for_stats f) (ForStats f.id f.pdu) (Plain f.id f.rest f.pdu) plain) in
     let posted : replied_by c ≡ (f.id, Some reply) ∷ [] =
     ap (λ k. cons_option (replied_in k g) []) gkind ∙ (λ i. (gid i, Some (gpdu i)) ∷ []) in
     tied-adds station rest rest a _ b c (answer ∷ []) t (record {
@@ -227,15 +237,18 @@ tied-served station rest a b n f g reply kind plain gkind gid gpdu t =
 
 -- a Request that came without power
 pub tied-off : (station : Station) (rest : List Called) (a : Items) (b : List RingEntry) (n : ℕ)
-    (f : Frame) → f.kind ≡ Request → is_stats f.pdu ≡ false
+    (f : Frame) → f.kind ≡ Request → is_for_stats f ≡ false
     → TiedBut station rest a b → TiedBut station rest
-    (with_answer a (record { id = f.id; request = Some f.pdu; reply = None })) (b ++ Take n f ∷ [])
+    (with_answer a (record { id = f.id; rest = f.rest; request = Some f.pdu; reply = None }))
+    (b ++ Take n f ∷ [])
 tied-off station rest a b n f kind plain t =
-    let answer : Answered = record { id = f.id; request = Some f.pdu; reply = None } in
+    let answer : Answered =
+    record { id = f.id; rest = f.rest; request = Some f.pdu; reply = None } in
     let c = Take n f ∷ [] in
-    let taken : taken_by c ≡ Plain f.id f.pdu ∷ [] = ap (λ k. cons_option (taken_in k f) []) kind
+    let taken : taken_by c ≡ Plain f.id f.rest f.pdu ∷ [] =
+    ap (λ k. cons_option (taken_in k f) []) kind
     ∙ ap (λ x. x ∷ []) (cond-false
-    (is_stats f.pdu) (ForStats f.id f.pdu) (Plain f.id f.pdu) plain) in
+    (is_for_stats f) (ForStats f.id f.pdu) (Plain f.id f.rest f.pdu) plain) in
     tied-adds station rest rest a _ b c (answer ∷ []) t (record {
       asks = refl;
       calls = refl;
@@ -250,19 +263,21 @@ tied-off station rest a b n f kind plain t =
 -- statistics that were told
 pub tied-told : (station : Station) (rest : List Called) (a : Items) (b : List RingEntry) (n : ℕ)
     (f g : Frame) (op : LocalOp)
-    (result : MstrResult) → f.kind ≡ Request → is_stats f.pdu ≡ true → (f.id.node ≡ n → ⊥)
+    (result : MstrResult) → f.kind ≡ Request → is_for_stats f ≡ true → (f.id.node ≡ n → ⊥)
     → request_of op ≡ Some f.pdu → g.kind ≡ Reply → g.id ≡ f.id → g.pdu ≡ reply_of result
     → TiedBut station rest a b
     → TiedBut station rest a (b ++ (Take n f ∷ Local n f.id op result ∷ Post n g ∷ []))
 tied-told station rest a b n f g op result kind stats other op_is gkind gid gpdu t =
     let c = Take n f ∷ Local n f.id op result ∷ Post n g ∷ [] in
     let answer : Answered =
-    record { id = f.id; request = request_of op; reply = Some (reply_of result) } in
+    record { id = f.id; rest = []; request = request_of op; reply = Some (reply_of result) } in
+    let told : Option (List ℕ) → RequestItem =
+    λ o. record { id = f.id; rest = []; request = o } in
     let not_own : (f.id.node == n) ≡ false = ne_eqb f.id.node n other in
     let none : asked_by c ≡ [] = ap (λ k. cons_option (asked_in k g) []) gkind in
     let taken : taken_by c ≡ ForStats f.id f.pdu ∷ [] = ap (λ k. cons_option (taken_in k f) []) kind
     ∙ ap (λ x. x ∷ []) (cond-true
-    (is_stats f.pdu) (ForStats f.id f.pdu) (Plain f.id f.pdu) stats) in
+    (is_for_stats f) (ForStats f.id f.pdu) (Plain f.id f.rest f.pdu) stats) in
     let posted : replied_by c ≡ (f.id, Some (reply_of result)) ∷ [] =
     ap (λ k. cons_option (replied_in k g) []) gkind ∙ (λ i. (gid i, Some (gpdu i)) ∷ []) in
     let port : port_answers c ≡ answer ∷ [] =
@@ -278,7 +293,7 @@ tied-told station rest a b n f g op result kind stats other op_is gkind gid gpdu
       answers_are = sym (append-nil a.answers);
       peers = ap plain_items (sym taken);
       port = ap (map item_of) port
-          ∙ (ap (λ (o : Option (List ℕ)). (f.id, o) ∷ []) op_is ∙ ap stats_items (sym taken));
+          ∙ (ap (λ (o : Option (List ℕ)). told o ∷ []) op_is ∙ ap stats_items (sym taken));
       replies = posted ∙ (λ i. due_replies (sym taken i) [] (replies_in (sym port i)));
       ends = sym (ap (λ l. a.ends ++ l) no_end ∙ append-nil a.ends);
     }) (no-more-downs a b c refl t.downs)
@@ -344,11 +359,11 @@ tied-down station rest a b n k above failed t =
 -- a call that is posted
 pub tied-posted : (station : Station) (rest : List Called) (call : Called) (a : Items)
     (b : List RingEntry) (n : ℕ) (f : Frame) → f.kind ≡ Request
-    → net_ask call ≡ Some (record { id = f.id; to = f.to; pdu = f.pdu })
+    → net_ask call ≡ Some (record { id = f.id; route = frame_route f; pdu = f.pdu })
     → TiedBut station (call ∷ rest) a b → TiedBut station rest a (b ++ Post n f ∷ [])
 tied-posted station rest call a b n f kind is t =
     let c = Post n f ∷ [] in
-    let ask : Asked = record { id = f.id; to = f.to; pdu = f.pdu } in
+    let ask : Asked = record { id = f.id; route = frame_route f; pdu = f.pdu } in
     let asked : asked_by c ≡ ask ∷ [] = ap (λ k. cons_option (asked_in k f) []) kind in
     let posted : replied_by c ≡ [] = ap (λ k. cons_option (replied_in k f) []) kind in
     tied-adds station (call ∷ rest) rest a a b c [] t (record {
@@ -374,7 +389,8 @@ tied-done station rest call a b n op result none own made t =
     tied-ended station rest a b (Local n call.id op result) call.id (LocalCall op)
     (Came result) refl refl
     (cond-true (call.id.node == n) None
-    (Some (record { id = call.id; request = request_of op; reply = Some (reply_of result) })) mine)
+    (Some (record
+    { id = call.id; rest = []; request = request_of op; reply = Some (reply_of result) })) mine)
     refl refl
     (cond-true (call.id.node == n) (Some
     (record { id = call.id; kind = Some (LocalCall op); outcome = Came result })) None mine) made
@@ -396,7 +412,8 @@ pub tied-got : (station : Station) (rest : List Called) (a : Items) (b : List Ri
 tied-got station rest a b n f kind made t =
     tied-ended station rest a b (Take n f) f.id NetCall
     (outcome_of_reply station (last_asked f.id (asked_by b)) f.pdu) refl (ap
-    (λ k. taken_in k f) kind) refl refl refl (ap (λ k. ended_in station (asked_by b) k f) kind) made t
+    (λ k. taken_in k f) kind) refl refl refl (ap (λ k. ended_in station (asked_by b) k f) kind) made
+    t
 
 pub tied-given_up : (station : Station) (rest : List Called) (a : Items) (b : List RingEntry)
     (id : CallId) (word : ℕ) → kind_in a.calls id ≡ Some NetCall

@@ -1,8 +1,8 @@
 -- What a node's own call finds and leaves.
-use Rattle.std.proofs.Common.{◌≡◌, ◌≢◌, ℕ, ◌+◌, ◌*◌, ◌-◌, ◌<◌, ◌≤◌, ◌==◌, ◌&&◌, Bool, true}
+use Rattle.std.proofs.Common.{◌≡◌, ◌≢◌, ℕ, ◌<◌, ◌==◌, Bool, true}
 use Rattle.std.proofs.Common.{false, cond, List, [], ◌∷◌, ◌++◌, set, map}
 use Rattle.std.proofs.Common.{Option, Some, None, refl, sym, ap, ◌∙◌}
-use Rattle.std.proofs.Common.{subst, inl, inr, ◌⊎◌, ⊎_elim, arith, append-nil, append_assoc}
+use Rattle.std.proofs.Common.{subst, inl, inr, ⊎_elim, arith, append-nil, append_assoc}
 use Rattle.std.proofs.Common.{get_or-set_same}
 use Rattle.std.specs.List.{AllByRecursion as Each}
 use Rattle.std.proofs.lemmas.Bool.{eq-eqb}
@@ -13,7 +13,7 @@ use Rattle.ring_core.specs.Words.{maker, asks}
 use Rattle.ring_core.specs.Machine.{NodeIs, RingIs, addresses, fresh, part_of}
 use Rattle.ring_core.specs.Machine.{ring_node, posted, took, gave_up, after, opening, is_here}
 use Rattle.ring_core.specs.Machine.{ring_after, after_pass, is_in, admitted, admitted_status}
-use Rattle.ring_core.specs.Machine.{left_with}
+use Rattle.ring_core.specs.Machine.{gone_by}
 use Rattle.ring_core.specs.Legal.{IsFirst, IsRingStep}
 use Rattle.ring_core.specs.Legal.{IsRun, IsLegalRing}
 use Rattle.ring_core.specs.Stability.{IsLeaveOrJoin, NoLeaveOrJoin, NoneBy, Stays}
@@ -120,7 +120,8 @@ patient-parts net n past (x ∷ xs) ys all =
       subst (λ (l : List RingEntry). ArePatient net n l ys) (append_assoc past (x ∷ []) xs) more.1,
     )
 
-pub patient-joined : (net : NetPlan) (n : ℕ) (past xs ys : List RingEntry) → ArePatient net n past xs
+pub patient-joined : (net : NetPlan) (n : ℕ) (past xs ys : List RingEntry)
+    → ArePatient net n past xs
     → ArePatient net n (past ++ xs) ys → ArePatient net n past (xs ++ ys)
 patient-joined net n past [] ys one more =
     subst (λ (l : List RingEntry). ArePatient net n l ys) (append-nil past) more
@@ -131,7 +132,8 @@ patient-joined net n past (x ∷ xs) ys one more = (
       more),
 )
 
-pub patient-other : (status : NodeStatus) (n : ℕ) (e : RingEntry) → maker e ≢ n → IsPatient status n e
+pub patient-other : (status : NodeStatus) (n : ℕ) (e : RingEntry) → maker e ≢ n
+    → IsPatient status n e
 patient-other status n (Post m f) other = λ mine. absurd (other mine)
 patient-other status n (Send m heard) other = tt
 patient-other status n (Take m f) other = tt
@@ -192,7 +194,7 @@ pub found-at : (net : NetPlan) (n : ℕ) (before between : List RingEntry)
 found-at net n before between legal none free =
     let run = (legal-parts net before between legal).1 in
     ⊎_elim (λ (h : Holds net before n).
-    let s : Stays (ring_after net before) (ring_after net (before ++ between)) n =
+    let s : Stays net (ring_after net before) (ring_after net (before ++ between)) n =
     holders-keep net before between n run h.here h.holder (none-by n between none) in
     let now : Holds net (before ++ between) n =
     record { holder = s.holder ∙ h.holder; here = ap is_here s.part ∙ h.here } in
@@ -378,7 +380,7 @@ left_status Spent = Gone
 left_status (Down number) = Away
 
 left-stands : (cause : LeaveCause) (c : NodeIs)
-    → (admitted (left_with cause c)).status ≡ left_status cause
+    → (admitted (gone_by cause c)).status ≡ left_status cause
 left-stands Ended c = refl
 left-stands Spent c = refl
 left-stands (Down number) c = refl
@@ -394,7 +396,7 @@ pub leave-status : (net : NetPlan) (n : ℕ) (before : List RingEntry) (cause : 
 leave-status net n before cause after' m =
     ap (λ (r : RingIs). (ring_node r n).status) m.ring_is
     ∙ (ap (λ (c : NodeIs). c.status)
-    (handed-part net n m.past (left_with cause (part net m.past n)) m.on)
+    (handed-part net n m.past (gone_by cause (part net m.past n)) m.on)
     ∙ left-stands cause (part net m.past n))
 
 pub after-leave : (net : NetPlan) (n : ℕ) (before : List RingEntry) (cause : LeaveCause)
@@ -432,7 +434,7 @@ pub record Awaited (n : ℕ) (b : List RingEntry) (f : Frame) : Type 0 where
 awaits-some : (p seq : ℕ) (a : Await) (w : Option Frame) → a ≡ Arrived seq → AwaitsThis a w
     → (g : Frame) × (w ≡ Some g) × (g.id.seq ≡ seq)
 awaits-some p seq Nothing w e k = absurd (cc)
-awaits-some p seq (Out s to passes) w e k = absurd (cc)
+awaits-some p seq (Out s to onward passes) w e k = absurd (cc)
 awaits-some p seq (Failed s word) w e k = absurd (cc)
 awaits-some p seq (Arrived s) None e k = absurd k
 awaits-some p seq (Arrived s) (Some g) e k = let same : s ≡ seq = cc in (g, refl, sym k ∙ same)

@@ -24,10 +24,15 @@ abbrev pub IsAbove : CallId → List Called → Type 0
 IsAbove id calls =
     AllByRecursion (λ (c : Called). c.id.path ≡ id.path → c.id.seq < id.seq) calls
 
+-- A route leads to another node: it has a first address, which is not the node's own.
+abbrev pub LeadsAway : ℕ → List ℕ → Type 0
+LeadsAway n [] = ⊥
+LeadsAway n (to ∷ rest) = to ≢ n
+
 -- A network call goes to another node, on one of the four paths; a call at home takes path 0.
 abbrev pub FitsSort : ℕ → List Called → CallId → CallSort → Type 0
-FitsSort n earlier id (OverNet to pdu) =
-    (to ≢ n) × IsPath id.path × (0 < id.seq) × IsAbove id earlier
+FitsSort n earlier id (OverNet route pdu) =
+    LeadsAway n route × IsPath id.path × (0 < id.seq) × IsAbove id earlier
 FitsSort n earlier id (AtHome op) = HasRoom op × (id.path ≡ 0)
 
 -- A call on the same path was made, and has not ended.

@@ -6,22 +6,22 @@ use Rattle.std.specs.List.{cons_option}
 use Rattle.modbus_pdu.specs.Spelling.{reply_bytes}
 use Rattle.modbus_pdu.specs.declared.reply.Reply.TheVariants as replies
 pub use Rattle.mstr_block.specs.Call.{words_told}
-use Rattle.ring_core.specs.Words.{is_same_call}
+use Rattle.ring_core.specs.Words.{is_same_call, frame_route}
 use Rattle.tied_lists.specs.Words.{CallId, MstrResult, Bad, FrameKind, Request, Reply, Frame}
 use Rattle.tied_lists.specs.Words.{LocalOp, RemoteGet, RemoteClear, RingEntry, Post, Take, Local}
 use Rattle.tied_lists.specs.Words.{GiveUp, LeaveCause, Ended as AllDone, Spent, Down, Leave}
-use Rattle.ring_core.specs.Statistics.{get_statistics, clear_statistics, is_stats}
+use Rattle.ring_core.specs.Statistics.{get_statistics, clear_statistics, is_for_stats}
 use Rattle.reply_laws.specs.Result.{no_result, result_of}
 
--- A request that a station asks another for.
+-- A request that a station asks another for, and the route by which it goes.
 pub record Asked : Type 0 where
   pub id : CallId
-  pub to : ℕ
+  pub route : List ℕ
   pub pdu : List ℕ
 
--- What a call is: a request to another node, or an operation at the own one.
+-- What a call is: a request by a route to another node, or an operation at the own one.
 pub data CallSort : Type 0 where
-  OverNet : (to : ℕ) (pdu : List ℕ) → CallSort
+  OverNet : (route pdu : List ℕ) → CallSort
   AtHome : (op : LocalOp) → CallSort
 
 -- A call that a station made.
@@ -29,10 +29,11 @@ pub record Called : Type 0 where
   pub id : CallId
   pub sort : CallSort
 
--- A request that was answered; no request where nobody can have asked for it, and no reply where
--- it came without power.
+-- A request that was answered, with the addresses behind the station to which it was still to go;
+-- no request where nobody can have asked for it, and no reply where it came without power.
 pub record Answered : Type 0 where
   pub id : CallId
+  pub rest : List ℕ
   pub request : Option (List ℕ)
   pub reply : Option (List ℕ)
 
@@ -41,7 +42,7 @@ pub data Kind : Type 0 where
   NetCall : Kind
   LocalCall : (op : LocalOp) → Kind
 
--- What a call ended with: at a controller a result, at a host a reply or a word.
+-- What a call ended with: at a controller a result, at a host or a bridge a reply or a word.
 pub data Outcome : Type 0 where
   Came : (result : MstrResult) → Outcome
   Replied : (pdu : List ℕ) → Outcome
@@ -57,6 +58,7 @@ pub record Ended : Type 0 where
 pub data Station : Type 0 where
   AController : Station
   AHost : Station
+  ABridge : Station
 
 -- What the laws read of a station's list, with how often its power failed.
 pub record Items : Type 0 where
@@ -69,11 +71,11 @@ pub record Items : Type 0 where
 abbrev pub net_ask : Called → Option Asked
 net_ask c = asks_as c.id c.sort where
   asks_as : CallId → CallSort → Option Asked
-  asks_as id (OverNet to pdu) = Some (record { id = id; to = to; pdu = pdu })
+  asks_as id (OverNet route pdu) = Some (record { id = id; route = route; pdu = pdu })
   asks_as id (AtHome op) = None
 
 abbrev pub kind_of_sort : CallSort → Kind
-kind_of_sort (OverNet to pdu) = NetCall
+kind_of_sort (OverNet route pdu) = NetCall
 kind_of_sort (AtHome op) = LocalCall op
 
 -- The kind of the call of this name.
@@ -83,7 +85,7 @@ kind_in (c ∷ cs) id = if is_same_call c.id id then Some (kind_of_sort c.sort) 
 
 -- A Request that is posted.
 abbrev pub asked_in : FrameKind → Frame → Option Asked
-asked_in Request f = Some (record { id = f.id; to = f.to; pdu = f.pdu })
+asked_in Request f = Some (record { id = f.id; route = frame_route f; pdu = f.pdu })
 asked_in Reply f = None
 
 abbrev pub asked_of : RingEntry → Option Asked
@@ -103,13 +105,15 @@ last_asked id [] = None
 last_asked id (a ∷ rest) =
     or_some (last_asked id rest) (if is_same_call a.id id then Some a.pdu else None)
 
--- A Request that is taken: for the statistics of the station, or for its controller or host.
+-- A Request that is taken: for the statistics of the station, or for its controller, host or bridge,
+-- which reads the addresses behind the station too.
 pub data Taken : Type 0 where
-  Plain : (id : CallId) (pdu : List ℕ) → Taken
+  Plain : (id : CallId) (rest pdu : List ℕ) → Taken
   ForStats : (id : CallId) (pdu : List ℕ) → Taken
 
 abbrev pub taken_in : FrameKind → Frame → Option Taken
-taken_in Request f = Some (if is_stats f.pdu then ForStats f.id f.pdu else Plain f.id f.pdu)
+taken_in Request f =
+    Some (if is_for_stats f then ForStats f.id f.pdu else Plain f.id f.rest f.pdu)
 taken_in Reply f = None
 
 abbrev pub taken_of : RingEntry → Option Taken
@@ -119,22 +123,26 @@ taken_of _ = None
 abbrev pub taken_by : List RingEntry → List Taken
 taken_by b = filter_map taken_of b
 
--- A name with a request or a reply; none where it is missing.
-abbrev pub Item : Type 0
-Item = CallId × Option (List ℕ)
+-- A request under its name, with the addresses behind the station; none where it is missing.
+pub record RequestItem : Type 0 where
+  pub id : CallId
+  pub rest : List ℕ
+  pub request : Option (List ℕ)
 
-abbrev pub item_of : Answered → Item
-item_of a = (a.id, a.request)
+abbrev pub item_of : Answered → RequestItem
+item_of a = record { id = a.id; rest = a.rest; request = a.request }
 
-abbrev pub plain_items : List Taken → List Item
+abbrev pub plain_items : List Taken → List RequestItem
 plain_items [] = []
-plain_items (Plain id pdu ∷ ts) = (id, Some pdu) ∷ plain_items ts
+plain_items (Plain id rest pdu ∷ ts) =
+    record { id = id; rest = rest; request = Some pdu } ∷ plain_items ts
 plain_items (ForStats id pdu ∷ ts) = plain_items ts
 
-abbrev pub stats_items : List Taken → List Item
+abbrev pub stats_items : List Taken → List RequestItem
 stats_items [] = []
-stats_items (Plain id pdu ∷ ts) = stats_items ts
-stats_items (ForStats id pdu ∷ ts) = (id, Some pdu) ∷ stats_items ts
+stats_items (Plain id rest pdu ∷ ts) = stats_items ts
+stats_items (ForStats id pdu ∷ ts) =
+    record { id = id; rest = []; request = Some pdu } ∷ stats_items ts
 
 -- The request that an operation for another node answers; none where it answers nobody's.
 abbrev pub request_of : LocalOp → Option (List ℕ)
@@ -151,6 +159,7 @@ reply_of result = reply_bytes (replies.Stats (words_told result))
 abbrev pub answered_for : ℕ → CallId → LocalOp → MstrResult → Option Answered
 answered_for n id op result = if id.node == n then None else Some (record {
   id = id;
+  rest = [];
   request = request_of op;
   reply = Some (reply_of result);
 })
@@ -162,6 +171,10 @@ answered_of _ = None
 -- What the port itself answered: statistics.
 abbrev pub port_answers : List RingEntry → List Answered
 port_answers b = filter_map answered_of b
+
+-- A name with a reply; none where it is missing.
+abbrev pub Item : Type 0
+Item = CallId × Option (List ℕ)
 
 -- A Reply that is posted.
 abbrev pub replied_in : FrameKind → Frame → Option Item
@@ -197,7 +210,7 @@ due_reply id (Some (Some reply)) = Some (id, Some reply)
 -- which is the next answer of its sort.
 abbrev pub due_replies : List Taken → List (Option (List ℕ)) → List (Option (List ℕ)) → List Item
 due_replies [] peers locals = []
-due_replies (Plain id pdu ∷ ts) peers locals =
+due_replies (Plain id rest pdu ∷ ts) peers locals =
     cons_option (due_reply id (first_reply peers)) (due_replies ts (rest_of peers) locals)
 due_replies (ForStats id pdu ∷ ts) peers locals =
     cons_option (due_reply id (first_reply locals)) (due_replies ts peers (rest_of locals))
@@ -211,10 +224,12 @@ result_for (Some request) reply = result_of request reply
 abbrev pub outcome_of_reply : Station → Option (List ℕ) → List ℕ → Outcome
 outcome_of_reply AController request reply = Came (result_for request reply)
 outcome_of_reply AHost request reply = Replied reply
+outcome_of_reply ABridge request reply = Replied reply
 
 abbrev pub outcome_of_word : Station → ℕ → Outcome
 outcome_of_word AController word = Came (Bad word)
 outcome_of_word AHost word = Lacked word
+outcome_of_word ABridge word = Lacked word
 
 abbrev pub ended_in : Station → List Asked → FrameKind → Frame → Option Ended
 ended_in station asked Request f = None

@@ -1,10 +1,12 @@
 -- The five laws between a station's list and the list of its node on the ring. This project's own.
-use Rattle.std.specs.Prelude.{◌≡◌, ℕ, ◌<◌, ◌≤◌, List, [], ◌∷◌, ◌++◌, map, filter_map}
-use Rattle.std.specs.List.{AllByRecursion}
+use Rattle.std.specs.Prelude.{◌≡◌, ℕ, ◌<◌, ◌≤◌, Bool, not, List, [], ◌∷◌, ◌++◌, map, filter}
+use Rattle.std.specs.Prelude.{filter_map}
+use Rattle.std.specs.List.{AllByRecursion, list_any}
+use Rattle.ring_core.specs.Words.{is_same_call}
 use Rattle.tied_lists.specs.Words.{RingEntry}
 use Rattle.tied_lists.specs.Items.{Station, Items, Called, net_ask, asked_by, item_of, plain_items}
 use Rattle.tied_lists.specs.Items.{stats_items, taken_by, port_answers, replied_by, due_replies}
-use Rattle.tied_lists.specs.Items.{replies_in, ended_by, downs_by}
+use Rattle.tied_lists.specs.Items.{replies_in, ended_by, downs_by, ABridge, Answered, Item}
 
 -- The Requests posted are, in order, those of the station's network calls.
 abbrev pub AsksAreCalls : Items → List RingEntry → Type 0
@@ -62,3 +64,27 @@ pub record TiedBut (station : Station) (rest : List Called) (a : Items) (b : Lis
   pub replies : RepliesAreDue a b
   pub ends : EndsAreMet station a b
   pub downs : DownsAreFails a b
+
+-- ---- The end of a bridge, which gives replies back as they come, and never loses its power.
+
+-- A Reply is to a request that the port answered.
+abbrev pub is_port_reply : List Answered → Item → Bool
+is_port_reply answers item = list_any (λ (a : Answered). is_same_call a.id item.0) answers
+
+-- The Replies posted that are the port's are, in order, its answers; the others are, in order, what
+-- the bridge gave back.
+pub record RepliesAreBacks (backs : List Item) (b : List RingEntry) : Type 0 where
+  pub given : filter (λ (item : Item). not (is_port_reply (port_answers b) item)) (replied_by b)
+      ≡ backs
+  pub told : filter (is_port_reply (port_answers b)) (replied_by b)
+      ≡ map (λ (a : Answered). (a.id, a.reply)) (port_answers b)
+
+-- The entries of a bridge with one of its ends, by their items and by what they gave back, and the
+-- own list of that end's node keep all of the laws.
+pub record TiedEnd (a : Items) (backs : List Item) (b : List RingEntry) : Type 0 where
+  pub asks : AsksAreCalls a b
+  pub peers : PeersAreTaken a b
+  pub port : PortIsTaken b
+  pub replies : RepliesAreBacks backs b
+  pub ends : EndsAreMet ABridge a b
+  pub downs : downs_by b ≡ []

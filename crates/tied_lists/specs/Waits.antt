@@ -59,7 +59,7 @@ pub record IsAsk (n p : ℕ) (f : Frame) : Type 0 where
 -- What a path awaits is the number of the Request that it waits for, or nothing for none.
 abbrev pub AwaitsThis : Await → Option Frame → Type 0
 AwaitsThis Nothing None = Unit {0}
-AwaitsThis (Out seq to passes) (Some f) = seq ≡ f.id.seq
+AwaitsThis (Out seq to onward passes) (Some f) = seq ≡ f.id.seq
 AwaitsThis (Arrived seq) (Some f) = seq ≡ f.id.seq
 AwaitsThis (Failed seq word) (Some f) = seq ≡ f.id.seq
 AwaitsThis _ _ = ⊥

@@ -11,7 +11,7 @@ use Rattle.time_judge.specs.declared.counts.NotedCounts.{NotedCounts}
 use Rattle.time_judge.specs.Counts.{noted_is, NotedAre}
 
 asks-none : (s : Noted) (kind : CallKind) → (noted_next s (asking kind)).answers ≡ s.answers
-asks-none s (call_kinds.Net to pdu) = refl
+asks-none s (call_kinds.Net route pdu) = refl
 asks-none s (call_kinds.Local op) = refl
 
 abbrev Left : NotedCounts → List Bool → List Call → Noted
@@ -20,7 +20,8 @@ Left counts answers calls = tally noted_next (noted_is counts answers) (map aski
 pub calls-step : (calls : List Call) (i : ℕ) (x : Call) → i < length calls → x ≡ get_or calls i x
     → (now next : NotedCounts)
     → ((answers : List Bool) → NotedAre (noted_next (noted_is now answers) (asking x.kind)) next)
-    → (answers : List Bool) → Left next answers (drop (i + 1) calls) ≡ Left now answers (drop i calls)
+    → (answers : List Bool) → Left next answers (drop (i + 1) calls)
+    ≡ Left now answers (drop i calls)
 calls-step calls i x low is now next counted answers =
     let s = noted_next (noted_is now answers) (asking x.kind) in
     let same : noted_is next answers ≡ s =

@@ -1,10 +1,10 @@
 -- What the judge tests is whether the next entry has its cause.
-use Rattle.std.proofs.Common.{◌≡◌, ℕ, ◌+◌, ◌≤◌, ◌⊎◌, ◌==◌, Bool, true, false, List, [], ◌∷◌, ◌++◌}
-use Rattle.std.proofs.Common.{refl, ap, subst, inl, inr, ⊎_elim, arith, ◌∙◌}
+use Rattle.std.proofs.Common.{◌≡◌, ℕ, ◌+◌, ◌≤◌, ◌⊎◌, ◌==◌, Bool, true, false, List, [], ◌∷◌}
+use Rattle.std.proofs.Common.{refl, ap, subst, inl, inr, arith, ◌∙◌}
 use Rattle.std.specs.Prelude.{suc, length, get_or, map, ◌<◌}
 use Rattle.std.specs.List.{AllByRecursion as Each}
 use Rattle.std.proofs.lemmas.List.{get_or_default}
-use Rattle.ring_core.specs.Statistics.{is_stats}
+use Rattle.ring_core.specs.Statistics.{is_for_stats}
 use Rattle.ring_core.specs.declared.frame.FrameKind.{FrameKind}
 use Rattle.ring_core.specs.declared.frame.FrameKind.TheVariants.{Request, Reply}
 use Rattle.ring_core.specs.declared.entry.LeaveCause.{LeaveCause}
@@ -13,7 +13,8 @@ use Rattle.ring_core.specs.declared.entry.RingEntry.{RingEntry}
 use Rattle.ring_core.specs.declared.entry.RingEntry.TheVariants.{Post, Send, Take, Local, GiveUp}
 use Rattle.ring_core.specs.declared.entry.RingEntry.TheVariants.{Pass, Leave, Join}
 use Rattle.one_order.specs.Merges.{tally}
-use Rattle.entry_causes.specs.Causes.{StationEntry, Noted, Done, done_next, posting, taking, working}
+use Rattle.entry_causes.specs.Causes.{StationEntry, Noted, Done}
+use Rattle.entry_causes.specs.Causes.{done_next, posting, taking, working}
 use Rattle.entry_causes.specs.Causes.{leaving, doings, ready, note, deed, AreCaused}
 use Rattle.entry_causes.proofs.Counts.{note-grows, still-ready}
 use Rattle.entry_causes.proofs.Ready.{ready-requests, ready-port}
@@ -124,7 +125,7 @@ leave-moves answers d (Down number) = quiet answers d _ refl refl
 
 deed-moves : (answers : List Bool) (d : Done) (r : RingEntry) → Moves answers d (deed d r)
 deed-moves answers d (Post n f) = post-moves answers d f.kind
-deed-moves answers d (Take n f) = take-moves answers d f.kind (is_stats f.pdu)
+deed-moves answers d (Take n f) = take-moves answers d f.kind (is_for_stats f)
 deed-moves answers d (Local n id op result) = work-moves answers d (id.node == n)
 deed-moves answers d (GiveUp id word) = quiet answers d _ refl refl
 deed-moves answers d (Send n heard) = quiet answers d _ refl refl
@@ -155,37 +156,6 @@ deed-can noted done next answers requests may r m is f =
       port_answers = let x = f.port_answers in omega (arith, x, e, g);
       replies =
           let x = f.replies in let y = m.may_is in let z = moves.grows in omega (arith, x, h, y, z);
-      ends = let x = f.ends in omega (arith, x, j);
-      downs = let x = f.downs in omega (arith, x, k);
-      joins = let x = f.joins in omega (arith, x, l);
-    }
-
-pub deed-cannot : (noted : NotedCounts) (done next : DoneCounts) (answers requests : List Bool)
-    (may : ℕ) (r : RingEntry) → MayPost noted done answers requests may
-    → CountsAre (deed (done_is done requests) r) next
-    → AreCaused (noted_is noted answers) (deed (done_is done requests) r)
-    → AreCausedWith may noted next
-deed-cannot noted done next answers requests may r m is f =
-    let moves = deed-moves answers (done_is done requests) r in
-    let a = ap (λ (x : Done). x.posted) is in
-    let b = ap (λ (x : Done). x.worked_port) is in
-    let c = ap (λ (x : Done). x.taken) is in
-    let e = ap (λ (x : Done). x.taken_port) is in
-    let g = ap (λ (x : Done). x.answered_port) is in
-    let h = ap (λ (x : Done). x.replies) is in
-    let j = ap (λ (x : Done). x.over) is in
-    let k = ap (λ (x : Done). x.down) is in
-    let l = ap (λ (x : Done). x.joined) is in
-    let old = m.caused.replies in
-    let y = m.may_is in
-    record {
-      posts = let x = f.posts in omega (arith, x, a);
-      port_works = let x = f.port_works in omega (arith, x, b);
-      answers = let x = f.answers in omega (arith, x, c);
-      port_answers = let x = f.port_answers in omega (arith, x, e, g);
-      replies = ⊎_elim
-          (λ same. omega (arith, same, old, y, h))
-          (λ same. let x = f.replies in omega (arith, same, x, y, h)) moves.kept;
       ends = let x = f.ends in omega (arith, x, j);
       downs = let x = f.downs in omega (arith, x, k);
       joins = let x = f.joins in omega (arith, x, l);

@@ -38,19 +38,6 @@ pub each-append : (ring : List RingEntry) (a b : List (Log StationEntry)) → Ea
 each-append ring [] b x y = y
 each-append ring (log ∷ a) b x y = (x.0, each-append ring a b x.1 y)
 
-pub first-left : (ring : List RingEntry) (a b : List (Log StationEntry)) (at : Standstill)
-    → StandsStillFirst ring a at → StandsStillFirst ring (a ++ b) at
-first-left ring a b at x = record {
-  before = x.before;
-  log = x.log;
-  after = x.after ++ b;
-  logs_are =
-      ap (λ (l : List (Log StationEntry)). l ++ b) x.logs_are
-      ∙ append_assoc x.before (x.log ∷ x.after) b;
-  in_time = x.in_time;
-  here = x.here;
-}
-
 pub first-right : (ring : List RingEntry) (a b : List (Log StationEntry)) (at : Standstill)
     → Each (IsInTime ring) a → StandsStillFirst ring b at → StandsStillFirst ring (a ++ b) at
 first-right ring a b at x y = record {

@@ -253,7 +253,8 @@ reaches-done n known ring left (p ∷ due) now noted done next answers requests 
     walk k =
     let d = done_is done requests in
     let r = get_or ring p no_entry in
-    let all : moved ≡ (deed d r).requests = m ∙ next-requests d (r ∷ entries_at no_entry ring due) in
+    let all : moved ≡ (deed d r).requests = m
+    ∙ next-requests d (r ∷ entries_at no_entry ring due) in
     let same : done_is next moved ≡ deed d r = ap (done_is next) all ∙ is in
     record {
       stands = deed-kept-by n known ring left (p ∷ due) now (noted_is noted answers) d
@@ -279,16 +280,6 @@ left-within f n all left ring due s d k =
     let c = length-map all f in
     let e = length-map left f in
     omega (arith, a, b, c, e)
-
-pub note-less : {X : Type 0} (f : X → StationEntry) (left now : List X) (s : Noted) (d : Done)
-    → now ≡ drop 1 left → CanNote s d (map f left) → length now < length left
-note-less f [] now s d q c = absurd c
-note-less f (e ∷ left) now s d q c = let h = ap length q in omega (arith, h)
-
-pub deed-less : (ring : List RingEntry) (due now : List ℕ) (s : Noted) (d : Done)
-    → now ≡ drop 1 due → CanDo s d (entries_at no_entry ring due) → length now < length due
-deed-less ring [] now s d q c = absurd c
-deed-less ring (p ∷ due) now s d q c = let h = ap length q in omega (arith, h)
 
 pub still : {X : Type 0} (f : X → StationEntry) (n : ℕ) (all left : List X) (ring : List RingEntry)
     (due : List ℕ) (s : Noted) (d : Done) (entries place : ℕ)

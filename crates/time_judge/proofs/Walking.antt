@@ -1,6 +1,8 @@
 -- How far Requests are answered, and how many Replies may be posted.
-use Rattle.std.proofs.Common.{◌≡◌, ℕ, zero, suc, ◌+◌, ◌-◌, ◌≤◌, ◌<◌, Bool, true, false, cond, List, []}
-use Rattle.std.proofs.Common.{◌∷◌, ◌++◌, length, take, drop, Option, Some, None, refl, sym, ap, subst}
+use Rattle.std.proofs.Common.{◌≡◌, ℕ, zero, suc, ◌+◌, ◌-◌, ◌≤◌, ◌<◌}
+use Rattle.std.proofs.Common.{Bool, true, false, cond, List, []}
+use Rattle.std.proofs.Common.{◌∷◌, ◌++◌, length, take, drop, Option}
+use Rattle.std.proofs.Common.{Some, None, refl, sym, ap, subst}
 use Rattle.std.proofs.Common.{◌∙◌, arith, nat_lt}
 use Rattle.std.specs.Prelude.{slice_get}
 use Rattle.std.proofs.lemmas.List.{take-append-drop}
@@ -86,7 +88,8 @@ station-further w rs as' port with_reply k one two =
         port_within = let x = k.port_within in omega (arith, x);
         answered = subst (AllAnswered (take (w.requests + 1) rs) (take (w.answers + 1) as'))
             (sym still) (subst (λ l. AllAnswered l (take (w.answers + 1) as') w.port) (sym r.front)
-            (subst (λ l. AllAnswered (take w.requests rs ++ true ∷ []) l w.port) (sym a.front) s.1));
+            (subst (λ l. AllAnswered (take w.requests rs ++ true ∷ []) l w.port)
+            (sym a.front) s.1));
         ready_is = ap (λ n. n + cond with_reply 1 0) k.ready_is
             ∙ (sym s.0 ∙ (λ i. ready (sym r.front i) (sym a.front i) (sym still i)));
         ready_within = let x = k.ready_within in omega (arith, x, most);

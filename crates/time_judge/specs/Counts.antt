@@ -1,6 +1,7 @@
 -- The counts that the judge keeps. This project's own.
 use Rattle.std.specs.Prelude.{◌≡◌, ℕ, ◌≤◌, List, [], ◌∷◌, map, take, length, Bool}
-use Rattle.std.specs.Prelude.{◌+◌, ◌++◌, true, false, if◌then◌else◌, nat_lt, slice_get, Option, Some, None}
+use Rattle.std.specs.Prelude.{◌+◌, ◌++◌, true, false, if◌then◌else◌}
+use Rattle.std.specs.Prelude.{nat_lt, slice_get, Option, Some, None}
 use Rattle.controller_core.specs.declared.call.Call.{Call}
 use Rattle.ring_core.specs.declared.entry.LeaveCause.TheVariants.{Ended}
 use Rattle.ring_core.specs.declared.entry.RingEntry.{RingEntry}
@@ -54,7 +55,8 @@ IsDoneAfter done doings next =
 -- The counts after a station's entry, and after calls that are handed on, whatever it answered
 -- before.
 abbrev pub IsNotedAfter : NotedCounts → StationEntry → NotedCounts → Type 0
-IsNotedAfter counts e next = (answers : List Bool) → NotedAre (note (noted_is counts answers) e) next
+IsNotedAfter counts e next = (answers : List Bool)
+    → NotedAre (note (noted_is counts answers) e) next
 
 abbrev pub AreCallsNoted : NotedCounts → List Call → NotedCounts → Type 0
 AreCallsNoted counts calls next = (answers : List Bool)
@@ -116,7 +118,8 @@ station_step w (Some with_reply) = Some (walked_on w 1 0 (if with_reply then 1 e
 abbrev pub walk_step : Walk → Option Bool → List Bool → ℕ → Option Walk
 walk_step w None answers port = None
 walk_step w (Some true) answers port = station_step w (slice_get answers w.answers)
-walk_step w (Some false) answers port = if nat_lt w.port port then Some (walked_on w 0 1 1) else None
+walk_step w (Some false) answers port =
+    if nat_lt w.port port then Some (walked_on w 0 1 1) else None
 
 -- It goes no further.
 pub record IsWholeWalk (w : Walk) (requests answers : List Bool) (port : ℕ) : Type 0 where

@@ -11,7 +11,7 @@ ghost use Rattle.time_judge.specs.Counts.{requests_after, IsAnswerOf};
 
 use controller_core::{Call, CallKind, Entry};
 use host_port::HostEntry;
-use ring_core::{FrameKind, LeaveCause, RingEntry, is_stats};
+use ring_core::{FrameKind, LeaveCause, RingEntry};
 use std::alloc::AllocError;
 
 /// Of a station's list: calls of other nodes, calls of the own port, requests answered, calls
@@ -273,7 +273,7 @@ pub(crate) fn deed_counted(done: DoneCounts, entry: &RingEntry) -> Result<DoneCo
 {
     match entry {
         RingEntry::Post { frame, .. } => post_counted(done, frame.kind),
-        RingEntry::Take { frame, .. } => take_counted(done, frame.kind, is_stats(&frame.pdu)),
+        RingEntry::Take { frame, .. } => take_counted(done, frame.kind, frame.is_for_stats()),
         RingEntry::Local { node, id, .. } => work_counted(done, id.node == *node),
         RingEntry::GiveUp { .. } => Ok(DoneCounts {
             over: one_more(done.over)?,
@@ -304,14 +304,15 @@ pub(crate) fn answer_on<E: StationItem>(
 
 /// The Requests that were taken after an entry of the ring.
 pub(crate) fn take_on(requests: &mut Vec<bool>, entry: &RingEntry) -> Result<(), AllocError>
-    ensures { OnOk result (requests.new.items ≡ requests_after requests.old.items (entry.now ∷ [])) }
+    ensures { OnOk result
+        (requests.new.items ≡ requests_after requests.old.items (entry.now ∷ [])) }
 {
     match entry {
         RingEntry::Take { frame, .. } => {
             if let FrameKind::Reply = frame.kind {
                 return Ok(());
             }
-            requests.push(!is_stats(&frame.pdu))?;
+            requests.push(!frame.is_for_stats())?;
             Ok(())
         }
         RingEntry::Post { .. } | RingEntry::Local { .. } | RingEntry::GiveUp { .. } => Ok(()),

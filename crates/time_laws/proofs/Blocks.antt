@@ -1,5 +1,5 @@
--- What a worker adds at once is due wherever each Request that was taken has its Reply: for lists of
--- entries of any sort, by their rows of the table.
+-- What a worker adds at once is due wherever each Request that was taken has its Reply: for lists
+-- of entries of any sort, by their rows of the table.
 use Rattle.std.proofs.Common.{◌≡◌, ℕ, suc, ◌+◌, ◌≤◌, Bool, true, false, List, [], ◌∷◌, ◌++◌, refl}
 use Rattle.std.proofs.Common.{sym, ◌∙◌, subst, arith}
 use Rattle.ring_core.specs.declared.entry.RingEntry.{RingEntry}
@@ -295,8 +295,10 @@ module _ {E : Type 0} (rows : E → List Noting) where
 
   -- what is neither cause nor caused
   pub still-due : (r : RingEntry) → doings r ≡ [] → IsDue [] (r ∷ [])
-  still-due r q s d f g =
-      (done-as s d r [] [] [] q f (nothing-due noting deed AreCaused s d), done-replied s d r [] q g)
+  still-due r q s d f g = (
+    done-as s d r [] [] [] q f (nothing-due noting deed AreCaused s d),
+    done-replied s d r [] q g,
+  )
 
   -- the node leaves as power failed so often
   pub down-due : (s : Noted) (d : Done) (r : RingEntry) (k : ℕ) → doings r ≡ GoesDown k ∷ []

@@ -8,7 +8,8 @@ use Rattle.plant_types.specs.declared.net.HostAsk.{HostAsk}
 use Rattle.plant_types.specs.declared.net.HostPlan.{HostPlan}
 use Rattle.plant_types.specs.declared.net.NetPlan.{NetPlan}
 use Rattle.mstr_block.specs.declared.call.CallId.{CallId}
-use Rattle.ring_core.specs.Statistics.{is_stats}
+use Rattle.ring_core.specs.Statistics.{is_for_stats}
+use Rattle.ring_core.specs.Words.{request_along}
 use Rattle.ring_core.specs.declared.frame.Frame.{Frame}
 use Rattle.ring_core.specs.declared.frame.FrameKind.{FrameKind}
 use Rattle.ring_core.specs.declared.frame.FrameKind.TheVariants.{Request, Reply}
@@ -65,7 +66,8 @@ by-grew n alone a b x y noted done g h is k =
       timely = subst (λ (l : List HostEntry). HostInTime l (own n y)) (sym g)
           (subst (λ (l : List RingEntry). HostInTime (a ++ noted) l) (sym own-is)
           (join note_host deed AreCaused no_notes no_deeds a noted (own n x) done k.timely due.0));
-      replied = subst (λ (l : List HostEntry). OwesNoReply (tally note_host no_notes l) (done_by n y))
+      replied = subst (λ (l : List HostEntry). OwesNoReply (tally note_host no_notes l)
+          (done_by n y))
           (sym g)
           (subst (λ (t : Noted). OwesNoReply t (done_by n y))
           (sym (tally-append note_host no_notes a noted))
@@ -77,7 +79,7 @@ by-grew n alone a b x y noted done g h is k =
 
 -- ---- first: served
 frame-due : (n : ℕ) (f : Frame) (kind : FrameKind) (stats : Bool) → f.kind ≡ kind
-    → is_stats f.pdu ≡ stats → (done : List RingEntry)
+    → is_for_stats f ≡ stats → (done : List RingEntry)
     → IsForeign n f → ServesKind kind n f done → IsDue (host_notes_of_kind kind f) done
 frame-due n f Reply stats p q done other is =
     due-as _ _ done _ refl is (blocks.ends-due host_notings (Answer f.id (results.Reply f.pdu))
@@ -85,8 +87,8 @@ frame-due n f Reply stats p q done other is =
 frame-due n f Request stats p q done other is =
     at stats q (subst (λ (b : Bool). ServesRequest b n f done) q is)
   where
-    at : (b : Bool) → is_stats f.pdu ≡ b → ServesRequest b n f done
-        → IsDue (host_notes_of_request (is_stats f.pdu) f) done
+    at : (b : Bool) → is_for_stats f ≡ b → ServesRequest b n f done
+        → IsDue (host_notes_of_request (is_for_stats f) f) done
     at true q' is' = due-as _ [] done _ (ap (λ (b : Bool). host_notes_of_request b f) q')
         is'.entries_are
         (blocks.tells-due host_notings (Take n f) (Local n f.id is'.op is'.result) _
@@ -105,14 +107,14 @@ frames-due n (f ∷ frames) [] other is = absurd is
 frames-due n (f ∷ frames) (p ∷ parts) other is =
     blocks.both-due host_notings (host_notes_of f) (flat_map host_notes_of frames) p
     (flat_map (λ part. part) parts)
-    (frame-due n f f.kind (is_stats f.pdu) refl refl p other.0 is.0)
+    (frame-due n f f.kind (is_for_stats f) refl refl p other.0 is.0)
     (frames-due n frames parts other.1 is.1)
 
 -- ---- second: asked
 for-request : (call : Option CallId) (due : Option HostAsk) (f : Frame)
     → request_for call due ≡ Some f → f.kind ≡ Request
 for-request (Some id) (Some ask) f is =
-    let same : record { kind = Request; to = ask.to; id = id; pdu = ask.pdu } ≡ f = cc in
+    let same : request_along id ask.route ask.pdu ≡ f = cc in
     ap (λ (g : Frame). g.kind) (sym same)
 for-request (Some id) None f is = absurd (cc)
 for-request None due f is = absurd (cc)

@@ -21,8 +21,10 @@ use Rattle.joint_history.proofs.Fails.{failures-are}
 use Rattle.tied_lists.specs.Items.{Items, no_items}
 use Rattle.one_order.specs.Merges.{tally}
 use Rattle.one_order.proofs.Merges.{Allows}
-use Rattle.entry_causes.specs.Causes.{Noting, Asks, AsksPort, Serves, Declines, Ends, Fails, HasPower}
-use Rattle.entry_causes.specs.Causes.{Noted, Done, AreCaused, asking, asking_of, deed, no_notes, note_entry}
+use Rattle.entry_causes.specs.Causes.{Noting, Asks, AsksPort, Serves}
+use Rattle.entry_causes.specs.Causes.{Declines, Ends, Fails, HasPower}
+use Rattle.entry_causes.specs.Causes.{Noted, Done, AreCaused, asking}
+use Rattle.entry_causes.specs.Causes.{asking_of, deed, no_notes, note_entry}
 use Rattle.entry_causes.specs.Causes.{noted_next, notings, ready}
 
 -- ---- events of the scan note of power alone
@@ -181,7 +183,7 @@ asked-power s (call ∷ calls) = by (λ (t : Noted). asked-power t calls) call.k
         (map asking_of calls)).failed ≡ s.failed)
         × ((tally noted_next (noted_next s (asking kind))
         (map asking_of calls)).returned ≡ s.returned)
-    by rest (call_kinds.Net to pdu) = rest (noted_next s Asks)
+    by rest (call_kinds.Net route pdu) = rest (noted_next s Asks)
     by rest (call_kinds.Local op) = rest (noted_next s AsksPort)
 
 fails-next : (s : Noted) (a : Items) (e : Entry) → s.failed ≡ a.fails

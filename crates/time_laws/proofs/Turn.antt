@@ -9,7 +9,7 @@ use Rattle.plant_types.specs.declared.net.NetPlan.{NetPlan}
 use Rattle.mstr_block.specs.declared.call.CallId.{CallId}
 use Rattle.mstr_block.specs.declared.call.MstrResult.{MstrResult}
 use Rattle.mstr_block.specs.declared.call.MstrResult.TheVariants.{Bad}
-use Rattle.ring_core.specs.Statistics.{is_stats}
+use Rattle.ring_core.specs.Statistics.{is_for_stats}
 use Rattle.ring_core.specs.declared.entry.LeaveCause.{LeaveCause}
 use Rattle.ring_core.specs.declared.entry.LocalOp.{LocalOp}
 use Rattle.ring_core.specs.declared.frame.Frame.{Frame}
@@ -148,7 +148,7 @@ finish id result = entries.Finish id result
 
 -- ---- rows of what comes and of what the port does
 pub take-is : (n : ℕ) (f : Frame) (kind : FrameKind) (stats : Bool) → f.kind ≡ kind
-    → is_stats f.pdu ≡ stats
+    → is_for_stats f ≡ stats
     → doings (Take n f) ≡ taking kind stats ∷ []
 take-is n f kind stats p q =
     subst (λ (k : FrameKind). doings (Take n f) ≡ taking k stats ∷ []) p
@@ -170,7 +170,7 @@ NamesOwn n _ = Unit {0}
 
 -- ---- first: served
 plain-due : (n : ℕ) (f : Frame) (reply : Option (List ℕ)) → f.kind ≡ Request
-    → is_stats f.pdu ≡ false
+    → is_for_stats f ≡ false
     → IsDue (peer_entry f.id f.pdu reply ∷ []) (Take n f ∷ reply_entries n f.id reply)
 plain-due n f (Some reply) p q = blocks.serves-due notings (entries.Peer f.id f.pdu reply)
     (Take n f) (Post n (reply_frame f.id reply)) refl (take-is n f Request false p q) refl
@@ -178,7 +178,7 @@ plain-due n f None p q = blocks.declines-due notings (entries.Off f.id f.pdu) (T
     (take-is n f Request false p q)
 
 served-due : (n : ℕ) (f : Frame) (kind : FrameKind) (stats : Bool) → f.kind ≡ kind
-    → is_stats f.pdu ≡ stats
+    → is_for_stats f ≡ stats
     → (noted : List Entry) (done : List RingEntry)
     → IsForeign n f → ServedAs kind stats n f noted done → IsDue noted done
 served-due n f Reply stats p q noted done other is =
@@ -198,7 +198,7 @@ by-serves : (n : ℕ) (alone alone' : Bool) (fs : List Frame) (a b : List Entry)
 by-serves n alone alone' fs a b x y p other k =
     by-grew n alone alone' a b x y p.noted p.done p.station p.node
     (in-order (IsForeign n) (IsServed n) (λ f noted done o is. served-due n f f.kind
-    (is_stats f.pdu) refl refl noted done o is) fs p.noted p.done other p.due) k
+    (is_for_stats f) refl refl noted done o is) fs p.noted p.done other p.due) k
 
 -- ---- fourth: given up
 all-good : {X : Type 0} (xs : List X) → Each (λ (x : X). Unit {0}) xs
@@ -273,7 +273,7 @@ note_calls s calls = tally noted_next s (map asking_of calls)
 
 call-caused : (s : Noted) (d : Done) (kind : CallKind) → AreCaused s d
     → AreCaused (note_call s kind) d
-call-caused s d (call_kinds.Net to pdu) f = asked-caused s d f
+call-caused s d (call_kinds.Net route pdu) f = asked-caused s d f
 call-caused s d (call_kinds.Local op) f =
     works-caused s d (s.asked_port + 1) d.worked_port f (let h = f.port_works in omega (arith, h))
 
@@ -287,7 +287,7 @@ abbrev ended : Noted → Noted
 ended s = noted_next s Ends
 
 ended-call : (s : Noted) (kind : CallKind) → note_call (ended s) kind ≡ ended (note_call s kind)
-ended-call s (call_kinds.Net to pdu) = refl
+ended-call s (call_kinds.Net route pdu) = refl
 ended-call s (call_kinds.Local op) = refl
 
 ended-calls : (s : Noted) (calls : List Call)
@@ -346,7 +346,7 @@ finish-goes s d calls id result rest later f x =
 made-due : (n : ℕ) (kind : CallKind) (id : CallId) (noted : List Entry) (done : List RingEntry)
     → id.node ≡ n → MadeAs kind n id noted done
     → CallDue kind noted done
-made-due n (call_kinds.Net to pdu) id noted done mine is s d f g calls rest later go =
+made-due n (call_kinds.Net route pdu) id noted done mine is s d f g calls rest later go =
     let q : Done = done_next d PostsRequest in
     let k = posted-caused s d f in
     let x = go (noted_next s Asks) q k
@@ -379,7 +379,7 @@ made-due n (call_kinds.Local op) id noted done mine is s d f g calls rest later 
 ended-due : (n : ℕ) (kind : CallKind) (id : CallId) (noted : List Entry) (done : List RingEntry)
     → id.node ≡ n
     → EndedAs kind n id noted done → CallDue kind noted done
-ended-due n (call_kinds.Net to pdu) id noted done mine is s d f g calls rest later go =
+ended-due n (call_kinds.Net route pdu) id noted done mine is s d f g calls rest later go =
     let q : Done = done_next d PostsRequest in
     let o : Done = done_next q IsOver in
     let s' : Noted = noted_next s Asks in

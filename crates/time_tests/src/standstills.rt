@@ -3,7 +3,7 @@ use controller_core::{Call, CallKind, Entry};
 use host_port::{HostEntry, HostResult};
 use joint_history::{ControllerLog, HostLog, Joint};
 use mstr_block::{CallId, MstrResult};
-use plant_types::{List, Pdu};
+use plant_types::{List, Pdu, Route};
 use ring_core::{Frame, FrameKind, GET_STATISTICS, LeaveCause, LocalOp, RingEntry};
 use std::alloc::{AllocError, Global};
 use std::test::Fail;
@@ -45,7 +45,7 @@ fn collect(alloc: Global, node: u8) -> Result<Entry, AllocError> {
     calls.push(Call {
         id: call_of(node),
         kind: CallKind::Net {
-            to: 9,
+            route: Route::of(&[9]),
             pdu: pdu_of(alloc, &READ)?,
         },
     })?;
@@ -99,6 +99,7 @@ fn frame_of(alloc: Global, kind: FrameKind, from: u8, bytes: &[u8]) -> Result<Fr
     Ok(Frame {
         kind,
         to: 9,
+        rest: Route::of(&[]),
         id: call_of(from),
         pdu: pdu_of(alloc, bytes)?,
     })
@@ -423,7 +424,7 @@ fn power_of_an_earlier_time_counts_once(rt: HostRuntime) -> Result<(), Fail> {
 fn ask(alloc: Global) -> Result<HostEntry, AllocError> {
     Ok(HostEntry::Ask {
         id: call_of(7),
-        to: 9,
+        route: Route::of(&[9]),
         pdu: pdu_of(alloc, &READ)?,
     })
 }

@@ -31,7 +31,7 @@ use Rattle.turn_laws.specs.Laws.{ControllersComplete}
 use Rattle.turn_laws.proofs.Off.{off-stop}
 use Rattle.turn_laws.proofs.OpenCalls.{none-open}
 use Rattle.turn_laws.proofs.Rests.{each-ended}
-use Rattle.turn_laws.proofs.ScanEnds.{NoEnds, due-once}
+use Rattle.whole_scan.proofs.ScanEnds.{NoEnds, due-once}
 
 -- ---- the last steps of all scans
 

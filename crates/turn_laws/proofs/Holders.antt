@@ -118,7 +118,7 @@ set-or (d ∷ ds) (suc m) c = ⊎_elim (λ (it : part_of (set ds m c) m ≡ c). 
     (λ (same : set ds m c ≡ ds). inr (λ i. d ∷ same i)) (set-or ds m c)
 
 none-joined : (r : RingIs) (m : ℕ) → is_in (status_of r m) ≡ false → LeavesNone r
-    → LeavesNone (Rattle.ring_core.specs.Machine.asked_in r m)
+    → LeavesNone (Rattle.ring_core.specs.Machine.made_asking r m)
 none-joined r m left is = cond_both (is_held r) _ _ LeavesNone
     (λ (held : is_held r ≡ true).
     let other : m ≢ r.holder = λ e.

@@ -1,6 +1,6 @@
 -- A host that is done goes on by refusals alone, and each of its requests has one answer.
 use Rattle.std.proofs.Common.{◌≡◌, ℕ, zero, suc, ◌+◌, ◌≤◌, ◌<◌, ◌==◌, Bool, true, false, cond}
-use Rattle.std.proofs.Common.{List, [], ◌∷◌, ◌++◌, length, filter, filter_map, map}
+use Rattle.std.proofs.Common.{List, [], ◌∷◌, ◌++◌, length, filter, filter_map}
 use Rattle.std.proofs.Common.{refl, sym, ap, subst, ◌∙◌, arith, append_assoc, append-nil}
 use Rattle.std.proofs.Common.{length-append}
 use Rattle.std.specs.Prelude.{not, ◌&&◌, ◌||◌}
@@ -18,8 +18,9 @@ use Rattle.host_port.specs.declared.entry.HostEntry.TheVariants.{Ask, Answer, Se
 use Rattle.host_port.specs.Calls.{answered_calls, has_answer, requests_in}
 use Rattle.host_port.specs.Calls.{unanswered_in}
 use Rattle.host_port.specs.Host.{host_is_done}
-use Rattle.host_port.specs.Legal.{IsHostHistory, Question, question_due, question_of, questions_in}
+use Rattle.host_port.specs.Legal.{IsHostHistory, Question, question_by, question_due, questions_in}
 use Rattle.host_port.specs.Legal.{questions_of}
+use Rattle.host_port.proofs.Next.{questions_count}
 use Rattle.host_port.proofs.Unanswered.{ended_answer, ended_ask, ended_served, requests_answer}
 use Rattle.host_port.proofs.Unanswered.{requests_ask, requests_served, unanswered_served}
 use Rattle.tied_lists.specs.Items.{Called, Ended, Items, kind_in, net_ask}
@@ -48,9 +49,7 @@ front_of plan h rest legal = record {
 }
   where
     joined : questions_in (h ++ rest) ≡ questions_in h ++ questions_in rest
-    joined =
-        ap (map question_of) (filter_map-append Rattle.host_port.specs.Calls.request_by h rest)
-        ∙ Rattle.std.proofs.lemmas.List.map-append question_of (requests_in h) (requests_in rest)
+    joined = filter_map-append question_by h rest
 
 -- no more is asked than the plan has
 pub asked-few : (plan : HostPlan) (h : List HostEntry) → IsHostHistory plan h
@@ -58,8 +57,7 @@ pub asked-few : (plan : HostPlan) (h : List HostEntry) → IsHostHistory plan h
 asked-few plan h legal =
     let all = ap length legal.order.1 in
     let two = length-append (questions_in h) legal.order.0 in
-    let asked : length (questions_in h) ≡ length (requests_in h) =
-    length-map (requests_in h) question_of in
+    let asked = questions_count h in
     let due : length (questions_of plan) ≡ length plan.requests =
     length-map plan.requests question_due in
     omega (arith, all, two, asked, due)
@@ -100,11 +98,11 @@ pub record GoesDone (plan : HostPlan) (h new : List HostEntry) : Type 0 where
 
 done-push : (plan : HostPlan) (h : List HostEntry) (e : HostEntry)
     → IsHostHistory plan (h ++ e ∷ []) → DidAll plan h → GoesDone plan h (h ++ e ∷ [])
-done-push plan h (Ask id to pdu) legal d =
-    let few = asked-few plan (h ++ Ask id to pdu ∷ []) legal in
-    let one = ap length (requests_ask h id to pdu) in
+done-push plan h (Ask id route pdu) legal d =
+    let few = asked-few plan (h ++ Ask id route pdu ∷ []) legal in
+    let one = ap length (requests_ask h id route pdu) in
     let two = length-append (requests_in h)
-    (Rattle.host_port.specs.Calls.requests_in (Ask id to pdu ∷ [])) in
+    (Rattle.host_port.specs.Calls.requests_in (Ask id route pdu ∷ [])) in
     let all = d.asked in
     absurd (omega (arith, few, one, two, all))
 done-push plan h (Answer id result) legal d =
@@ -139,13 +137,13 @@ asks-after : (a : Items) (h : List HostEntry)
     → length (filter_map net_ask (host_items_after a h).calls)
     ≡ length (filter_map net_ask a.calls) + length (requests_in h)
 asks-after a [] = omega arith
-asks-after a (Ask id to pdu ∷ h) =
-    let e = Ask id to pdu in
+asks-after a (Ask id route pdu ∷ h) =
+    let e = Ask id route pdu in
     let more = asks-after (host_item_next a e) h in
     let one = ap length (filter_map-append net_ask a.calls
-    (record { id = id; sort = Rattle.tied_lists.specs.Items.OverNet to pdu } ∷ [])) in
+    (record { id = id; sort = Rattle.tied_lists.specs.Items.OverNet route pdu } ∷ [])) in
     let two = length-append (filter_map net_ask a.calls)
-    (record { id = id; to = to; pdu = pdu } ∷ []) in
+    (record { id = id; route = route; pdu = pdu } ∷ []) in
     omega (arith, more, one, two)
 asks-after a (Answer id result ∷ h) = asks-after (host_item_next a (Answer id result)) h
 asks-after a (Served id request reply ∷ h) =
@@ -313,13 +311,13 @@ each-add requests (c ∷ cs) more a b = (a.0, each-add requests cs more a.1 b)
 asked-next : (h : List HostEntry) (e : HostEntry)
     → Each (WasAsked (requests_in h)) (host_items_of h).calls
     → Each (WasAsked (requests_in (h ++ e ∷ []))) (host_items_of (h ++ e ∷ [])).calls
-asked-next h (Ask id to pdu) all =
-    let new = Rattle.host_port.specs.Calls.requests_in (Ask id to pdu ∷ []) in
-    subst (λ (a : Items). Each (WasAsked (requests_in (h ++ Ask id to pdu ∷ []))) a.calls)
-    (sym (items_with h (Ask id to pdu)))
+asked-next h (Ask id route pdu) all =
+    let new = Rattle.host_port.specs.Calls.requests_in (Ask id route pdu ∷ []) in
+    subst (λ (a : Items). Each (WasAsked (requests_in (h ++ Ask id route pdu ∷ []))) a.calls)
+    (sym (items_with h (Ask id route pdu)))
     (subst (λ (l : List Frame). Each (WasAsked l) ((host_items_of h).calls
-    ++ record { id = id; sort = Rattle.tied_lists.specs.Items.OverNet to pdu } ∷ []))
-    (sym (requests_ask h id to pdu))
+    ++ record { id = id; sort = Rattle.tied_lists.specs.Items.OverNet route pdu } ∷ []))
+    (sym (requests_ask h id route pdu))
     (each-add (requests_in h ++ new) (host_items_of h).calls _
     (each-more (requests_in h) new (host_items_of h).calls all) (
       list_any-append (λ (request : Frame). is_same_call request.id id) (requests_in h) new

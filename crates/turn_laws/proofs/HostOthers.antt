@@ -70,7 +70,7 @@ host-others plan net list ring more left none k =
 -- a host's power never fails
 fails-after : (list : List HostEntry) (a : Items) → (host_items_after a list).fails ≡ a.fails
 fails-after [] a = refl
-fails-after (Ask id to pdu ∷ list) a = fails-after list (host_item_next a (Ask id to pdu))
+fails-after (Ask id route pdu ∷ list) a = fails-after list (host_item_next a (Ask id route pdu))
 fails-after (Answer id result ∷ list) a = fails-after list (host_item_next a (Answer id result))
 fails-after (Served id request reply ∷ list) a =
     fails-after list (host_item_next a (Served id request reply))

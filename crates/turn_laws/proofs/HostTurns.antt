@@ -25,7 +25,8 @@ use Rattle.tied_lists.specs.Waits.{status_at}
 use Rattle.joint_history.specs.Complete.{AsksAllBeforeDone, AsksInItsHolds, IsOfDone, is_pass}
 use Rattle.joint_history.specs.Complete.{RepliesBeforePasses, StaysDone}
 use Rattle.comm_port.specs.Leaving.{last_entry}
-use Rattle.joint_history.specs.Reading.{host_item_next, host_items_after, host_items_of}
+use Rattle.joint_history.specs.Reading.{answered_here, host_item_next, host_items_after}
+use Rattle.joint_history.specs.Reading.{host_items_of}
 use Rattle.comm_port.specs.HostTurns.{HoldsHostTurn, hold_of, host_at, host_cause}
 use Rattle.comm_port.proofs.Leaves.{quiet-due}
 use Rattle.time_laws.specs.InTime.{HostStaysInTime}
@@ -52,15 +53,15 @@ posted-many h b t = ap length t.asks ∙ asks-many h
 -- a list that goes on answers more
 host-answers : (a : Items) (more : List HostEntry) → AnswersMore a (host_items_after a more)
 host-answers a [] = record { more = []; is = sym (append-nil a.answers) }
-host-answers a (Ask id to pdu ∷ more) =
-    let rest = host-answers (host_item_next a (Ask id to pdu)) more in
+host-answers a (Ask id route pdu ∷ more) =
+    let rest = host-answers (host_item_next a (Ask id route pdu)) more in
     record { more = rest.more; is = rest.is }
 host-answers a (Answer id result ∷ more) =
     let rest = host-answers (host_item_next a (Answer id result)) more in
     record { more = rest.more; is = rest.is }
 host-answers a (Served id request reply ∷ more) =
     let rest = host-answers (host_item_next a (Served id request reply)) more in
-    let answer : Answered = record { id = id; request = Some request; reply = Some reply } in
+    let answer : Answered = answered_here id request (Some reply) in
     record {
       more = answer ∷ rest.more;
       is = rest.is ∙ append_assoc a.answers (answer ∷ []) rest.more;

@@ -19,7 +19,8 @@ use Rattle.ring_core.specs.declared.entry.RingEntry.TheVariants.{Pass, Leave, Jo
 use Rattle.ring_core.specs.declared.frame.FrameKind.{FrameKind}
 use Rattle.ring_core.specs.declared.frame.FrameKind.TheVariants.{Request, Reply}
 use Rattle.ring_core.specs.declared.frame.Frame.{Frame}
-use Rattle.ring_core.specs.Statistics.{is_stats}
+use Rattle.ring_core.specs.Statistics.{is_for_stats}
+use Rattle.ring_core.specs.Words.{frame_route}
 use Rattle.host_port.specs.declared.entry.HostEntry.{HostEntry}
 use Rattle.host_port.specs.Calls.{next_host_call, request_by, requests_in}
 use Rattle.host_port.specs.Host.{HostIs, due_ask, due_request, if_due, next_ask, request_for}
@@ -81,8 +82,8 @@ none-some is = cc
 
 no-ask : (e : RingEntry) (n : ℕ) (f : Frame) → IsNoAsk e → e ≡ Post n f → f.kind ≡ Request → ⊥
 no-ask e n f none is kind =
-    let some : asked_of e ≡ Some (record { id = f.id; to = f.to; pdu = f.pdu }) = ap asked_of is
-    ∙ ap (λ k. asked_in k f) kind in
+    let some : asked_of e ≡ Some (record { id = f.id; route = frame_route f; pdu = f.pdu }) =
+    ap asked_of is ∙ ap (λ k. asked_in k f) kind in
     none-some (sym none ∙ some)
 
 pub holds-more : (plan : HostPlan) (b c : List RingEntry) → Each IsNoAsk c → AsksInItsHolds plan b
@@ -207,7 +208,7 @@ kind-quiet : (n : ℕ) (f : Frame) (kind : FrameKind) (done : List RingEntry)
     → ServesKind kind n f done → IsQuiet done
 kind-quiet n f Reply done is =
     subst IsQuiet (sym is) (record { passes = (refl, tt); asks = (refl, tt) })
-kind-quiet n f Request done is = request-quiet n f (is_stats f.pdu) done is
+kind-quiet n f Request done is = request-quiet n f (is_for_stats f) done is
 
 quiet-join : (one two : List RingEntry) → IsQuiet one → IsQuiet two → IsQuiet (one ++ two)
 quiet-join one two a b = record {
@@ -230,7 +231,7 @@ request-notes false f = (refl, tt)
 
 kind-notes : (kind : FrameKind) (f : Frame) → Each IsNoRequest (host_notes_of_kind kind f)
 kind-notes Reply f = (refl, tt)
-kind-notes Request f = request-notes (is_stats f.pdu) f
+kind-notes Request f = request-notes (is_for_stats f) f
 
 all-notes : (fs : List Frame) → Each IsNoRequest (flat_map host_notes_of fs)
 all-notes [] = tt
@@ -360,7 +361,7 @@ next-ask v hold f is = at (next_host_call v.plan v.history) (due_ask v hold) ref
         }
 
 post-asked : (n : ℕ) (f : Frame) → f.kind ≡ Request
-    → asked_by (Post n f ∷ []) ≡ record { id = f.id; to = f.to; pdu = f.pdu } ∷ []
+    → asked_by (Post n f ∷ []) ≡ record { id = f.id; route = frame_route f; pdu = f.pdu } ∷ []
 post-asked n f kind = ap (λ k. cons_option (asked_in k f) []) kind
 
 posts-quiet : (n : ℕ) (asks : List Frame) → Each IsInner (map (Post n) asks)
@@ -383,7 +384,7 @@ module _ (plan : HostPlan) (n : ℕ) (hold : ℕ) where
             (let one = ap length
             (asked-join b (e ∷ []) ∙ ap (λ l. asked_by b ++ l) (post-asked n f next.kind)) in
             let two = length-append (asked_by b)
-            (record { id = f.id; to = f.to; pdu = f.pdu } ∷ []) in
+            (record { id = f.id; route = frame_route f; pdu = f.pdu } ∷ []) in
             let three = ap length (filter_map-append request_by list (ask_entry_of f ∷ [])) in
             let four = length-append (requests_in list)
             (Rattle.host_port.specs.Calls.requests_in (ask_entry_of f ∷ [])) in

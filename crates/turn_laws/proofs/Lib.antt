@@ -10,7 +10,6 @@ pub mod OpenCalls
 pub mod Noticed
 pub mod Turns
 pub mod Others
-pub mod ScanEnds
 pub mod Complete
 pub mod HostDone
 pub mod HostWent

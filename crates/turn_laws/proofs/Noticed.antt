@@ -16,7 +16,7 @@ use Rattle.tied_lists.specs.Items.{AController, Answered, Items}
 use Rattle.tied_lists.specs.Items.{no_items}
 use Rattle.tied_lists.specs.Items.{down_of, downs_by, last_from, latest_down}
 use Rattle.tied_lists.specs.Tied.{Tied}
-use Rattle.joint_history.specs.Reading.{item_next, items_after, items_of}
+use Rattle.joint_history.specs.Reading.{answered_here, item_next, items_after, items_of}
 use Rattle.comm_port.proofs.Downs.{latest-more, no-downs}
 use Rattle.turn_laws.specs.KeepsOn.{EndedNoticed}
 use Rattle.turn_laws.proofs.Passes.{AnswersMore, IsInner}
@@ -40,14 +40,14 @@ answers-after a (entries.Collect calls ∷ h) =
     let rest = answers-after (item_next a (entries.Collect calls)) h in
     record { more = rest.more; is = rest.is }
 answers-after a (entries.Peer id request reply ∷ h) =
-    let answer : Answered = record { id = id; request = Some request; reply = Some reply } in
+    let answer : Answered = answered_here id request (Some reply) in
     let rest = answers-after (item_next a (entries.Peer id request reply)) h in
     record {
       more = answer ∷ rest.more;
       is = rest.is ∙ append_assoc a.answers (answer ∷ []) rest.more;
     }
 answers-after a (entries.Off id request ∷ h) =
-    let answer : Answered = record { id = id; request = Some request; reply = None } in
+    let answer : Answered = answered_here id request None in
     let rest = answers-after (item_next a (entries.Off id request)) h in
     record {
       more = answer ∷ rest.more;

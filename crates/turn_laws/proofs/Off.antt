@@ -22,7 +22,7 @@ use Rattle.controller_core.specs.Event.{scan_steps}
 use Rattle.controller_core.specs.Replay.{ControllerState, apply, control_is_on, read_in, replay}
 use Rattle.controller_core.specs.Replay.{segment_solved, solved, start}
 use Rattle.controller_core.specs.Scans.{all_due}
-use Rattle.turn_laws.proofs.ScanEnds.{IsNoEnd, NoEnds, before-end, no-ends-before}
+use Rattle.whole_scan.proofs.ScanEnds.{IsNoEnd, NoEnds, before-end, no-ends-before}
 
 -- steps in which nothing is solved without power
 abbrev Sound : Bool → List ScanStep → Type 0

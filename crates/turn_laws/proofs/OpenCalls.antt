@@ -12,7 +12,6 @@ use Rattle.ring_core.specs.declared.frame.Frame.{Frame}
 use Rattle.ring_core.specs.Legal.{IsPath}
 use Rattle.controller_core.specs.declared.entry.Entry.{Entry}
 use Rattle.controller_core.specs.declared.fixed.Fixed.{Fixed}
-use Rattle.tied_lists.specs.Calls.{IsOut}
 use Rattle.tied_lists.specs.Items.{AController, Called, CallSort, Items, Kind, LocalCall}
 use Rattle.tied_lists.specs.Items.{NetCall, OverNet, AtHome, kind_in}
 use Rattle.tied_lists.specs.Items.{kind_of_sort, net_ask}
@@ -108,7 +107,7 @@ net-named (c ∷ cs) id is = by-sort c.sort refl (net-named cs id)
     by-sort : (sort : CallSort) → c.sort ≡ sort
         → (kind_in cs id ≡ Some NetCall → asked_named id (filter_map net_ask cs) ≡ true)
         → asked_named id (filter_map net_ask (c ∷ cs)) ≡ true
-    by-sort (OverNet to pdu) same rest =
+    by-sort (OverNet route pdu) same rest =
         ap (λ (s : CallSort).
         asked_named id (filter_map net_ask (record { id = c.id; sort = s } ∷ cs))) same
         ∙ named (is_same_call c.id id) refl is rest

@@ -51,7 +51,8 @@ starts fixed net n ring none = record {
 -- events of the scan
 pub scans : ScansKeepOn
 scans fixed net n entries more ring left legal none k = record {
-  replied = subst (λ (items : Items). RepliesBeforePasses items (own n ring)) (sym (later.items_are))
+  replied = subst (λ (items : Items). RepliesBeforePasses items (own n ring))
+      (sym (later.items_are))
       k.replied;
   stays = k.stays;
   said = λ s. let done = k.said s in subst (IsDone fixed) (sym (same done.ended)) done;

@@ -8,7 +8,7 @@ use Rattle.ring_core.specs.declared.entry.RingEntry.{RingEntry}
 use Rattle.ring_core.specs.declared.entry.RingEntry.TheVariants.{Leave}
 use Rattle.ring_core.specs.declared.status.NodeStatus.TheVariants.{Asking, Gone}
 use Rattle.ring_core.specs.Words.{maker}
-use Rattle.ring_core.specs.Machine.{NodeIs, RingIs, admitted_status, left_with, part_of, ring_after}
+use Rattle.ring_core.specs.Machine.{NodeIs, RingIs, admitted_status, gone_by, part_of, ring_after}
 use Rattle.ring_core.specs.Machine.{ring_node}
 use Rattle.ring_core.proofs.Stability.{admitted-part}
 use Rattle.tied_lists.specs.Items.{down_in}
@@ -17,7 +17,7 @@ use Rattle.tied_lists.specs.Waits.{status_at}
 use Rattle.tied_lists.proofs.Turns.{membership-kept, next-ring}
 use Rattle.turn_laws.proofs.Passes.{cons-head, cons-tail, nil-cons}
 
-left-status : (why : LeaveCause) (c : NodeIs) → down_in why ≡ None → (left_with why c).status ≡ Gone
+left-status : (why : LeaveCause) (c : NodeIs) → down_in why ≡ None → (gone_by why c).status ≡ Gone
 left-status Ended c quiet = refl
 left-status Spent c quiet = refl
 left-status (Down number) c quiet = absurd (let no' : Some number ≡ None = quiet in cc)
@@ -31,7 +31,7 @@ put-here (d ∷ ds) (suc n) c is = put-here ds n c is
 gone-now : (net : NetPlan) (n : ℕ) (why : LeaveCause) (past : List RingEntry) → down_in why ≡ None
     → status_at net (past ++ Leave n why ∷ []) n ≡ Gone
 gone-now net n why past quiet =
-    let c = left_with why (ring_node (ring_after net past) n) in
+    let c = gone_by why (ring_node (ring_after net past) n) in
     let nodes = set (ring_after net past).nodes n c in
     ap (λ (r : RingIs). (ring_node r n).status) (next-ring net past (Leave n why))
     ∙ (ap (λ (x : NodeIs). x.status) (admitted-part nodes n)

@@ -21,7 +21,8 @@ use Rattle.tied_lists.specs.Items.{taken_by, taken_of, due_replies, due_reply, P
 use Rattle.tied_lists.specs.Items.{LocalCall, Came, Answered, Items, answered_of, item_of}
 use Rattle.tied_lists.specs.Items.{plain_items, stats_items, port_answers, replies_in}
 use Rattle.tied_lists.specs.Tied.{Tied}
-use Rattle.joint_history.specs.Complete.{RepliesBeforePasses, StandsIn, StaysDone, IsOfDone, is_pass}
+use Rattle.joint_history.specs.Complete.{RepliesBeforePasses, StandsIn}
+use Rattle.joint_history.specs.Complete.{StaysDone, IsOfDone, is_pass}
 use Rattle.turn_laws.specs.KeepsOn.{SaidDone}
 
 -- ---- lists
@@ -278,8 +279,8 @@ due-later : (ts : List Taken) (peers more locals later : List (Option (List ℕ)
     → length (plain_items ts) ≤ length peers → length (stats_items ts) ≤ length locals
     → due_replies ts (peers ++ more) (locals ++ later) ≡ due_replies ts peers locals
 due-later [] peers more locals later few small = refl
-due-later (Plain id pdu ∷ ts) [] more locals later few small = absurd (omega (arith, few))
-due-later (Plain id pdu ∷ ts) (p ∷ peers) more locals later few small =
+due-later (Plain id rest pdu ∷ ts) [] more locals later few small = absurd (omega (arith, few))
+due-later (Plain id rest pdu ∷ ts) (p ∷ peers) more locals later few small =
     ap (cons_option (due_reply id (Some p)))
     (due-later ts peers more locals later (omega (arith, few)) small)
 due-later (ForStats id pdu ∷ ts) peers more [] later few small = absurd (omega (arith, small))
@@ -290,13 +291,13 @@ due-later (ForStats id pdu ∷ ts) peers more (p ∷ locals) later few small =
 plain-front : (ts us : List Taken)
     → length (plain_items ts) ≤ length (plain_items (ts ++ us))
 plain-front [] us = omega arith
-plain-front (Plain id pdu ∷ ts) us = let rest = plain-front ts us in omega (arith, rest)
+plain-front (Plain id rest pdu ∷ ts) us = let more = plain-front ts us in omega (arith, more)
 plain-front (ForStats id pdu ∷ ts) us = plain-front ts us
 
 stats-front : (ts us : List Taken)
     → length (stats_items ts) ≤ length (stats_items (ts ++ us))
 stats-front [] us = omega arith
-stats-front (Plain id pdu ∷ ts) us = stats-front ts us
+stats-front (Plain id rest pdu ∷ ts) us = stats-front ts us
 stats-front (ForStats id pdu ∷ ts) us = let rest = stats-front ts us in omega (arith, rest)
 
 replies-later : (peers more locals later : List (Option (List ℕ))) (b : List RingEntry)
@@ -353,7 +354,8 @@ replies-quiet station a a' b c t m quiet old =
     ≡ replies_in (port_answers (b ++ c)) =
     sym (ap replies_in (filter_map-append answered_of b c)
     ∙ map-append (λ (x : Answered). x.reply) (port_answers b) (port_answers c)) in
-    subst (λ (l : List (Option (List ℕ))). RepliesIn l (replies_in (port_answers (b ++ c))) (b ++ c))
+    subst (λ (l : List (Option (List ℕ))). RepliesIn l (replies_in (port_answers (b ++ c)))
+    (b ++ c))
     peers
     (subst (λ (l : List (Option (List ℕ))).
     RepliesIn (replies_in a.answers ++ replies_in m.more) l (b ++ c)) locals

@@ -20,7 +20,7 @@ use Rattle.ring_core.specs.declared.frame.Frame.{Frame}
 use Rattle.ring_core.specs.declared.entry.RingEntry.{RingEntry}
 use Rattle.ring_core.specs.declared.entry.RingEntry.TheVariants.{Post, Send, Take, Local, GiveUp}
 use Rattle.ring_core.specs.declared.entry.RingEntry.TheVariants.{Pass, Leave, Join}
-use Rattle.ring_core.specs.Words.{maker}
+use Rattle.ring_core.specs.Words.{maker, frame_route}
 use Rattle.ring_core.specs.Machine.{path_of, ring_after, ring_node}
 use Rattle.ring_core.specs.Legal.{IsFirst, IsRingStep}
 use Rattle.ring_core.specs.Refusals.{awaited_no, free_no, or_no, other_no, path_no, taken_no}
@@ -153,7 +153,7 @@ first-none (Some x) b e = absurd (let no' : Some x ≡ None = e in cc)
 free-waits : (a : Await) (w : Option Frame) → taken_no a ≡ None → AwaitsThis a w → w ≡ None
 free-waits Nothing None e k = refl
 free-waits Nothing (Some g) e k = absurd k
-free-waits (Out seq to passes) w e k = absurd (let no' : Some _ ≡ None = e in cc)
+free-waits (Out seq to onward passes) w e k = absurd (let no' : Some _ ≡ None = e in cc)
 free-waits (Arrived seq) w e k = absurd (let no' : Some _ ≡ None = e in cc)
 free-waits (Failed seq word) w e k = absurd (let no' : Some _ ≡ None = e in cc)
 
@@ -167,15 +167,15 @@ other-none out seq e =
 number-waits : (a : Await) (seq : ℕ) (g : Frame) → awaited_no a seq ≡ None → AwaitsThis a (Some g)
     → g.id.seq ≡ seq
 number-waits Nothing seq g e k = absurd k
-number-waits (Out out to passes) seq g e k = sym k ∙ other-none out seq e
+number-waits (Out out to onward passes) seq g e k = sym k ∙ other-none out seq e
 number-waits (Arrived out) seq g e k = sym k ∙ other-none out seq e
 number-waits (Failed out word) seq g e k = sym k ∙ other-none out seq e
 
 arrived-waits : (a : Await) (seq : ℕ) (g : Frame) → a ≡ Arrived seq → AwaitsThis a (Some g)
     → g.id.seq ≡ seq
 arrived-waits Nothing seq g e k = absurd k
-arrived-waits (Out out to passes) seq g e k =
-    absurd (let no' : Out out to passes ≡ Arrived seq = e in cc)
+arrived-waits (Out out to onward passes) seq g e k =
+    absurd (let no' : Out out to onward passes ≡ Arrived seq = e in cc)
 arrived-waits (Failed out word) seq g e k =
     absurd (let no' : Failed out word ≡ Arrived seq = e in cc)
 arrived-waits (Arrived out) seq g e k = let same : out ≡ seq = cc in sym k ∙ same
@@ -250,7 +250,7 @@ module _ (station : Station) (net : NetPlan) (n : ℕ) where
           ap (asked_named id)
           (asked-join b (e ∷ []) ∙ ap (λ k. asked_by b ++ cons_option (asked_in k f) []) is)
           ∙ list_any-append (λ (a : Asked). is_same_call a.id id) (asked_by b)
-          (record { id = f.id; to = f.to; pdu = f.pdu } ∷ [])
+          (record { id = f.id; route = frame_route f; pdu = f.pdu } ∷ [])
           ∙ ap (λ x. x || (is_same_call f.id id || false)) before) ∙ all))
 
       request : f.kind ≡ Request → AllWaitOrOver station (b ++ e ∷ [])

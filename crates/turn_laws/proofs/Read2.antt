@@ -17,7 +17,7 @@ use Rattle.ring_core.specs.declared.frame.FrameKind.{FrameKind}
 use Rattle.ring_core.specs.declared.frame.FrameKind.TheVariants.{Request, Reply}
 use Rattle.ring_core.specs.declared.frame.Frame.{Frame}
 use Rattle.ring_core.specs.declared.status.NodeStatus.TheVariants.{Asking, Gone}
-use Rattle.ring_core.specs.Machine.{NodeIs, RingIs, admitted, left_with, opening, part_of}
+use Rattle.ring_core.specs.Machine.{NodeIs, RingIs, admitted, gone_by, opening, part_of}
 use Rattle.ring_core.specs.Machine.{ring_after, ring_node}
 use Rattle.ring_core.specs.Stability.{NoLeaveOrJoin}
 use Rattle.ring_core.proofs.Runs.{after_all-push}
@@ -50,13 +50,12 @@ abbrev tells : List ℕ
 tells = 3 ∷ 4 ∷ 0 ∷ 42 ∷ 0 ∷ 43 ∷ []
 
 abbrev frame : FrameKind → ℕ → List ℕ → Frame
-frame kind to pdu = record { kind = kind; to = to; id = id; pdu = pdu }
+frame kind to pdu = record { kind = kind; to = to; rest = []; id = id; pdu = pdu }
 
 abbrev reader : List Entry
 reader =
-    Begin ∷ Solve 1 ∷ End ∷ Collect (record { id = id; kind = Net 5 reads } ∷ []) ∷ Finish id
-    (Good (42 ∷ 43 ∷ []))
-    ∷ Begin ∷ Solve 1 ∷ End ∷ []
+    Begin ∷ Solve 1 ∷ End ∷ Collect (record { id = id; kind = Net (5 ∷ []) reads } ∷ [])
+    ∷ Finish id (Good (42 ∷ 43 ∷ [])) ∷ Begin ∷ Solve 1 ∷ End ∷ []
 
 abbrev target : List Entry
 target = Begin ∷ Solve 1 ∷ End ∷ Peer id reads tells ∷ Begin ∷ Solve 1 ∷ End ∷ []
@@ -142,18 +141,21 @@ answers = Post 5 (frame Reply 2 tells)
 five : Whole told (own 5 ring)
 five =
     whole told 5 (taken ∷ answers ∷ Send 5 Acked ∷ Pass 5 false [] ∷ Pass 5 false [] ∷ []) refl
-    (next told (taken ∷ answers ∷ Send 5 Acked ∷ Pass 5 false [] ∷ []) (Pass 5 false []) (λ is. refl)
+    (next told (taken ∷ answers ∷ Send 5 Acked ∷ Pass 5 false [] ∷ []) (Pass 5 false [])
+    (λ is. refl)
     (λ n words is. cc)
-    (next told (taken ∷ answers ∷ Send 5 Acked ∷ []) (Pass 5 false []) (λ is. refl) (λ n words is. cc)
+    (next told (taken ∷ answers ∷ Send 5 Acked ∷ []) (Pass 5 false []) (λ is. refl)
+    (λ n words is. cc)
     (next told (taken ∷ answers ∷ []) (Send 5 Acked) (λ is. refl) (λ n words is. cc)
-    (next told (taken ∷ []) answers (λ is. absurd (let no' : false ≡ true = is in cc)) (λ n words is. cc)
+    (next told (taken ∷ []) answers (λ is. absurd (let no' : false ≡ true = is in cc))
+    (λ n words is. cc)
     (next told [] taken (λ is. refl) (λ n words is. cc) (first told))))))
 
 -- ---- who has left
 
 -- the part that a Leave writes is that of a node that is gone
 gone-part : (nodes : List NodeIs) (n : ℕ)
-    → (admitted (part_of (set nodes n (left_with Ended (part_of nodes n))) n)).status ≡ Gone
+    → (admitted (part_of (set nodes n (gone_by Ended (part_of nodes n))) n)).status ≡ Gone
 gone-part [] n = refl
 gone-part (c ∷ cs) zero = refl
 gone-part (c ∷ cs) (suc n) = gone-part cs n
@@ -168,7 +170,7 @@ has-gone net history before more n stands none =
     ap (λ (r : RingIs). (ring_node r n).status)
     (after_all-push net (opening net) before (Leave n Ended))
     ∙ ap (λ (c : NodeIs). c.status)
-    (admitted-part (set r.nodes n (left_with Ended (ring_node r n))) n)
+    (admitted-part (set r.nodes n (gone_by Ended (ring_node r n))) n)
     ∙ gone-part r.nodes n in
     subst (λ (l : List RingEntry). status_at net l n ≡ Gone)
     (append_assoc before (Leave n Ended ∷ []) more ∙ sym stands)
@@ -181,6 +183,7 @@ has-gone net history before more n stands none =
 abbrev plan : ℕ → ControllerPlan
 plan node = record {
   node = node;
+  network = 0;
   coils = 0;
   inputs = 0;
   input_registers = 0;
@@ -194,7 +197,9 @@ plan node = record {
 
 abbrev net : NetPlan
 net = record {
+  number = 0;
   members = 2 ∷ 5 ∷ [];
+  bridges = [];
   fates = D ∷ [];
   answer = 4;
   rotations = 1;

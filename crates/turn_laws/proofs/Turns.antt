@@ -194,7 +194,8 @@ module _ (laws : CallLaws) (fixed : Fixed) where
       → (m : ℕ) → Contains (b ++ c) (Leave m Ended) → EndedNoticed fixed (h ++ more) (b ++ c)
   noticed-inner h more b c legal inner old m is =
       elim (Contains-append_cases b c (Leave m Ended) is) [
-        | inl before ↦ noticed-on fixed h more b c legal (each-map IsInner IsNoDown c inner-down inner)
+        | inl before ↦ noticed-on fixed h more b c legal
+            (each-map IsInner IsNoDown c inner-down inner)
             (old m before)
         | inr now ↦ absurd (inner-apart m c inner now)
       ]
@@ -337,7 +338,8 @@ module _ (laws : CallLaws) (fixed : Fixed) where
     noticed : (m : ℕ) → Contains (own n ring ++ (went.done ++ (e ∷ gives.done))) (Leave m Ended)
         → EndedNoticed fixed (known ++ to-new) (own n ring ++ (went.done ++ (e ∷ gives.done)))
     noticed m is =
-        elim (Contains-append_cases (own n ring) (went.done ++ (e ∷ gives.done)) (Leave m Ended) is) [
+        elim (Contains-append_cases (own n ring) (went.done ++ (e ∷ gives.done))
+        (Leave m Ended) is) [
           | inl before ↦ noticed-on fixed known to-new (own n ring)
               (went.done ++ (e ∷ gives.done)) legal-all no-down (k.noticed m before)
           | inr now ↦ elim (Contains-append_cases went.done (e ∷ gives.done) (Leave m Ended) now) [
@@ -572,7 +574,8 @@ module _ (laws : CallLaws) (fixed : Fixed) where
             ∙ append_assoc known gives.more back.more;
         done = e ∷ (gives.done ++ join_entries n joined);
         own_is =
-            grew-ours alone_ring (is_of n) g.given_ring (join_entries n joined) new_ring g.comes.grew
+            grew-ours alone_ring (is_of n) g.given_ring (join_entries n joined) new_ring
+            g.comes.grew
             ∙ ap (λ l. l ++ join_entries n joined) (gives.own_is ∙ ap (λ l. l ++ gives.done) left)
             ∙ append_assoc (own n ring ++ e ∷ []) gives.done (join_entries n joined)
             ∙ append_assoc (own n ring) (e ∷ []) (gives.done ++ join_entries n joined);

@@ -1,11 +1,12 @@
 -- Once the scans have ended a visit leaves no call uncollected.
-use Rattle.std.proofs.Common.{◌≡◌, ℕ, Bool, true, false, List, [], ◌∷◌, ◌++◌, refl, sym, ap}
+use Rattle.std.proofs.Common.{◌≡◌, ◌≢◌, ℕ, Bool, true, false, List, [], ◌∷◌, ◌++◌, refl, sym, ap}
 use Rattle.std.proofs.Common.{subst, ◌∙◌, append_assoc, append-nil}
 use Rattle.std.specs.List.{AllByRecursion as Each}
 use Rattle.mstr_block.specs.Table.{has_untaken}
 use Rattle.mstr_block.specs.declared.call.CallId.{CallId}
 use Rattle.plant_types.specs.declared.net.NetPlan.{NetPlan}
 use Rattle.ring_core.specs.declared.entry.RingEntry.{RingEntry}
+use Rattle.ring_core.specs.declared.status.NodeStatus.TheVariants.{Asking}
 use Rattle.controller_core.specs.declared.call.Call.{Call}
 use Rattle.controller_core.specs.declared.call.CallKind.{CallKind}
 use Rattle.controller_core.specs.declared.call.CallKind.TheVariants as kinds
@@ -22,6 +23,7 @@ use Rattle.tied_lists.specs.Waits.{HasLeft, status_at}
 use Rattle.joint_history.specs.Reading.{controller_at, has_ended_at, has_started_at, is_off_at}
 use Rattle.joint_history.proofs.Collected.{CallLaws}
 use Rattle.comm_port.specs.HoldTurn.{CollectsIf, EndedAs, IsEnded, VisitsEnd}
+use Rattle.comm_port.specs.Order.{IsFinish}
 use Rattle.comm_port.specs.Parts.{InOrder}
 use Rattle.turn_laws.specs.Laws.{EndedStays, VisitsCollect}
 use Rattle.turn_laws.proofs.Gone.{inner-keeps, left-calm}
@@ -31,13 +33,9 @@ use Rattle.turn_laws.proofs.Went.{went-visit}
 
 -- ---- each call ends by a Finish
 
-abbrev IsFinish : Entry → Type 0
-IsFinish (entries.Finish id result) = Unit {0}
-IsFinish _ = ⊥
-
 ended-notes : (n : ℕ) (kind : CallKind) (id : CallId) (noted : List Entry) (done : List RingEntry)
     → EndedAs kind n id noted done → Each IsFinish noted
-ended-notes n (kinds.Net to pdu) id noted done is = subst (Each IsFinish) (sym is.1) (tt, tt)
+ended-notes n (kinds.Net route pdu) id noted done is = subst (Each IsFinish) (sym is.1) (tt, tt)
 ended-notes n (kinds.Local op) id noted done is = subst (Each IsFinish) (sym is.1) (tt, tt)
 
 order-notes : (n : ℕ) (calls : List Call) (noted : List Entry) (done : List RingEntry)
@@ -56,17 +54,26 @@ ended-on fixed known new_known alone added w legal ended =
     let g = ended-goes fixed known (w.between ++ added) (subst (IsLegal fixed) is legal) ended in
     (ap (has_ended_at fixed) is ∙ g.ended, ap (is_off_at fixed) is ∙ g.off)
 
-module _ (laws : CallLaws) (fixed : Fixed) where
-  follow : CallsFollow
-  follow = calls-follow laws.taking laws.finishing
+-- ---- a visit
 
+pub visit-status : (alone_ram alone_ring : Bool) (fixed : Fixed) (net : NetPlan) (n : ℕ)
+    (known new_known : List Entry) (ring new_ring : List RingEntry)
+    → VisitsEnd alone_ram alone_ring fixed net n known new_known ring new_ring
+    → status_at net ring n ≢ Asking → status_at net new_ring n ≡ status_at net ring n
+visit-status alone_ram alone_ring fixed net n known new_known ring new_ring v calm =
+    let c = v.calls in
+    let w = went-visit n alone_ram alone_ring fixed known new_known ring new_ring c in
+    inner-keeps net n ring c.goes.node.more new_ring w.done c.goes.node.after_is w.own_is w.quiet
+    calm
+
+module _ (laws : CallsFollow) (fixed : Fixed) where
   quiet-finishes : (h xs : List Entry) → Each IsFinish xs
       → has_started_at fixed (h ++ xs) ≡ has_started_at fixed h
   quiet-finishes h [] all = ap (has_started_at fixed) (append-nil h)
   quiet-finishes h (entries.Finish id result ∷ xs) all =
       ap (has_started_at fixed) (sym (append_assoc h (entries.Finish id result ∷ []) xs))
       ∙ quiet-finishes (h ++ entries.Finish id result ∷ []) xs all.1
-      ∙ (follow.finishes (controller_at fixed h) id result).started
+      ∙ (laws.finishes (controller_at fixed h) id result).started
   quiet-finishes h (entries.Begin ∷ xs) all = absurd all.0
   quiet-finishes h (entries.Input row ∷ xs) all = absurd all.0
   quiet-finishes h (entries.Solve row ∷ xs) all = absurd all.0
@@ -85,7 +92,7 @@ module _ (laws : CallLaws) (fixed : Fixed) where
       ap (λ (s : ControllerState). has_untaken (table_of s))
       (replay_more fixed (start fixed.plan) h (entries.Collect calls)
       ∙ sym (replay_more fixed (start fixed.plan) h (entries.Collect (uncollected v))))
-      ∙ (follow.collects v).started
+      ∙ (laws.collects v).started
 
   collected-by : (started : Bool) (n : ℕ) (asked noted : List Entry) (done : List RingEntry)
       → has_started_at fixed asked ≡ started → CollectsIf started (IsEnded n) noted done
@@ -100,6 +107,19 @@ module _ (laws : CallLaws) (fixed : Fixed) where
       ap (λ l. has_started_at fixed (asked ++ l)) due.0
       ∙ ap (has_started_at fixed) (append-nil asked) ∙ is
 
+  -- where nobody else writes, only the visit adds to the list
+  pub alone-collects : (alone_ring : Bool) (net : NetPlan) (n : ℕ) (known new_known : List Entry)
+      (ring new_ring : List RingEntry)
+      → VisitsEnd true alone_ring fixed net n known new_known ring new_ring
+      → has_started_at fixed new_known ≡ false
+  alone-collects alone_ring net n known new_known ring new_ring v =
+      let c = v.calls in
+      let g = c.goes.station in
+      ap (has_started_at fixed) (g.after_is ∙ ap (λ l. c.asked ++ l) (g.all_alone refl))
+      ∙ collected-by (has_started_at fixed c.asked) n c.asked c.goes.noted c.goes.done refl
+      c.goes.due
+
+module _ (laws : CallLaws) (fixed : Fixed) where
   visit-collects : (alone_ram alone_ring : Bool) (net : NetPlan) (n : ℕ)
       (known new_known : List Entry) (ring new_ring : List RingEntry)
       → VisitsEnd alone_ram alone_ring fixed net n known new_known ring new_ring
@@ -116,14 +136,14 @@ module _ (laws : CallLaws) (fixed : Fixed) where
       let last = ended-goes fixed c.asked g.more joined first.0 in
       let noted : g.more ≡ c.goes.noted =
       sym (ended-ours fixed c.asked g.more joined first.0) ∙ g.ours_are in
-      let w = went-visit n alone_ram alone_ring fixed known new_known ring new_ring c in (
+      let follow : CallsFollow = calls-follow laws.taking laws.finishing in (
         ap (has_ended_at fixed) g.after_is ∙ last.ended,
         ap (has_started_at fixed) (g.after_is ∙ ap (λ l. c.asked ++ l) noted)
-            ∙ collected-by (has_started_at fixed c.asked) n c.asked c.goes.noted c.goes.done refl
-            c.goes.due,
+            ∙ collected-by follow fixed (has_started_at fixed c.asked) n c.asked c.goes.noted
+            c.goes.done refl c.goes.due,
         ap (is_off_at fixed) g.after_is ∙ last.off ∙ first.1,
-        inner-keeps net n ring c.goes.node.more new_ring w.done c.goes.node.after_is w.own_is
-            w.quiet (left-calm net n ring left),
+        visit-status alone_ram alone_ring fixed net n known new_known ring new_ring v
+            (left-calm net n ring left),
       )
 
 pub visits-collect : CallLaws → VisitsCollect

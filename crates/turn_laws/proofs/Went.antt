@@ -17,7 +17,7 @@ use Rattle.ring_core.specs.declared.entry.RingEntry.TheVariants.{Pass, Leave, Jo
 use Rattle.ring_core.specs.declared.frame.FrameKind.{FrameKind}
 use Rattle.ring_core.specs.declared.frame.FrameKind.TheVariants.{Request, Reply}
 use Rattle.ring_core.specs.declared.frame.Frame.{Frame}
-use Rattle.ring_core.specs.Statistics.{is_stats}
+use Rattle.ring_core.specs.Statistics.{is_for_stats}
 use Rattle.controller_core.specs.declared.call.Call.{Call}
 use Rattle.controller_core.specs.declared.call.CallKind.{CallKind}
 use Rattle.controller_core.specs.declared.call.CallKind.TheVariants as kinds
@@ -248,7 +248,7 @@ served-quiet n f Request false noted done is = quiet-as noted _ done _ is.1 is.2
 
 is_served-quiet : (n : ℕ) (f : Frame) (noted : List Entry) (done : List RingEntry)
     → IsServed n f noted done → IsQuiet noted done
-is_served-quiet n f noted done is = served-quiet n f f.kind (is_stats f.pdu) noted done is
+is_served-quiet n f noted done is = served-quiet n f f.kind (is_for_stats f) noted done is
 
 given-quiet : (id : CallId) (noted : List Entry) (done : List RingEntry) → IsGivenUp id noted done
     → IsQuiet noted done
@@ -269,7 +269,7 @@ finish-here id noted result is = ap (list_any (finishes id)) is
 made-call : (n : ℕ) (call : Call) (kind : CallKind) → call.kind ≡ kind
     → (noted : List Entry) (done : List RingEntry)
     → MadeAs kind n call.id noted done → MakesCall call noted done
-made-call n call (kinds.Net to pdu) kind noted done is = record {
+made-call n call (kinds.Net route pdu) kind noted done is = record {
   quiet = quiet-as noted _ done _ is.0 is.1 (record { notes = tt; does = (refl, tt) });
   home = λ op local. absurd (let no' : NetCall ≡ LocalCall op =
       ap (λ k. kind_of_sort (sort_of k)) (sym kind) ∙ local in cc);
@@ -286,7 +286,7 @@ is_made-call n call noted done is = made-call n call call.kind refl noted done i
 ended-call : (n : ℕ) (call : Call) (kind : CallKind) → call.kind ≡ kind
     → (noted : List Entry) (done : List RingEntry)
     → EndedAs kind n call.id noted done → MakesCall call noted done
-ended-call n call (kinds.Net to pdu) kind noted done is = record {
+ended-call n call (kinds.Net route pdu) kind noted done is = record {
   quiet = quiet-as noted _ done _ is.1 is.2
       (record { notes = (refl, tt); does = (refl, (refl, tt)) });
   home = λ op local. finish-here call.id noted _ is.1;

@@ -19,7 +19,8 @@ use Rattle.comm_port.specs.HoldTurn.{VisitsEnd}
 use Rattle.comm_port.specs.WholeTurn.{HoldsTurn}
 use Rattle.comm_port.specs.HostTurns.{HoldsHostTurn}
 use Rattle.turn_laws.specs.KeepsOn.{StandsTied, KeepsOn, HostStandsTied, HostKeepsOn}
-use Rattle.turn_laws.specs.KeepsOn.{HasFinished, HostHasFinished, NoneSpent, is_out_of_ring, leaves_out}
+use Rattle.turn_laws.specs.KeepsOn.{HasFinished, HostHasFinished}
+use Rattle.turn_laws.specs.KeepsOn.{NoneSpent, is_out_of_ring, leaves_out}
 use Rattle.joint_history.specs.declared.joint.Joint.{Joint}
 use Rattle.joint_history.specs.Complete.{ControllerIsComplete, HostIsComplete, NodeIsComplete}
 use Rattle.joint_history.specs.Complete.{ControllerIsOut, IsComplete}

@@ -92,8 +92,10 @@ fn has(controller: &Controller, at: Ref, value: u16) -> bool {
 fn is_read(calls: &[Call]) -> bool {
     match calls {
         [call] => match &call.kind {
-            CallKind::Net { to: 5, pdu } => {
-                call.id == CALL && matches!(pdu.bytes(), [3, 0, 0, 0, 2])
+            CallKind::Net { route, pdu } => {
+                call.id == CALL
+                    && route.addresses() == [5].as_slice()
+                    && matches!(pdu.bytes(), [3, 0, 0, 0, 2])
             }
             _ => false,
         },

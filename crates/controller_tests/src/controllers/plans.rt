@@ -111,6 +111,7 @@ fn plan_of(alloc: Global, plan: &Plan) -> Result<ControllerPlan, AllocError>
     let segments = segments_of(alloc, plan.networks)?;
     Ok(ControllerPlan {
         node: 2,
+        network: 0,
         coils: 16,
         inputs: 0,
         input_registers: 0,

@@ -7,7 +7,11 @@ use std::process::Abort;
 /// What a call asks for, as far as a test tells it.
 pub(crate) enum Asks {
     Anything,
-    Read { to: u8, start: u16, length: u16 },
+    Read {
+        route: &'static [u8],
+        start: u16,
+        length: u16,
+    },
     OwnStatistics,
     PutGlobal(&'static [u16]),
 }
@@ -42,12 +46,16 @@ pub(crate) enum Act {
 fn is_asked(ask: &MstrAsk, asks: &Asks) -> bool {
     match asks {
         Asks::Anything => true,
-        Asks::Read { to, start, length } => match ask {
+        Asks::Read {
+            route,
+            start,
+            length,
+        } => match ask {
             MstrAsk::Read {
-                to: node,
+                route: way,
                 start: first,
                 length: count,
-            } => *node == *to && *first == *start && *count == *length,
+            } => way.addresses() == *route && *first == *start && *count == *length,
             _ => false,
         },
         Asks::OwnStatistics => matches!(ask, MstrAsk::LocalStats),
@@ -112,7 +120,7 @@ pub(crate) fn show(
     blocks: u16,
     acts: &[Act],
 ) -> Result<(), AllocError> {
-    let mut rig = Rig::new(rt.alloc(), blocks)?;
+    let mut rig = Rig::new(rt.alloc(), blocks, false)?;
     play(rt, &mut rig, acts);
     Ok(())
 }

@@ -16,7 +16,7 @@ fn answer_of(
     block: [u16; 9],
     words: &[u16],
 ) -> Result<[u16; 6], AllocError> {
-    let mut rig = Rig::new(rt.alloc(), 1)?;
+    let mut rig = Rig::new(rt.alloc(), 1, false)?;
     rig.fill(rt, 1, &block);
     rig.fill(rt, 11, &[77, 77, 77, 77, 77]);
     let stand = Stand { room: 5, ..FIRST };

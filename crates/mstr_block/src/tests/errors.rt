@@ -10,10 +10,11 @@ type Row = ([u16; 9], u16, u16);
 /// What a start leaves in the status; 1 where the status and the outputs do not fit.
 fn status_of(
     rt: &(impl Abort + AllocGlobal),
+    routed: bool,
     block: [u16; 9],
     room: u16,
 ) -> Result<u16, AllocError> {
-    let mut rig = Rig::new(rt.alloc(), 1)?;
+    let mut rig = Rig::new(rt.alloc(), 1, routed)?;
     rig.fill(rt, 1, &block);
     let outputs = rig.solve(rt, 1, Stand { room, ..FIRST }, ENABLE);
     let status = rig.get(rt, 2);
@@ -21,11 +22,16 @@ fn status_of(
     Ok(if outputs == expected { status } else { 1 })
 }
 
-fn show(rt: &(impl Abort + AllocGlobal), rows: &[Row]) -> Result<(), Fail> {
+fn show_by(rt: &(impl Abort + AllocGlobal), routed: bool, rows: &[Row]) -> Result<(), Fail> {
     for (block, room, status) in rows {
-        assert_eq!(rt; status_of(rt, *block, *room)?, *status);
+        assert_eq!(rt; status_of(rt, routed, *block, *room)?, *status);
     }
     Ok(())
+}
+
+/// The rows of a station whose routes lead over no bridge.
+fn show(rt: &(impl Abort + AllocGlobal), rows: &[Row]) -> Result<(), Fail> {
+    show_by(rt, false, rows)
 }
 
 #[test]
@@ -112,6 +118,25 @@ fn routes(rt: HostRuntime) -> Result<(), Fail> {
         ([6, 7, 1, 0, 5, 7, 7, 7, 7], 10, 0),
     ];
     show(&rt, &rows)
+}
+
+#[test]
+fn routes_over_bridges(rt: HostRuntime) -> Result<(), Fail> {
+    let rows = [
+        ([2, 7, 1, 1, 5, 0, 0, 0, 0], 10, 0),
+        ([1, 7, 1, 1, 9, 5, 0, 0, 0], 10, 0),
+        ([2, 7, 1, 1, 9, 64, 12, 2, 5], 10, 0),
+        ([2, 7, 1, 1, 9, 65, 0, 0, 0], 10, 0x2008),
+        ([7, 7, 1, 0, 9, 5, 0, 65, 0], 10, 0x2008),
+        ([2, 7, 1, 1, 9, 0, 5, 0, 0], 10, 0x2008),
+        ([8, 7, 1, 1, 9, 5, 0, 0, 1], 10, 0x2008),
+        ([1, 7, 1, 1, 0, 5, 0, 0, 0], 10, 0x2008),
+        ([7, 7, 1, 0, 65, 5, 0, 0, 0], 10, 0x2008),
+        ([6, 7, 1, 0, 5, 0, 70, 70, 7], 10, 0),
+        ([8, 7, 1, 0, 2, 5, 0, 0, 0], 10, 0x2009),
+        ([2, 7, 1, 1, 2, 0, 5, 0, 0], 10, 0x2008),
+    ];
+    show_by(&rt, true, &rows)
 }
 
 #[test]

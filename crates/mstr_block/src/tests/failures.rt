@@ -29,7 +29,7 @@ const NOT_TAKEN: [Act; 12] = [
         1,
         1,
         Asks::Read {
-            to: 5,
+            route: &[5],
             start: 1,
             length: 2,
         },

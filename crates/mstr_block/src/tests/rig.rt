@@ -88,9 +88,10 @@ pub(crate) fn call_id(path: u8, seq: u32) -> CallId {
 }
 
 impl Rig {
-    pub fn new(alloc: Global, blocks: u16) -> Result<Rig, AllocError> {
+    /// As many blocks of a station whose routes may lead over bridges or not.
+    pub fn new(alloc: Global, blocks: u16, routed: bool) -> Result<Rig, AllocError> {
         Ok(Rig {
-            bank: MstrBank::new(alloc, OWN, blocks)?,
+            bank: MstrBank::new(alloc, OWN, blocks, routed)?,
             ram: MapRam::new(alloc, 0, 0, 0, 60)?,
         })
     }

@@ -15,7 +15,7 @@ const OVER_TWO_SCANS: [Act; 9] = [
         1,
         1,
         Asks::Read {
-            to: 5,
+            route: &[5],
             start: 1,
             length: 2,
         },
@@ -30,6 +30,28 @@ const OVER_TWO_SCANS: [Act; 9] = [
 #[test]
 fn a_read(rt: HostRuntime) -> Result<(), AllocError> {
     show(&rt, 1, &OVER_TWO_SCANS)
+}
+
+/// A read over two bridges.
+const OVER_BRIDGES: [Act; 3] = [
+    Act::Set(1, &[2, 9, 2, 1, 9, 12, 5, 0, 0]),
+    Act::Solve(1, FIRST, ENABLE, ACTIVE),
+    Act::Take(
+        1,
+        1,
+        Asks::Read {
+            route: &[9, 12, 5],
+            start: 1,
+            length: 2,
+        },
+    ),
+];
+
+#[test]
+fn a_read_over_bridges(rt: HostRuntime) -> Result<(), AllocError> {
+    let mut rig = Rig::new(rt.alloc(), 1, true)?;
+    play(&rt, &mut rig, &OVER_BRIDGES);
+    Ok(())
 }
 
 /// Whether a block is enabled counts only while it is idle.
@@ -112,7 +134,7 @@ const WAITS_FOR_A_PATH: [Act; 16] = [
         3,
         2,
         Asks::Read {
-            to: 6,
+            route: &[6],
             start: 8,
             length: 7,
         },

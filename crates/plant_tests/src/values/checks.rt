@@ -84,6 +84,7 @@ fn plan_with(
 ) -> ControllerPlan {
     ControllerPlan {
         node: 1,
+        network: 0,
         coils: 16,
         inputs: 0,
         input_registers: 0,

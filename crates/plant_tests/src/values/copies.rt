@@ -1,9 +1,9 @@
 //! Copies with ample memory: each call answers a value that equals its own.
 use plant_types::{
-    Block, ControllerPlan, Copied, Element, Fate, HostAsk, HostPlan, IoDrop, List, MathOp,
-    MatrixOp, Module, ModuleKind, MoveOp, NetPlan, Network, NodePower, Operand, OrderRow, Part,
-    Pdu, Place, Plant, PlantFault, PowerRow, Ref, RefKind, ScriptRow, Segment, Unit, Words,
-    is_host_plan, is_net_plan,
+    Block, BridgePlan, ControllerPlan, Copied, Element, Fate, HostAsk, HostPlan, IoDrop, List,
+    MathOp, MatrixOp, Module, ModuleKind, MoveOp, NetPlan, Network, NodePower, Operand, OrderRow,
+    Part, Pdu, Place, Plant, PlantFault, PowerRow, Ref, RefKind, Route, ScriptRow, Segment, Unit,
+    Words, is_host_plan, is_net_plan,
 };
 use std::alloc::{AllocError, Global};
 
@@ -30,6 +30,16 @@ const MODULE: Module = Module {
     first: 17,
     count: 16,
 };
+
+const BRIDGE: BridgePlan = BridgePlan {
+    left_net: 1,
+    left: 9,
+    right_net: 2,
+    right: 12,
+};
+
+/// A route over one bridge.
+const ROUTE: [u8; 2] = [5, 9];
 
 fn only<T: Drop>(alloc: Global, item: T) -> Result<List<T>, AllocError> {
     let mut list = List::new(alloc);
@@ -99,6 +109,7 @@ fn controller(alloc: Global) -> Result<ControllerPlan, AllocError> {
     let power = only(alloc, FAILURE)?;
     Ok(ControllerPlan {
         node: 64,
+        network: 3,
         coils: 16,
         inputs: 32,
         input_registers: 3,
@@ -111,10 +122,20 @@ fn controller(alloc: Global) -> Result<ControllerPlan, AllocError> {
     })
 }
 
+fn nodes(alloc: Global) -> Result<(List<u8>, List<u8>), AllocError> {
+    let members = only(alloc, 64)?;
+    let bridges = only(alloc, 64)?;
+    Ok((members, bridges))
+}
+
 fn net(alloc: Global) -> Result<NetPlan, AllocError> {
+    let fates = only(alloc, Fate::A)?;
+    let (members, bridges) = nodes(alloc)?;
     Ok(NetPlan {
-        members: only(alloc, 64)?,
-        fates: only(alloc, Fate::A)?,
+        number: 3,
+        members,
+        bridges,
+        fates,
         answer: 20,
         rotations: 4,
         rounds: 2,
@@ -126,7 +147,7 @@ fn ask(alloc: Global) -> Result<HostAsk, AllocError> {
     let pdu = pdu(alloc)?;
     Ok(HostAsk {
         hold: 10_000,
-        to: 5,
+        route: Route::of(&ROUTE),
         pdu,
     })
 }
@@ -137,7 +158,11 @@ fn asks(alloc: Global) -> Result<List<HostAsk>, AllocError> {
 
 fn host(alloc: Global) -> Result<HostPlan, AllocError> {
     let requests = asks(alloc)?;
-    Ok(HostPlan { node: 7, requests })
+    Ok(HostPlan {
+        node: 7,
+        network: 3,
+        requests,
+    })
 }
 
 fn hosts(alloc: Global) -> Result<List<HostPlan>, AllocError> {
@@ -218,8 +243,10 @@ fn copies_of_parts_and_faults(rt: HostRuntime) -> Result<(), AllocError> {
         is_copied(alloc, PlantFault::BadDrop)?,
         is_copied(alloc, Part::HostRequest)?,
         is_copied(alloc, Place::PLANT)?,
+        is_copied(alloc, BRIDGE)?,
+        is_copied(alloc, Route::of(&ROUTE))?,
     ];
-    assert_eq!(rt; same, [true; 9]);
+    assert_eq!(rt; same, [true; 11]);
     Ok(())
 }
 
@@ -274,6 +301,7 @@ fn a_drop_and_its_copy(rt: HostRuntime) -> Result<(), AllocError> {
 
 fn is_the_controller(plan: &ControllerPlan) -> bool {
     plan.node == 64
+        && plan.network == 3
         && [
             plan.coils,
             plan.inputs,
@@ -295,7 +323,9 @@ fn a_controller_and_its_copy(rt: HostRuntime) -> Result<(), AllocError> {
 }
 
 fn is_the_net(net: &NetPlan) -> bool {
-    net.members.as_slice() == [64].as_slice()
+    net.number == 3
+        && net.members.as_slice() == [64].as_slice()
+        && net.bridges.as_slice() == [64].as_slice()
         && net.fates.as_slice() == [Fate::A].as_slice()
         && [net.answer, net.rotations, net.rounds, net.holds] == [20, 4, 2, 100_000]
 }
@@ -308,13 +338,17 @@ fn a_net_and_its_copy(rt: HostRuntime) -> Result<(), AllocError> {
 }
 
 fn is_the_ask(ask: &HostAsk) -> bool {
-    ask.hold == 10_000 && ask.to == 5 && ask.pdu.bytes() == [3, 0, 0, 0, 2].as_slice()
+    ask.hold == 10_000
+        && ask.route.addresses() == ROUTE.as_slice()
+        && ask.pdu.bytes() == [3, 0, 0, 0, 2].as_slice()
 }
 
 #[test]
 fn a_host_and_its_copy(rt: HostRuntime) -> Result<(), AllocError> {
     let copy = copy_of(rt.alloc(), host(rt.alloc())?)?;
-    assert!(rt; copy.node == 7 && copy.requests.as_slice().iter().all(is_the_ask));
+    assert!(rt;
+        copy.node == 7 && copy.network == 3 && copy.requests.as_slice().iter().all(is_the_ask)
+    );
     Ok(())
 }
 
@@ -336,6 +370,9 @@ fn networks_are_tested(rt: HostRuntime) -> Result<(), AllocError> {
     assert!(rt; is_net_plan(&net));
     net.answer = 1;
     assert!(rt; !is_net_plan(&net));
+    net.answer = 2;
+    net.number = 9;
+    assert!(rt; !is_net_plan(&net));
     Ok(())
 }
 
@@ -344,6 +381,9 @@ fn hosts_are_tested(rt: HostRuntime) -> Result<(), AllocError> {
     let mut host = host(rt.alloc())?;
     assert!(rt; is_host_plan(&host));
     host.node = 5;
+    assert!(rt; !is_host_plan(&host));
+    host.node = 7;
+    host.network = 0;
     assert!(rt; !is_host_plan(&host));
     Ok(())
 }

@@ -7,7 +7,7 @@ use Rattle.ring_core.specs.declared.entry.RingEntry.TheVariants.{Local}
 use Rattle.tied_lists.proofs.Growth.{adds-grew}
 use Rattle.joint_history.specs.Reading.{is_ours}
 use Rattle.comm_port.specs.Order.{IsCalling}
-use Rattle.std.proofs.Common.{◌≡◌, ◌<◌, ◌+◌, sym, ap, ◌∙◌, subst, List, ◌∷◌, [], set, Option}
+use Rattle.std.proofs.Common.{◌≡◌, ◌≢◌, ◌<◌, ◌+◌, sym, ap, ◌∙◌, subst, List, ◌∷◌, [], set, Option}
 use Rattle.std.proofs.Common.{Some}
 use Rattle.ring_core.specs.Machine.{ring_node, ring_after, path_of}
 use Rattle.ring_core.specs.declared.frame.Frame.{Frame}
@@ -16,7 +16,9 @@ use Rattle.ring_core.specs.declared.entry.RingEntry.TheVariants.{Post}
 use Rattle.tied_lists.specs.Own.{is_of, Grew}
 use Rattle.tied_lists.specs.Items.{LocalCall}
 use Rattle.joint_history.specs.Reading.{sort_of, called_of}
-use Rattle.comm_port.specs.Making.{request_frame, DoesAtHome, Owing, calls_from}
+use Rattle.ring_core.specs.Words.{request_along}
+use Rattle.tied_lists.proofs.Routes.{goes-away}
+use Rattle.comm_port.specs.Making.{DoesAtHome, Owing, calls_from}
 use Rattle.ring_core.specs.declared.path.Await.TheVariants.{Nothing}
 use Rattle.comm_port.proofs.GivesUp.{waits-nothing}
 use Rattle.comm_port.proofs.Made.{owing-next, may-post, may-do, posted-lead, done-lead}
@@ -29,11 +31,22 @@ post_call-requires-clause-next g c =
     let n = c.args.node in
     let o = owing-next n c.args.calls.now c.args.at call _ _ _ _ c.args.waiting.now
     c.requires.within c.index-calls-at.is c.requires.owing in
-    let m = may-post n (called_of call) _ c.in-Net.to c.in-Net.pdu _ _ _ _ c.args.waiting.now
+    let m = may-post n (called_of call) _ c.in-Net.route c.in-Net.pdu _ _ _ _ c.args.waiting.now
     (ap sort_of c.in-Net.is) o in
     subst (λ (f : Frame). (path_of (ring_node
     (ring_after (g.R.RingSide.side c.args.ring.now).net (g.R.RingSide.known
-    c.args.ring.now)) n) f.id.path).posted < f.id.seq) (sym c.request_frame-frame.ensures) m.next
+    c.args.ring.now)) n) f.id.path).posted < f.id.seq) (sym c.request-frame.ensures) m.next
+
+pub post_call-requires-clause-to : goal.post_call-requires-clause-to
+post_call-requires-clause-to g c =
+    let call = c.index-calls-at.result in
+    let n = c.args.node in
+    let o = owing-next n c.args.calls.now c.args.at call _ _ _ _ c.args.waiting.now
+    c.requires.within c.index-calls-at.is c.requires.owing in
+    let m = may-post n (called_of call) _ c.in-Net.route c.in-Net.pdu _ _ _ _ c.args.waiting.now
+    (ap sort_of c.in-Net.is) o in
+    subst (λ (f : Frame). f.to ≢ n) (sym c.request-frame.ensures)
+    (goes-away n call.id c.in-Net.route c.in_ok-copied-in-Net.field-0 m.away)
 
 pub do_call-requires-clause-out : goal.do_call-requires-clause-out
 do_call-requires-clause-out g c =
@@ -53,9 +66,9 @@ returns-in_ok-post_call-in-Net-clause-owing g c =
     let p = c.in_ok-post_call-in-Net.ensures in
     let o = owing-next n c.args.calls.now c.args.at call _ _ _ _ c.args.waiting.now
     c.requires.within c.index-calls-at.is c.requires.owing in
-    let f = c.request_frame-frame.result in
-    let g' = request_frame call.id c.in-Net.to c.in-Net.pdu in
-    let frame_is : f ≡ g' = c.request_frame-frame.ensures ∙ ap (request_frame call.id c.in-Net.to)
+    let f = c.request-frame.result in
+    let g' = request_along call.id c.in-Net.route c.in-Net.pdu in
+    let frame_is : f ≡ g' = c.request-frame.ensures ∙ ap (request_along call.id c.in-Net.route)
     c.in_ok-copied-in-Net.ensures in
     let grew = subst (λ (x : Frame). Grew g.R.RingSide.alone (is_of n)
     (g.R.RingSide.known c.args.ring.now) (Post n x ∷ [])
@@ -68,7 +81,7 @@ returns-in_ok-post_call-in-Net-clause-owing g c =
     (g.M.RamSide.known c.args.ram.now) (g.R.RingSide.side c.post_call.new.ring)
     (g.R.RingSide.known c.post_call.new.ring) w)
     (sym waits)
-    (posted-lead g.R.RingSide.alone n (called_of call) _ c.in-Net.to c.in-Net.pdu _ _ _ _ _ _
+    (posted-lead g.R.RingSide.alone n (called_of call) _ c.in-Net.route c.in-Net.pdu _ _ _ _ _ _
     c.args.waiting.now p.step.same (ap
     sort_of c.in-Net.is) p.step.stands.legal p.kept grew o)
 
@@ -93,10 +106,10 @@ pub returns-in_ok-post_call-in-Net-clause-ring_adds :
     goal.returns-in_ok-post_call-in-Net-clause-ring_adds
 returns-in_ok-post_call-in-Net-clause-ring_adds g c =
     let n = c.args.node in
-    let f = c.request_frame-frame.result in
+    let f = c.request-frame.result in
     adds-grew g.R.RingSide.alone (is_of n) (IsCalling n) _ (Post n f ∷ []) _ (
       ap (λ (x : Frame). x.kind)
-          c.request_frame-frame.ensures,
+          c.request-frame.ensures,
       tt,
     ) c.in_ok-post_call-in-Net.ensures.grew
 
@@ -116,13 +129,13 @@ pub returns-in_ok-post_call-in-Net-clause-made : goal.returns-in_ok-post_call-in
 returns-in_ok-post_call-in-Net-clause-made g c =
     let n = c.args.node in
     let call = c.index-calls-at.result in
-    let frame_is = c.request_frame-frame.ensures ∙ ap (request_frame call.id c.in-Net.to)
+    let frame_is = c.request-frame.ensures ∙ ap (request_along call.id c.in-Net.route)
     c.in_ok-copied-in-Net.ensures in
-    let g' = request_frame call.id c.in-Net.to c.in-Net.pdu in
+    let g' = request_along call.id c.in-Net.route c.in-Net.pdu in
     record {
       noted = [];
       done = Post n g' ∷ [];
-      due = (call, c.index-calls-at.is, made-net n call c.in-Net.to c.in-Net.pdu c.in-Net.is);
+      due = (call, c.index-calls-at.is, made-net n call c.in-Net.route c.in-Net.pdu c.in-Net.is);
       station = grew-none g.M.RamSide.alone is_ours _;
       node = subst (λ (x : Frame). Grew g.R.RingSide.alone (is_of n)
           (g.R.RingSide.known c.args.ring.now) (Post n x ∷ [])
@@ -154,11 +167,11 @@ post_call-requires-clause-free g c =
     let n = c.args.node in
     let o = owing-next n c.args.calls.now c.args.at call _ _ _ _ c.args.waiting.now
     c.requires.within c.index-calls-at.is c.requires.owing in
-    let m = may-post n (called_of call) _ c.in-Net.to c.in-Net.pdu _ _ _ _ c.args.waiting.now
+    let m = may-post n (called_of call) _ c.in-Net.route c.in-Net.pdu _ _ _ _ c.args.waiting.now
     (ap sort_of c.in-Net.is) o in
     subst (λ (f : Frame). (path_of (ring_node
     (ring_after (g.R.RingSide.side c.args.ring.now).net (g.R.RingSide.known
-    c.args.ring.now)) n) f.id.path).awaits ≡ Nothing) (sym c.request_frame-frame.ensures)
+    c.args.ring.now)) n) f.id.path).awaits ≡ Nothing) (sym c.request-frame.ensures)
     (waits-nothing n call.id.path _ _ _ _ _ c.args.waiting.now m.free o.turning)
 
 pub returns-in_err-copied-in-Net-clause-step : goal.returns-in_err-copied-in-Net-clause-step

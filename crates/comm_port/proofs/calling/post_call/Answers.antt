@@ -1,10 +1,18 @@
 use Rattle.comm_port.specs.Giving.{part_at}
 use Rattle.comm_port.proofs.Allowed.{free-path-no}
-use Rattle.std.proofs.Common.{refl}
+use Rattle.std.proofs.Common.{◌∷◌, [], refl}
 use Rattle.ring_core.specs.declared.entry.RingEntry.TheVariants.{Post}
-use Rattle.comm_port.proofs.RingTurns.{own-moved, own-on, kept-post}
+use Rattle.tied_lists.specs.Own.{is_of}
+use Rattle.tied_lists.proofs.Growth.{grew-one}
+use Rattle.comm_port.proofs.RingTurns.{mine, own-moved, own-on, kept-post}
 use Rattle.comm_port.proofs.Steps.{ring-rest}
 use Rattle.comm_port.proofs.calling.post_call.Goals as goal
+
+pub returns-clause-grew : goal.returns-clause-grew
+returns-clause-grew g c =
+    let e = Post c.args.node c.args.frame in
+    grew-one g.R.RingSide.alone (is_of c.args.node) _ (e ∷ []) _ (mine c.args.node e refl)
+    c.in_ok-post_frame.ensures.went
 
 pub returns-clause-kept : goal.returns-clause-kept
 returns-clause-kept g c =

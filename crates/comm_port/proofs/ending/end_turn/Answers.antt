@@ -197,7 +197,8 @@ returns-clause-noticed g c =
     let o = c.in_ok-left.ensures in
     c.requires.noticed ∙ sym (latest-handed g.R.RingSide.alone _ c.args.node _ _ _ _ _
     (quiet-due (g.R.RingSide.side c.args.ring.now).net
-    (ring_after (g.R.RingSide.side c.args.ring.now).net (g.R.RingSide.known c.args.ring.now)) c.args.node
+    (ring_after (g.R.RingSide.side c.args.ring.now).net (g.R.RingSide.known c.args.ring.now))
+    c.args.node
     c.is_done-done.result c.args.budget) o.handed)
 
 pub returns-then-left-clause-noticed : goal.returns-then-left-clause-noticed
@@ -206,6 +207,7 @@ returns-then-left-clause-noticed g c =
     let e = c.in_ok-give_up_where.ensures in
     c.requires.noticed ∙ (sym (latest-handed g.R.RingSide.alone _ c.args.node _ _ _ _ _
     (quiet-due (g.R.RingSide.side c.args.ring.now).net
-    (ring_after (g.R.RingSide.side c.args.ring.now).net (g.R.RingSide.known c.args.ring.now)) c.args.node
+    (ring_after (g.R.RingSide.side c.args.ring.now).net (g.R.RingSide.known c.args.ring.now))
+    c.args.node
     c.is_done-done.result c.args.budget) o.handed)
     ∙ sym (latest-adds g.R.RingSide.alone c.args.node IsGivingUp _ _ giving-downs e.ring_adds))

@@ -1,7 +1,11 @@
 use Rattle.comm_port.proofs.HostServes.{served-told}
 use Rattle.comm_port.proofs.HostTurning.{turning-told}
 use Rattle.comm_port.proofs.Steps.{host-ring}
+use Rattle.comm_port.proofs.Onward.{for-stats}
 use Rattle.comm_port.proofs.host_worker.answer_port.Goals as goal
+
+pub tell_statistics-requires-clause-stats : goal.tell_statistics-requires-clause-stats
+tell_statistics-requires-clause-stats g c = for-stats c.args.request.now c.requires.stats
 
 pub returns-clause-turning : goal.returns-clause-turning
 returns-clause-turning g c =

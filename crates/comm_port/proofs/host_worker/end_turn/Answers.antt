@@ -29,7 +29,8 @@ give_up_where-requires g c =
     (sym c.if-not-left.false ∙ o.left) in
     let ties = ties-handed g.R.RingSide.alone c.args.node _ _ _ _ _ _ _ c.requires.turning o.handed
     (quiet-due (g.R.RingSide.side c.args.ring.now).net
-    (ring_after (g.R.RingSide.side c.args.ring.now).net (g.R.RingSide.known c.args.ring.now)) c.args.node
+    (ring_after (g.R.RingSide.side c.args.ring.now).net (g.R.RingSide.known c.args.ring.now))
+    c.args.node
     c.is_done-done.result c.args.budget) o.step.stands.legal c.requires.wait c.requires.rest in
     record {
       turning = turning-side c.args.node _ _ _ _ o.step.same
@@ -41,7 +42,8 @@ returns-then-not-left-clause-ties g c =
     let o = c.in_ok-left.ensures in
     ties-handed g.R.RingSide.alone c.args.node _ _ _ _ _ _ _ c.requires.turning o.handed
     (quiet-due (g.R.RingSide.side c.args.ring.now).net
-    (ring_after (g.R.RingSide.side c.args.ring.now).net (g.R.RingSide.known c.args.ring.now)) c.args.node
+    (ring_after (g.R.RingSide.side c.args.ring.now).net (g.R.RingSide.known c.args.ring.now))
+    c.args.node
     c.is_done-done.result c.args.budget) o.step.stands.legal c.requires.wait c.requires.rest
 
 pub returns-clause-ties : goal.returns-clause-ties

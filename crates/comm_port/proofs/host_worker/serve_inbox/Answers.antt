@@ -1,13 +1,16 @@
 use Rattle.std.proofs.Common.{◌≡◌, sym, ◌∙◌, subst, List, Option, Some, None}
 use Rattle.std.proofs.Common.{Bool, ℕ}
+use Rattle.plant_types.specs.declared.net.NetPlan.{NetPlan}
 use Rattle.ring_core.specs.declared.frame.Frame.{Frame}
 use Rattle.ring_core.specs.declared.entry.RingEntry.{RingEntry}
 use Rattle.tied_lists.specs.Own.{is_of, WentOn}
 use Rattle.comm_port.specs.Sides.{taken_entries}
+use Rattle.comm_port.specs.Turns.{IsNoBridge}
 use Rattle.comm_port.proofs.Served.{holds-kept, holds-still, holds-took, less-kept, take-less}
 use Rattle.comm_port.proofs.HostTurning.{taking-now, turning-side, turning-still}
 use Rattle.comm_port.proofs.HostServes.{serves-at, so-far-at, so-far-end, so-far-next, so-far-start}
 use Rattle.comm_port.proofs.RingTurns.{kept-same}
+use Rattle.comm_port.proofs.Parts.{net-as}
 use Rattle.comm_port.proofs.Steps.{host-ring, host-then, ring-rest}
 use Rattle.comm_port.proofs.host_worker.serve_inbox.Goals as goal
 
@@ -24,7 +27,9 @@ serve-requires g c =
     let o = c.in_ok-frame.ensures in
     let f = c.in-Some.frame in
     record {
-      taking = taking-now g.R.RingSide.alone c.args.node f _ _ _ _ _ o.step.same o.step.stands.legal
+      taking = taking-now g.R.RingSide.alone c.args.node f _ _ _ _ _ o.step.same
+          (net-as (λ (m : NetPlan). IsNoBridge m c.args.node) _ _
+          (sym c.loop-frame.invariant.step.node.same) c.requires.no_bridge) o.step.stands.legal
           (took g.R.RingSide.alone c.args.node _
           _ _ (Some f) c.in-Some.is o.went) c.loop-frame.invariant.turning;
     }

@@ -7,7 +7,8 @@ use Rattle.tied_lists.proofs.Growth.{grew-one, grew-more}
 use Rattle.modbus_pdu.specs.Spelling.{reply_bytes}
 use Rattle.modbus_pdu.specs.declared.reply.Reply.TheVariants as replies
 use Rattle.comm_port.specs.Replies.{reply_frame}
-use Rattle.comm_port.proofs.RingTurns.{own-moved, own-on, kept-local, kept-both, kept-same, turn-on, mine}
+use Rattle.comm_port.proofs.RingTurns.{own-moved, own-on, kept-local}
+use Rattle.comm_port.proofs.RingTurns.{kept-both, kept-same, turn-on, mine}
 use Rattle.comm_port.proofs.Statistics.{told-range}
 use Rattle.comm_port.proofs.Steps.{ring-then}
 use Rattle.comm_port.proofs.replies.tell_statistics.Goals as goal

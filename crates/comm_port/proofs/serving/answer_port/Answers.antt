@@ -9,7 +9,11 @@ use Rattle.tied_lists.proofs.Growth.{adds-grew}
 use Rattle.comm_port.specs.Replies.{reply_frame}
 use Rattle.comm_port.specs.Order.{IsServing}
 use Rattle.comm_port.proofs.Served.{port-lead}
+use Rattle.comm_port.proofs.Onward.{for-stats}
 use Rattle.comm_port.proofs.serving.answer_port.Goals as goal
+
+pub tell_statistics-requires-clause-stats : goal.tell_statistics-requires-clause-stats
+tell_statistics-requires-clause-stats g c = for-stats c.args.request.now c.requires.stats
 
 pub returns-clause-turning : goal.returns-clause-turning
 returns-clause-turning g c =

@@ -1,5 +1,5 @@
 use Rattle.comm_port.specs.HoldTurn.{inbox_of}
-use Rattle.comm_port.specs.Turns.{KeepsInbox}
+use Rattle.comm_port.specs.Turns.{IsNoBridge, KeepsInbox}
 use Rattle.ring_core.specs.Legal.{IsLegalRing}
 use Rattle.plant_types.specs.declared.net.NetPlan.{NetPlan}
 use Rattle.comm_port.proofs.Parts.{part-none, net-as, turn-as}
@@ -10,7 +10,7 @@ use Rattle.tied_lists.proofs.Growth.{adds_none, adds-both, adds-went}
 use Rattle.joint_history.specs.Reading.{is_ours}
 use Rattle.comm_port.specs.Order.{IsServing}
 use Rattle.comm_port.proofs.RingTurns.{mine}
-use Rattle.std.proofs.Common.{◌≡◌, ℕ, ◌∙◌, subst, List, ◌∷◌, [], Option, Some}
+use Rattle.std.proofs.Common.{◌≡◌, ℕ, ◌∙◌, sym, subst, List, ◌∷◌, [], Option, Some}
 use Rattle.std.proofs.Common.{None, Bool}
 use Rattle.ring_core.specs.declared.frame.Frame.{Frame}
 use Rattle.ring_core.specs.declared.entry.RingEntry.{RingEntry}
@@ -35,7 +35,8 @@ serve-requires g c =
     let f = c.in-Some.frame in
     record {
       taking = take-lead g.R.RingSide.alone c.args.node f _ _ _ _ _ _ c.loop-frame.waiting
-          o.step.same o.step.stands.legal
+          o.step.same (net-as (λ (m : NetPlan). IsNoBridge m c.args.node) _ _
+          (sym c.loop-frame.invariant.step.node.same) c.requires.no_bridge) o.step.stands.legal
           (took g.R.RingSide.alone c.args.node _ _ _ (Some f) c.in-Some.is o.went)
           c.loop-frame.invariant.turning;
     }

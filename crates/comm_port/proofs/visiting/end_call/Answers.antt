@@ -18,7 +18,7 @@ give_up_between-requires-clause-waits g c =
     let side = g.R.RingSide.side c.args.ring.now in
     let mid = g.R.RingSide.known c.make_call.new.ring in
     let a = net-posted g.M.RamSide.alone g.R.RingSide.alone n c.args.calls.now c.args.at call
-    c.in-Net.to c.in-Net.pdu _ _ side _ _ mid c.requires.within
+    c.in-Net.route c.in-Net.pdu _ _ side _ _ mid c.requires.within
     c.index-calls-at.is c.in-Net.is m.step.node.same c.requires.owing.turning.own_turn
     m.owing.turning.own_turn.on.legal m.made in
     waits-posted n _ _ mid refl a.own_is
@@ -31,7 +31,7 @@ give_up_between-requires-clause-gone g c =
     let side = g.R.RingSide.side c.args.ring.now in
     let mid = g.R.RingSide.known c.make_call.new.ring in
     let a = net-posted g.M.RamSide.alone g.R.RingSide.alone n c.args.calls.now c.args.at call
-    c.in-Net.to c.in-Net.pdu _ _ side _ _ mid c.requires.within
+    c.in-Net.route c.in-Net.pdu _ _ side _ _ mid c.requires.within
     c.index-calls-at.is c.in-Net.is m.step.node.same c.requires.owing.turning.own_turn
     m.owing.turning.own_turn.on.legal m.made in
     net-as (λ (k : NetPlan). HasLeft k mid n) _ _ (sym m.step.node.same)
@@ -46,7 +46,7 @@ returns-in_ok-give_up_between-in-Net-clause-gone g c =
     let side = g.R.RingSide.side c.args.ring.now in
     let mid = g.R.RingSide.known c.make_call.new.ring in
     let a = net-posted g.M.RamSide.alone g.R.RingSide.alone n c.args.calls.now c.args.at call
-    c.in-Net.to c.in-Net.pdu _ _ side _ _ mid c.requires.within
+    c.in-Net.route c.in-Net.pdu _ _ side _ _ mid c.requires.within
     c.index-calls-at.is c.in-Net.is m.step.node.same c.requires.owing.turning.own_turn
     m.owing.turning.own_turn.on.legal m.made in
     let e = c.in_ok-give_up_between-in-Net.ensures in
@@ -64,14 +64,14 @@ returns-in_ok-give_up_between-in-Net-clause-rest g c =
     let side = g.R.RingSide.side c.args.ring.now in
     let mid = g.R.RingSide.known c.make_call.new.ring in
     let a = net-posted g.M.RamSide.alone g.R.RingSide.alone n c.args.calls.now c.args.at call
-    c.in-Net.to c.in-Net.pdu _ _ side _ _ mid c.requires.within
+    c.in-Net.route c.in-Net.pdu _ _ side _ _ mid c.requires.within
     c.index-calls-at.is c.in-Net.is m.step.node.same c.requires.owing.turning.own_turn
     m.owing.turning.own_turn.on.legal m.made in
     let e = c.in_ok-give_up_between-in-Net.ensures in
     let last = g.R.RingSide.known c.give_up_between.new.ring in
     let given = net-as (λ (k : NetPlan). GivesCall k n call.id mid last) _ _ m.step.node.same e.part
     in
-    rests-again side.net n call.id c.in-Net.to c.in-Net.pdu _ mid last a.part_is given
+    rests-again side.net n call.id c.in-Net.route c.in-Net.pdu _ mid last a.part_is given
     c.requires.rest
 
 pub returns-in_ok-give_up_between-in-Net-clause-ended :
@@ -80,7 +80,7 @@ returns-in_ok-give_up_between-in-Net-clause-ended g c =
     let m = c.in_ok-make_call.ensures in
     let n = c.args.node in
     let call = c.index-calls-at.result in
-    ended-net g.M.RamSide.alone g.R.RingSide.alone n c.args.calls.now c.args.at call c.in-Net.to
+    ended-net g.M.RamSide.alone g.R.RingSide.alone n c.args.calls.now c.args.at call c.in-Net.route
     c.in-Net.pdu _ _ _ _ _ _ c.requires.within
     c.index-calls-at.is c.in-Net.is m.made c.in_ok-give_up_between-in-Net.ensures.given
 
@@ -93,11 +93,11 @@ returns-in_ok-give_up_between-in-Net-clause-as_before g c =
     let side = g.R.RingSide.side c.args.ring.now in
     let mid = g.R.RingSide.known c.make_call.new.ring in
     let a = net-posted g.M.RamSide.alone g.R.RingSide.alone n c.args.calls.now c.args.at call
-    c.in-Net.to c.in-Net.pdu _ _ side _ _ mid c.requires.within
+    c.in-Net.route c.in-Net.pdu _ _ side _ _ mid c.requires.within
     c.index-calls-at.is c.in-Net.is m.step.node.same c.requires.owing.turning.own_turn
     m.owing.turning.own_turn.on.legal m.made in
-    ended-before g.M.RamSide.alone g.R.RingSide.alone side.net n call.id c.in-Net.to c.in-Net.pdu _
-    _ _ mid _ c.requires.owing.turning.own_turn.on a
+    ended-before g.M.RamSide.alone g.R.RingSide.alone side.net n call.id c.in-Net.route
+    c.in-Net.pdu _ _ _ mid _ c.requires.owing.turning.own_turn.on a
     c.in_ok-give_up_between-in-Net.ensures.given
 
 pub returns-in-Local-clause-gone : goal.returns-in-Local-clause-gone

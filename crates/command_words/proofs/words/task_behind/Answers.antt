@@ -1,9 +1,11 @@
-use Rattle.std.proofs.Common.{Some, map, string_bytes, subst}
-use Rattle.command_words.proofs.Spelled.{ReadsScans, Spells-task}
+use Rattle.std.proofs.Common.{ℕ, Option, Some, map, string_bytes, subst}
+use Rattle.command_words.specs.Words.{AreScans, ReadsJust}
+use Rattle.command_words.proofs.Spelled.{Spells-task}
 use Rattle.command_words.proofs.words.task_behind.Goals as goal
 
 pub returns-in-Some : goal.returns-in-Some
 returns-in-Some c =
     let behind = map string_bytes c.args.behind.now in
+    let P : Option ℕ → Type 0 = ReadsJust (AreScans behind) in
     Spells-task c.args.task behind (Some c.in-Some.scans)
-    (subst (ReadsScans behind) c.in-Some.is c.in_ok-scans.ensures)
+    (subst P c.in-Some.is c.in_ok-scans.ensures)

@@ -1,4 +1,4 @@
-use Rattle.std.proofs.Common.{◌≡◌, ◌≤◌, List, sym, ap, subst, ◌∙◌, arith}
+use Rattle.std.proofs.Common.{◌≡◌, ◌≤◌, List, sym, ap, ap₂, subst, ◌∙◌, arith}
 use Rattle.std.specs.FinSet.{empty}
 use Rattle.plant_types.specs.Checks.{sizes_of}
 use Rattle.plant_types.specs.Sizes.{cleared}
@@ -38,6 +38,6 @@ returns c =
     ∙ ap mstr_count laid ∙ c.grids_ask_no_more.ensures.blocks plan.segments in
     record {
       ladder = c.in_ok-ladder.ensures ∙ (λ i. record { grids = laid i; edges = empty });
-      bank = c.in_ok-bank.ensures ∙ ap (idle_table plan.node) blocks;
+      bank = c.in_ok-bank.ensures ∙ ap₂ (idle_table plan.node) c.is_routed.ensures blocks;
       few = few_blocks plan.segments c.grids_ask_no_more.ensures c.requires.messages;
     }

@@ -21,7 +21,8 @@ passes-requires-clause-before g c =
 
 pub returns-in-OpenCoil-clause-leaves : goal.returns-in-OpenCoil-clause-leaves
 returns-in-OpenCoil-clause-leaves g c =
-    gives_contact contacts.Open (coil_at c.in-OpenCoil.number) c.args.spot.now.element c.args.power _ _ _
+    gives_contact contacts.Open (coil_at c.in-OpenCoil.number)
+    c.args.spot.now.element c.args.power _ _ _
     (named_by _ _ _ c.requires.relay c.in-OpenCoil.is)
     (c.passes.ensures ∙ ap (λ at. c.args.power && passes_power contacts.Open at
     (g.R.RefStore.contents c.args.ram.now)
@@ -30,16 +31,19 @@ returns-in-OpenCoil-clause-leaves g c =
 pub passes-requires-in-ClosedCoil-clause-now : goal.passes-requires-in-ClosedCoil-clause-now
 passes-requires-in-ClosedCoil-clause-now g c =
     has_contact _ contacts.Closed (coil_at c.in-ClosedCoil.number) _ c.args.spot.now.element
-    (named_by _ _ _ c.requires.relay c.in-ClosedCoil.is) c.coil_at-in-ClosedCoil.ensures c.requires.operands
+    (named_by _ _ _ c.requires.relay c.in-ClosedCoil.is)
+    c.coil_at-in-ClosedCoil.ensures c.requires.operands
 
 pub passes-requires-in-ClosedCoil-clause-before : goal.passes-requires-in-ClosedCoil-clause-before
 passes-requires-in-ClosedCoil-clause-before g c =
     had_contact _ contacts.Closed (coil_at c.in-ClosedCoil.number) _ c.args.spot.now.element
-    (named_by _ _ _ c.requires.relay c.in-ClosedCoil.is) c.coil_at-in-ClosedCoil.ensures c.requires.past
+    (named_by _ _ _ c.requires.relay c.in-ClosedCoil.is)
+    c.coil_at-in-ClosedCoil.ensures c.requires.past
 
 pub returns-in-ClosedCoil-clause-leaves : goal.returns-in-ClosedCoil-clause-leaves
 returns-in-ClosedCoil-clause-leaves g c =
-    gives_contact contacts.Closed (coil_at c.in-ClosedCoil.number) c.args.spot.now.element c.args.power _ _ _
+    gives_contact contacts.Closed (coil_at c.in-ClosedCoil.number)
+    c.args.spot.now.element c.args.power _ _ _
     (named_by _ _ _ c.requires.relay c.in-ClosedCoil.is)
     (c.passes-in-ClosedCoil.ensures ∙ ap (λ at. c.args.power && passes_power contacts.Closed at
     (g.R.RefStore.contents c.args.ram.now)
@@ -57,7 +61,8 @@ passes-requires-in-OpenInput-clause-before g c =
 
 pub returns-in-OpenInput-clause-leaves : goal.returns-in-OpenInput-clause-leaves
 returns-in-OpenInput-clause-leaves g c =
-    gives_contact contacts.Open (input_ref c.in-OpenInput.number) c.args.spot.now.element c.args.power _ _ _
+    gives_contact contacts.Open (input_ref c.in-OpenInput.number)
+    c.args.spot.now.element c.args.power _ _ _
     (named_by _ _ _ c.requires.relay c.in-OpenInput.is)
     (c.passes-in-OpenInput.ensures ∙ ap (λ at. c.args.power && passes_power contacts.Open at
     (g.R.RefStore.contents c.args.ram.now)
@@ -66,16 +71,19 @@ returns-in-OpenInput-clause-leaves g c =
 pub passes-requires-in-ClosedInput-clause-now : goal.passes-requires-in-ClosedInput-clause-now
 passes-requires-in-ClosedInput-clause-now g c =
     has_contact _ contacts.Closed (input_ref c.in-ClosedInput.number) _ c.args.spot.now.element
-    (named_by _ _ _ c.requires.relay c.in-ClosedInput.is) c.input_ref-in-ClosedInput.ensures c.requires.operands
+    (named_by _ _ _ c.requires.relay c.in-ClosedInput.is)
+    c.input_ref-in-ClosedInput.ensures c.requires.operands
 
 pub passes-requires-in-ClosedInput-clause-before : goal.passes-requires-in-ClosedInput-clause-before
 passes-requires-in-ClosedInput-clause-before g c =
     had_contact _ contacts.Closed (input_ref c.in-ClosedInput.number) _ c.args.spot.now.element
-    (named_by _ _ _ c.requires.relay c.in-ClosedInput.is) c.input_ref-in-ClosedInput.ensures c.requires.past
+    (named_by _ _ _ c.requires.relay c.in-ClosedInput.is)
+    c.input_ref-in-ClosedInput.ensures c.requires.past
 
 pub returns-in-ClosedInput-clause-leaves : goal.returns-in-ClosedInput-clause-leaves
 returns-in-ClosedInput-clause-leaves g c =
-    gives_contact contacts.Closed (input_ref c.in-ClosedInput.number) c.args.spot.now.element c.args.power _ _ _
+    gives_contact contacts.Closed (input_ref c.in-ClosedInput.number)
+    c.args.spot.now.element c.args.power _ _ _
     (named_by _ _ _ c.requires.relay c.in-ClosedInput.is)
     (c.passes-in-ClosedInput.ensures ∙ ap (λ at. c.args.power && passes_power contacts.Closed at
     (g.R.RefStore.contents c.args.ram.now)

@@ -365,7 +365,11 @@ solve_spot-returns-clause-solved g t c segments same numbered =
     spot-done (setting_within c.args.at.depth segments) c.args.spot.now c.args.at.site _ _ _ _
     c.solve_element-solved.result c.requires.can_solve.left
     (omega (arith, c.requires.can_solve.right)) c.requires.can_solve.first c.requires.can_solve.last
-    (rw (c.inputs_at-inputs.ensures, c.place.ensures, c.spot_output.ensures.other c.in_default.is) at
+    (rw (
+      c.inputs_at-inputs.ensures,
+      c.place.ensures,
+      c.spot_output.ensures.other c.in_default.is,
+    ) at
     (c.solve_element-solved.ensures.solved segments same (numbered ∙ ap
     (block_number segments) (sym c.place.ensures))))
     (ap (λ n. bit_or (get_or c.args.live.now c.args.spot.now.column 0) n) c.fed_rows.ensures)

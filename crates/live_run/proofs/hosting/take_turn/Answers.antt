@@ -45,6 +45,15 @@ hold_turn-requires-clause-ties g c =
     (c.holder.ensures.went _ c.requires.attends.ties.serves).list c.holder.ensures.legal
     c.requires.attends).ties
 
+pub hold_turn-requires-clause-no_bridge : goal.hold_turn-requires-clause-no_bridge
+hold_turn-requires-clause-no_bridge g c =
+    (attends-others g.G.RingSide.alone c.args.worker.now c.args.host.now
+    (g.G.RingSide.side c.args.ring.now) (g.G.RingSide.side c.holder.new.self)
+    (g.G.RingSide.known c.args.ring.now) (g.G.RingSide.known c.holder.new.self) false
+    c.holder.ensures.same
+    (c.holder.ensures.went _ c.requires.attends.ties.serves).list c.holder.ensures.legal
+    c.requires.attends).no_bridge
+
 pub hold_turn-requires-clause-counts : goal.hold_turn-requires-clause-counts
 hold_turn-requires-clause-counts g c =
     (attends-others g.G.RingSide.alone c.args.worker.now c.args.host.now

@@ -62,7 +62,7 @@ run_all-requires-clause-fresh g c κs within =
     let plans = c.as_slice-plans.result.now in
     let plans-are : plans ≡ plant.controllers = c.as_slice-plans.ensures in
     let all = fresh-all c.args.gate.now (λ (plan : ControllerPlan). plan.node) NotedLog plant
-    plans c.requires.plant.net c.requires.net c.requires.opening
+    plans c.requires.plant.net c.requires.plant.no_bridge c.requires.net c.requires.opening
     (subst (λ l. All (λ n. IsMember plant.net n) (map (λ (plan : ControllerPlan). plan.node) l))
     (sym plans-are) (controllers-members plant c.requires.plant)) in
     subst (λ l. AreFresh seat_side seat_seen plant (λ (plan : ControllerPlan). plan.node) plans l)
@@ -74,7 +74,7 @@ run_all-requires-clause-fresh_hosts g c κs within =
     let plans = c.as_slice-host_plans.result.now in
     let hosts-are : plans ≡ plant.hosts = c.as_slice-host_plans.ensures in
     let all = fresh-all c.args.gate.now (λ (plan : HostPlan). plan.node) HostLog plant
-    plans c.requires.plant.net c.requires.net c.requires.opening
+    plans c.requires.plant.net c.requires.plant.no_bridge c.requires.net c.requires.opening
     (subst (λ l. All (λ n. IsMember plant.net n) (map (λ (plan : HostPlan). plan.node) l))
     (sym hosts-are) (hosts-members plant c.requires.plant)) in
     subst (λ l. AreFresh seat_side seat_seen plant (λ (plan : HostPlan). plan.node) plans l)

@@ -26,6 +26,12 @@ hold_turn-requires-clause-holds g c =
     (ap (λ s. (ring_after s.net (g.G.RingSide.known c.holder.new.self)).holder)
     c.holder.ensures.same ∙ sym c.holder.ensures.answer ∙ found)
 
+pub hold_turn-requires-clause-no_bridge : goal.hold_turn-requires-clause-no_bridge
+hold_turn-requires-clause-no_bridge g c =
+    (talks-others g.G.RingSide.alone _ _ _ _ _ _ _ c.holder.ensures.same
+    (c.holder.ensures.went _ c.requires.talks.standing.serves).list c.holder.ensures.legal
+    c.requires.talks).no_bridge
+
 pub returns-then-holder-node-clause-talks : goal.returns-then-holder-node-clause-talks
 returns-then-holder-node-clause-talks g c =
     talks-others g.G.RingSide.alone _ _ _ _ _ _ _ c.holder.ensures.same

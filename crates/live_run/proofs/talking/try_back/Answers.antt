@@ -1,4 +1,4 @@
-use Rattle.std.proofs.Common.{◌≡◌, Bool, true, false, sym, subst, ◌∙◌}
+use Rattle.std.proofs.Common.{◌≡◌, Bool, true, sym, subst, ◌∙◌}
 use Rattle.controller_core.specs.Controller.{IsLegal}
 use Rattle.joint_history.specs.Reading.{has_ended_at}
 use Rattle.comm_port.specs.Failing.{ComesBack}

@@ -6,13 +6,14 @@ use Rattle.plant984.proofs.DueLemmas.{Found, Keeps-found, answered-due, in_range
 use Rattle.plant984.proofs.DueLemmas.{nothing_read, one-command, whole_read}
 use Rattle.plant984.proofs.serial.plant_serial.Goals as goal
 
-pub answer_to-requires : goal.answer_to-requires
-answer_to-requires g c =
+pub answer_to-requires-clause-command : goal.answer_to-requires-clause-command
+answer_to-requires-clause-command g c =
     in_range (map string_bytes c.args.words.now) c.in-Some.command
     ((c.in-Ok.ensures c.in-Some.command).0 c.in-Some.is)
 
-pub answer_to-requires-in-Ok-read_all : goal.answer_to-requires-in-Ok-read_all
-answer_to-requires-in-Ok-read_all g c =
+pub answer_to-requires-in-Ok-read_all-clause-command :
+    goal.answer_to-requires-in-Ok-read_all-clause-command
+answer_to-requires-in-Ok-read_all-clause-command g c =
     in_range (map string_bytes c.args.words.now) c.in-Some.command
     ((c.in-Ok.ensures c.in-Some.command).0 c.in-Some.is)
 

@@ -1,8 +1,14 @@
 use Rattle.std.proofs.Common.{sym, ap, ◌∙◌, subst}
 use Rattle.plant_types.specs.declared.net.NetPlan.{NetPlan}
 use Rattle.comm_port.specs.HostStands.{HostIsReady}
+use Rattle.comm_port.specs.Turns.{IsNoBridge}
 use Rattle.comm_port.proofs.HostStandings.{stands-on}
 use Rattle.port_tests.proofs.host_turns.hold.Goals as goal
+
+pub hold_turn-requires-clause-no_bridge : goal.hold_turn-requires-clause-no_bridge
+hold_turn-requires-clause-no_bridge c =
+    subst (IsNoBridge c.args.ring.now.net) (sym c.requires.mine.worker_node)
+    c.requires.mine.no_bridge
 
 pub returns-clause-theirs : goal.returns-clause-theirs
 returns-clause-theirs c =

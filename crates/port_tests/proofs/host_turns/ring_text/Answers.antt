@@ -12,9 +12,10 @@ held_text-text-requires-clause-one g c =
     let ring = c.in_ok-ring.ensures in
     let net = c.in_ok-ring.ring.net in
     let members = ap (λ (x : NetPlan). x.members) ring.net ∙ c.requires.members in
+    let alone = ap (λ (x : NetPlan). x.bridges) ring.net ∙ c.requires.alone in
     let answer = ap (λ (x : NetPlan). x.answer) ring.net ∙ c.requires.answer in
     subst (λ (r : List RingEntry). HostIsReady 1 s.host s.worker s.left net r) (sym ring.empty)
-    (stands-one s.host s.worker s.left net members
+    (stands-one s.host s.worker s.left net members alone
     (omega (arith, answer)) e.node e.history e.worker)
 
 pub held_text-text-requires-clause-two : goal.held_text-text-requires-clause-two
@@ -24,7 +25,8 @@ held_text-text-requires-clause-two g c =
     let ring = c.in_ok-ring.ensures in
     let net = c.in_ok-ring.ring.net in
     let members = ap (λ (x : NetPlan). x.members) ring.net ∙ c.requires.members in
+    let alone = ap (λ (x : NetPlan). x.bridges) ring.net ∙ c.requires.alone in
     let answer = ap (λ (x : NetPlan). x.answer) ring.net ∙ c.requires.answer in
     subst (λ (r : List RingEntry). HostIsReady 2 s.host s.worker s.left net r) (sym ring.empty)
-    (stands-two s.host s.worker s.left net members
+    (stands-two s.host s.worker s.left net members alone
     (omega (arith, answer)) e.node e.history e.worker)

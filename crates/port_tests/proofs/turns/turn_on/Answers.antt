@@ -8,6 +8,7 @@ use Rattle.tied_lists.specs.Waits.{Holds}
 use Rattle.comm_port.specs.Sides.{RamSideIs, RingSideIs}
 use Rattle.ring_core.specs.Machine.{path_places}
 use Rattle.comm_port.specs.Worker.{WorkerIs, Standing}
+use Rattle.comm_port.proofs.Onward.{none-bridges}
 use Rattle.comm_port.proofs.Standings.{standing-new, first-here}
 use Rattle.port_tests.proofs.turns.turn_on.Goals as goal
 
@@ -23,10 +24,20 @@ hold_turn-requires-clause-standing c =
     subst (λ (w : WorkerIs). Standing w ram known side c.args.ring.now.history)
     (sym c.in_ok-worker.ensures)
     (subst (λ (r : List RingEntry). Standing
-    (record { node = 2; net = c.args.net.now; budget = true; noticed = 0; waiting = replicate path_places None })
+    (record {
+      node = 2;
+      net = c.args.net.now;
+      budget = true;
+      noticed = 0;
+      waiting = replicate path_places None;
+    })
     ram known side r) (sym c.requires.empty)
     (standing-new 2 c.args.net.now true ram known side c.requires.node c.requires.ring tt
     c.requires.events))
+
+pub hold_turn-requires-clause-no_bridge : goal.hold_turn-requires-clause-no_bridge
+hold_turn-requires-clause-no_bridge c = none-bridges c.args.ring.now.net _
+    (ap (λ (m : NetPlan). m.bridges) c.requires.ring ∙ c.requires.alone)
 
 here-of : (net : NetPlan) (rest : List ℕ) → net.members ≡ 2 ∷ rest
     → is_here (ring_node (ring_after net []) 2) ≡ true

@@ -1,9 +1,11 @@
-use Rattle.std.proofs.Common.{◌≡◌, ◌≤◌, length, drop}
-use Rattle.ring_core.specs.Refusals.{least_done}
+use Rattle.std.proofs.Common.{◌≡◌, ◌&&◌, not, min, map, filter, fold, drop}
+use Rattle.ring_core.specs.Machine.{part_of, is_here, is_bridge}
+use Rattle.ring_core.specs.Refusals.{least_done, dones_of}
 use Rattle.ring_core.proofs.members.least_done.Given as goal
 
-abbrev pub invariant-loop-at : goal.invariant-loop-at
-invariant-loop-at l = (l.at ≤ length l.nodes) × (l.least ≡ least_done (drop l.at l.nodes))
-
-abbrev pub decreases-loop-at : goal.decreases-loop-at
-decreases-loop-at l = l.at
+abbrev pub invariant-loop-member : goal.invariant-loop-member
+invariant-loop-member l =
+    fold min l.least (map (dones_of l.nodes)
+    (filter (λ m. is_here (part_of l.nodes m) && not (is_bridge l.net m))
+    (drop l.member-index l.members)))
+    ≡ least_done l.net l.nodes l.own

@@ -1,4 +1,5 @@
-use Rattle.std.proofs.Common.{◌≡◌, true, false, Bool, List, [], refl, sym, ap, ◌∙◌, append-nil, ◌++◌}
+use Rattle.std.proofs.Common.{◌≡◌, true, false, Bool, List, []}
+use Rattle.std.proofs.Common.{refl, sym, ap, ◌∙◌, append-nil, ◌++◌}
 use Rattle.ring_core.specs.declared.status.NodeStatus.{NodeStatus}
 use Rattle.ring_core.specs.declared.status.NodeStatus.TheVariants.{In, Away, Asking, Gone}
 use Rattle.ring_core.specs.declared.entry.RingEntry.{RingEntry}

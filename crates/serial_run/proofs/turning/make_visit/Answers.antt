@@ -5,10 +5,10 @@ use Rattle.joint_history.specs.Reading.{has_started_at}
 use Rattle.tied_lists.specs.Waits.{HasLeft, status_at}
 use Rattle.std.specs.Prelude.{◌&&◌}
 use Rattle.turn_laws.specs.KeepsOn.{KeepsOn}
+use Rattle.turn_laws.proofs.Uncollected.{alone-collects, visit-status}
 use Rattle.serial_run.specs.declared.stations.ControllerStation.{ControllerStation}
 use Rattle.serial_run.specs.Held.{VisitedWhere, is_visit_due, status_in}
 use Rattle.serial_run.specs.Turns.{may_visit}
-use Rattle.serial_run.proofs.Collecting.{visit-collects, visit-status}
 use Rattle.serial_run.proofs.Keeping.{and-false, and-first, left-asks, out-left, stands-before}
 use Rattle.serial_run.proofs.Keeping.{same-worker, stands-behind}
 use Rattle.serial_run.proofs.turning.make_visit.Goals as goal
@@ -69,11 +69,11 @@ returns c =
           o.standing)
           (subst (λ (b : Bool). KeepsOn s.controller.fixed ring.net s.worker.node
           s.controller.history ring.history b) gone c.requires.keeps.keeps));
-      status = visit-status s.controller.fixed ring.net s.worker.node s.controller.history
-          v.history ring.history new_ring.history o.visited
+      status = visit-status true true s.controller.fixed ring.net s.worker.node
+          s.controller.history v.history ring.history new_ring.history o.visited
           (left-asks (status_at ring.net ring.history s.worker.node) out);
       visited = and-false _ _ (ap (λ f. has_started_at f v.history) fixed
-          ∙ visit-collects c.calls_follow.ensures s.controller.fixed true ring.net s.worker.node
+          ∙ alone-collects c.calls_follow.ensures s.controller.fixed true ring.net s.worker.node
           s.controller.history v.history
           ring.history new_ring.history o.visited);
     }

@@ -30,6 +30,7 @@ returns c =
         keeps = sound.keeps;
         past = record { store = machine.ram; keeps = sound.keeps; is = past };
         node = sound.node;
+        routed = sound.routed;
         blocks = sound.blocks;
         few = sound.few;
         exchanges = sound.exchanges;

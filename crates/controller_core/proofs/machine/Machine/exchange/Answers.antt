@@ -48,6 +48,7 @@ returns c =
         keeps = λ at h. c.input.ensures.keeps at (sound.keeps at h);
         past = sound.past;
         node = sound.node;
+        routed = sound.routed;
         blocks = sound.blocks;
         few = sound.few;
         exchanges = length-set xs place (c.index.result.now + 1) ∙ size;

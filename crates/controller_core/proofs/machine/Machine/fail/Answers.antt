@@ -72,6 +72,7 @@ returns c =
         keeps = keeps;
         past = record { store = m; keeps = keeps; is = past };
         node = ap (λ (t : BlockTable). t.node) bank ∙ calls.node ∙ sound.node;
+        routed = ap (λ (t : BlockTable). t.routed) bank ∙ calls.routed ∙ sound.routed;
         blocks = blocks ∙ sound.blocks;
         few = let few = sound.few in omega (arith, blocks, few);
         exchanges = sound.exchanges;

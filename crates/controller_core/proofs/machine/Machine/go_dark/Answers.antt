@@ -14,6 +14,7 @@ returns c =
         keeps = sound.keeps;
         past = sound.past;
         node = sound.node;
+        routed = sound.routed;
         blocks = sound.blocks;
         few = sound.few;
         exchanges = sound.exchanges;

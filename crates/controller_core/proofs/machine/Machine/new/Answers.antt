@@ -36,6 +36,7 @@ returns-clause-sound c =
         is = made.stores.past ∙ sym (c.discretes_follow.ensures.fresh sizes);
       };
       node = ap (λ (t : BlockTable). t.node) made.solver.bank;
+      routed = ap (λ (t : BlockTable). t.routed) made.solver.bank;
       blocks = blocks;
       few = let few = made.solver.few in omega (arith, blocks, few);
       exchanges = ap length made.exchanges ∙ length-replicate {A = ℕ} 32 0;

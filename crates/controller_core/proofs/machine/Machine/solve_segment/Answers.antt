@@ -76,6 +76,7 @@ returns c =
         keeps = λ at h. c.solve-end.ensures.solved.keeps at (sound.keeps at h);
         past = sound.past;
         node = ap (λ (s : SolveState). s.table.node) done ∙ calls.node ∙ sound.node;
+        routed = ap (λ (s : SolveState). s.table.routed) done ∙ calls.routed ∙ sound.routed;
         blocks = c.solve-end.ensures.solved.blocks ∙ sound.blocks;
         few = let same = c.solve-end.ensures.solved.blocks in let few = sound.few in omega
             (arith, same, few);

@@ -16,5 +16,6 @@ returns-clause-table c =
 
 pub returns-clause-named : goal.returns-clause-named
 returns-clause-named c =
-    subst (λ (table : BlockTable). IfSome c.take_started.result (IsCall table.node)) c.self.view_is
+    subst (λ (table : BlockTable). IfSome c.take_started.result (IsCall table.routed table.node))
+    c.self.view_is
     (calls-first _ c.self.invariant 0 _ c.take_started.ensures.call)

@@ -26,7 +26,8 @@ loop-at-preserved c =
     let end = c.len-at-end.ensures in
     let size = c.args.self.now.controllers.ok.0 in
     let long = turns-long Away IsOffAway c.loop-at.at c.args.self.now c.loop-at.self some in
-    one-more-of-all Away IsOffAway c.loop-at.at c.args.self.now c.loop-at.self c.away.new.self c.index.result.now
+    one-more-of-all Away IsOffAway c.loop-at.at c.args.self.now c.loop-at.self c.away.new.self
+    c.index.result.now
     some (omega (arith, low, end, size, long))
     c.index.ensures o.did o.scans o.gain
 
@@ -36,7 +37,8 @@ returns-clause-came c =
     let high = c.loop-at.auto.at-end in
     let end = c.len-at-end.ensures in
     let size = c.args.self.now.controllers.ok.0 in
-    all-turns Away IsOffAway c.loop-at.at c.args.self.now c.loop-at.self (omega (arith, low, high, end, size))
+    all-turns Away IsOffAway c.loop-at.at c.args.self.now c.loop-at.self
+    (omega (arith, low, high, end, size))
     c.loop-at.invariant
 
 pub returns-clause-off : goal.returns-clause-off
@@ -45,7 +47,8 @@ returns-clause-off c =
     let high = c.loop-at.auto.at-end in
     let end = c.len-at-end.ensures in
     let size = c.args.self.now.controllers.ok.0 in
-    let long = turns-long Away IsOffAway c.loop-at.at c.args.self.now c.loop-at.self c.loop-at.invariant in
+    let long = turns-long Away IsOffAway c.loop-at.at c.args.self.now c.loop-at.self
+    c.loop-at.invariant in
     everyone-has IsOffAway c.loop-at.at c.loop-at.self
     (omega (arith, low, high, end, size, long)) c.loop-at.invariant.have
 

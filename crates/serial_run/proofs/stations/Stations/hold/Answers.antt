@@ -11,6 +11,7 @@ use Rattle.serial_run.proofs.Measures.{lessens-none, scans-same}
 use Rattle.serial_run.proofs.Holding.{hold-lessens, hold-scans, host-hold-lessens}
 use Rattle.serial_run.proofs.Holding.{here-left}
 use Rattle.serial_run.proofs.Keeping.{host-is-here, host-keeps-beside, keeps-beside}
+use Rattle.serial_run.proofs.Keeping.{no-bridge-beside}
 use Rattle.serial_run.specs.Held.{IsOffAway}
 use Rattle.serial_run.proofs.Gained.{stays-same}
 use Rattle.serial_run.proofs.Off.{hold-off, host-hold-off}
@@ -30,8 +31,13 @@ hold_controller-requires-clause-token c =
     let s = c.index_mut.result.now in
     let found = found-station run c.holder-holder.result c.in-Some.at s
     (sym c.controller_at.ensures ∙ c.in-Some.is) c.index_mut.ensures.value in
-    has-token c.somebody_holds.ensures c.requires.plant c.requires.scans run c.in-Some.at s c.requires.all found.0
+    has-token c.somebody_holds.ensures c.requires.plant c.requires.scans run c.in-Some.at s
+    c.requires.all found.0
     (subst (λ (n : ℕ). (s.node == n) ≡ true) c.holder-holder.ensures found.1)
+
+pub hold_controller-requires-clause-no_bridge : goal.hold_controller-requires-clause-no_bridge
+hold_controller-requires-clause-no_bridge c =
+    no-bridge-beside c.requires.plant c.requires.scans c.args.self.now _ c.requires.all
 
 pub hold_controller-requires-clause-keeps : goal.hold_controller-requires-clause-keeps
 hold_controller-requires-clause-keeps c =
@@ -48,8 +54,13 @@ hold_controller-requires-clause-here c =
     let found = found-station run c.holder-holder.result c.in-Some.at s
     (sym c.controller_at.ensures ∙ c.in-Some.is) c.index_mut.ensures.value in
     here-left c.requires.plant c.requires.scans run c.in-Some.at s c.requires.all found.0
-    (has-token c.somebody_holds.ensures c.requires.plant c.requires.scans run c.in-Some.at s c.requires.all found.0
+    (has-token c.somebody_holds.ensures c.requires.plant c.requires.scans run c.in-Some.at s
+    c.requires.all found.0
     (subst (λ (n : ℕ). (s.node == n) ≡ true) c.holder-holder.ensures found.1))
+
+pub hold_host-requires-clause-no_bridge : goal.hold_host-requires-clause-no_bridge
+hold_host-requires-clause-no_bridge c =
+    no-bridge-beside c.requires.plant c.requires.scans c.args.self.now _ c.requires.all
 
 pub hold_host-requires-clause-keeps : goal.hold_host-requires-clause-keeps
 hold_host-requires-clause-keeps c =
@@ -69,7 +80,8 @@ hold_host-requires-clause-here c =
     (sym c.host_at.ensures ∙ c.in-Some-host_at.is)
     c.index_mut-in-Some-host_at.ensures.value in
     host-is-here c.requires.plant c.requires.scans run c.in-Some-host_at.at s c.requires.all found.0
-    (host-has-token c.somebody_holds.ensures c.requires.plant c.requires.scans run c.in-Some-host_at.at s c.requires.all
+    (host-has-token c.somebody_holds.ensures c.requires.plant c.requires.scans run
+    c.in-Some-host_at.at s c.requires.all
     found.0
     (subst (λ (n : ℕ). (s.node == n) ≡ true) c.holder-holder.ensures found.1))
 
@@ -152,7 +164,8 @@ returns-in-Some-clause-less c =
     let s = c.index_mut.result.now in
     let found = found-station run c.holder-holder.result at s
     (sym c.controller_at.ensures ∙ c.in-Some.is) c.index_mut.ensures.value in
-    let token = has-token c.somebody_holds.ensures c.requires.plant c.requires.scans run at s c.requires.all found.0
+    let token = has-token c.somebody_holds.ensures c.requires.plant c.requires.scans run at s
+    c.requires.all found.0
     (subst (λ (n : ℕ). (s.node == n) ≡ true) c.holder-holder.ensures found.1) in
     on-ok c.hold_controller.result
     (λ held. hold-lessens c.requires.plant c.requires.scans run
@@ -181,7 +194,8 @@ hold_host-requires-clause-token c =
     let found = found-host run c.holder-holder.result c.in-Some-host_at.at s
     (sym c.host_at.ensures ∙ c.in-Some-host_at.is)
     c.index_mut-in-Some-host_at.ensures.value in
-    host-has-token c.somebody_holds.ensures c.requires.plant c.requires.scans run c.in-Some-host_at.at s c.requires.all
+    host-has-token c.somebody_holds.ensures c.requires.plant c.requires.scans run
+    c.in-Some-host_at.at s c.requires.all
     found.0
     (subst (λ (n : ℕ). (s.node == n) ≡ true) c.holder-holder.ensures found.1)
 
@@ -228,7 +242,8 @@ returns-in-Some-host_at-clause-less c =
     let found = found-host run c.holder-holder.result at s
     (sym c.host_at.ensures ∙ c.in-Some-host_at.is)
     c.index_mut-in-Some-host_at.ensures.value in
-    let token = host-has-token c.somebody_holds.ensures c.requires.plant c.requires.scans run at s c.requires.all found.0
+    let token = host-has-token c.somebody_holds.ensures c.requires.plant c.requires.scans run at s
+    c.requires.all found.0
     (subst (λ (n : ℕ). (s.node == n) ≡ true) c.holder-holder.ensures found.1) in
     on-ok c.hold_host.result
     (λ held. host-hold-lessens c.requires.plant c.requires.scans run

@@ -1,9 +1,9 @@
 use Rattle.std.proofs.Common.{◌<◌, length, refl, sym, subst, ap, ◌∙◌, arith}
+use Rattle.whole_scan.specs.Scans.{IsBetweenScans}
 use Rattle.serial_run.proofs.AllScans.{everyone-scanned, none-scanned, one-more-scanned}
 use Rattle.serial_run.proofs.AllScans.{scan-all-between}
 use Rattle.serial_run.proofs.AllScans.{scan-all-did, scan-all-less, still-first}
 use Rattle.serial_run.specs.declared.stations.ControllerStation.{ControllerStation}
-use Rattle.serial_run.specs.Scans.{IsBetweenScans}
 use Rattle.serial_run.proofs.stations.Stations.scan_all.Goals as goal
 
 pub loop-at-init : goal.loop-at-init

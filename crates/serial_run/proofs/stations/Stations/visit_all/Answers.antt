@@ -31,7 +31,8 @@ loop-at-preserved c =
     let size = c.args.self.now.controllers.ok.0 in
     let long = turns-long Visit IsVisited c.loop-at.at c.args.self.now c.loop-at.self some in
     record {
-      turns = one-more-of-all Visit IsVisited c.loop-at.at c.args.self.now c.loop-at.self c.visit.new.self c.index.result.now
+      turns = one-more-of-all Visit IsVisited c.loop-at.at c.args.self.now c.loop-at.self
+          c.visit.new.self c.index.result.now
           some (omega (arith, low, end, size, long))
           c.index.ensures o.visited o.scans o.gain;
       off = stays-both IsOffAway c.args.self.now c.loop-at.self c.visit.new.self
@@ -45,7 +46,8 @@ returns-clause-visits c =
     let high = c.loop-at.auto.at-end in
     let end = c.len-at-end.ensures in
     let size = c.args.self.now.controllers.ok.0 in
-    all-turns Visit IsVisited c.loop-at.at c.args.self.now c.loop-at.self (omega (arith, low, high, end, size))
+    all-turns Visit IsVisited c.loop-at.at c.args.self.now c.loop-at.self
+    (omega (arith, low, high, end, size))
     c.loop-at.invariant.turns
 
 pub returns-clause-visited : goal.returns-clause-visited
@@ -54,7 +56,8 @@ returns-clause-visited c =
     let high = c.loop-at.auto.at-end in
     let end = c.len-at-end.ensures in
     let size = c.args.self.now.controllers.ok.0 in
-    let long = turns-long Visit IsVisited c.loop-at.at c.args.self.now c.loop-at.self c.loop-at.invariant.turns in
+    let long = turns-long Visit IsVisited c.loop-at.at c.args.self.now c.loop-at.self
+    c.loop-at.invariant.turns in
     everyone-has IsVisited c.loop-at.at c.loop-at.self
     (omega (arith, low, high, end, size, long)) c.loop-at.invariant.turns.have
 

@@ -1,0 +1,6 @@
+pub mod Reading
+pub mod Sides
+pub mod EndTurns
+pub mod EndParts
+pub mod EndSteps
+pub mod Stands

@@ -1,0 +1,9 @@
+pub mod Lists
+pub mod Paths
+pub mod Steps
+pub mod Legal
+pub mod Onward
+pub mod Keeping
+pub mod Parts
+pub mod Tally
+pub mod Calls

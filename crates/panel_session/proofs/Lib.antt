@@ -1,0 +1,11 @@
+pub mod Lines
+pub mod Tables
+pub mod GivingUp
+pub mod Quiet
+pub mod OneScan
+pub mod ScansLeft
+pub mod ScanMade
+pub mod Heard
+pub mod ServedAll
+pub mod ScanByScan
+pub mod Sessions

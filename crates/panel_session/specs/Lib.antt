@@ -1,0 +1,5 @@
+pub mod Serving
+pub mod Asked
+pub mod Scanning
+pub mod Bench
+pub mod Session

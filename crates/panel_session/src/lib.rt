@@ -1,0 +1,11 @@
+//! A controller on a bench, and an operator's frames that are served between its scans.
+#![tactic(auto)]
+
+mod asked;
+mod bench;
+mod calls;
+mod line;
+mod session;
+
+pub use bench::{Bench, BenchEnd};
+pub use session::{Session, run_session};

@@ -1,0 +1,2 @@
+pub mod ScanEnds
+pub mod ScanSteps
