@@ -18,6 +18,13 @@ WORDS = [
     (r"Q (\S+) ([\d.]+) (\S+)", "the host asked by the route {1} as call {0}: {2}"),
     (r"A (\S+) R (\S+)", "call {0} got the reply {1}"),
     (r"A (\S+) B (\S+)", "call {0} got no reply: {1}"),
+    (r"T (\d+) (\S+) - (\S+)", "the end {0} accepted the request {2} of call {1}, which was for itself, and is refused"),
+    (r"T (\d+) (\S+) ([\d.]+) (\S+)", "the end {0} accepted the request {3} of call {1}, which is to go on by the route {2}"),
+    (r"U (\d+) (\S+) (\S+) ([\d.]+) (\S+)", "the end {0} sent the request {4} of call {1} on by the route {3}, as its own call {2}"),
+    (r"A (\d+) (\S+) R (\S+)", "the end {0} got the reply {2} to its call {1}"),
+    (r"A (\d+) (\S+) B (\S+)", "the end {0} got no reply to its call {1}: {2}"),
+    (r"V (\d+) (\S+) (\S+)", "the end {0} gave the reply {2} to call {1} back"),
+    (r"G (\d+)", "the end {0} left its ring for good"),
     (r"PO (\d+) Q (\S+) (\d+) (\S+)", "node {0} put the request {3} of call {1}, to node {2}, into its outbox"),
     (r"PO (\d+) Q (\S+) ([\d.]+) (\S+)", "node {0} put the request {3} of call {1}, by the route {2}, into its outbox"),
     (r"PO (\d+) R (\S+) (\S+)", "node {0} put the reply {2} to call {1} into its outbox"),
@@ -37,6 +44,15 @@ WORDS = [
     (r"LE (\d+) D(\d+)", "node {0} left the ring, since power had failed: failure {1} of its controller"),
     (r"JN (\d+)", "node {0} asked to come in again"),
 ]
+
+
+NUMBER = r"(?:0|[1-9]\d*)"
+HEAD = re.compile(rf"[CH] {NUMBER}|W {NUMBER} {NUMBER}|R( [1-9]\d*)?", re.ASCII)
+
+
+def is_head(line):
+    """Whether a line begins a section. A bridge has two addresses there, and a ring the number of its network, where that is not 0."""
+    return bool(HEAD.fullmatch(line)) and all(int(number) <= 255 for number in re.findall(r"\d+", line))
 
 
 def in_words(text):
@@ -65,7 +81,7 @@ class Journal:
             if line == "%END":
                 self.end = number
                 break
-            if re.fullmatch(r"[CH] \d+|R", line):
+            if is_head(line):
                 entries = self.sections.setdefault(line, [])
             elif entries is not None:
                 entries.append(Entry(number, line))
@@ -73,10 +89,16 @@ class Journal:
     def of(self, section):
         return self.sections.get(section, [])
 
+    def bridge(self, node):
+        """The head of the bridge that has an end with this address, or nothing."""
+        return next((head for head in self.sections if head[0] == "W" and str(node) in head.split()), "")
+
     def station(self, node):
-        """The entries of the controller or the host of a node."""
-        return self.of(f"C {node}") or self.of(f"H {node}")
+        """The entries of the controller, the host or the end of a bridge with an address."""
+        of_end = [entry for entry in self.of(self.bridge(node)) if entry.words[1:2] == [str(node)]]
+        return self.of(f"C {node}") or self.of(f"H {node}") or of_end
 
     def ring(self, *heads):
-        """The ring's entries that begin with one of some texts."""
-        return [entry for entry in self.of("R") if (entry.text + " ").startswith(heads)]
+        """The entries of all rings that begin with one of some texts. A node is on one ring."""
+        rings = [entries for head, entries in self.sections.items() if head[0] == "R"]
+        return [entry for entries in rings for entry in entries if (entry.text + " ").startswith(heads)]

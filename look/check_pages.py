@@ -196,6 +196,35 @@ def try_routes(window, folder):
     results.equal("routes: errors", [], window.errors())
 
 
+def try_bridges(window, folder):
+    """Calls that bridges send on, and the rings of several networks."""
+    page = os.path.join(folder, "bridges.html")
+    status = run_script("view", "1", plant_file("read_two"), os.path.join(CASES, "bridges.journal"), page)[0]
+    window.open("file://" + page)
+    results.equal("bridges: the verdict", (0, "illegal sections"), (status, window.field(".chip", "dataset.verdict")))
+    results.equal("outcomes over bridges", ["✓ 1 ended well", "✕ 2 failed"], window.texts("#outcomes button"))
+    ways = window.texts("#calls .way")
+    results.equal("the ways of calls over bridges", {"2 → 9.5", "2 → 9.20.7", "2 → 9", "12 → 5", "12 → 20.7", "3 → 7"}, set(ways))
+    results.equal("the lanes of bridge ends", ["2", "3", "5", "9", "12", "20"], window.texts("#chart .lanes text"))
+    words = window.texts("#chart .words")
+    wanted = [
+        "network 1: puts request 2.1.1 to node 5 by route 9.5 into its outbox",
+        "network 1: request 2.1.1 to node 5 by route 9.5: acknowledged – read 40001 to 40002",
+        "network 1: takes request 2.1.1, which is to go on to node 5",
+        "network 1: reply to 2.3.1 to node 2: acknowledged – exception 1: function not known",
+    ]
+    results.equal("the frames of bridges", wanted, [one for one in wanted if one in words])
+    window.value("view.select('2.1.1', 0)")
+    told = window.text("#call")
+    for wanted in ("Node 2 asks node 5 by route 9.5", "went on as call 12.1.1", "served at node 5 after scan 1", "W 9 12", "R 1"):
+        results.note(f"a call over a bridge: {wanted}", wanted in told, told)
+    window.value("document.querySelector('#call .onward').click()")
+    results.equal("a click on the name under which it went on", "12.1.1", window.value("view.selected"))
+    told, row = window.text("#call"), window.text("#chart .selected .words")
+    results.note("the call of a bridge", "Node 12 asks node 5: read 40001 to 40002." in told and row.startswith("network 2: "), told, row)
+    results.equal("bridges: errors", [], window.errors())
+
+
 def try_compare_page(window, folder):
     read_two, page = plant_file("read_two"), os.path.join(folder, "compare.html")
     lost = changed(folder, "lost.toml", "rounds = 1", 'rounds = 1\nfates = "A"', "read_two")
@@ -220,6 +249,7 @@ def try_pages(folder):
         try_large(window, folder)
         try_journal_pages(window, folder)
         try_routes(window, folder)
+        try_bridges(window, folder)
         try_compare_page(window, folder)
     finally:
         window.close()

@@ -1,4 +1,5 @@
 """Reads journals and panel lines (docs/guide/JOURNAL.md), and says what became of each call and frame."""
+import heapq
 import re
 from collections import deque
 from dataclasses import dataclass, field
@@ -30,6 +31,14 @@ HOST = re.compile(
     | A\ (?P<ended>{ID})\ (?:R\ (?P<good>{PDU})|B\ (?P<bad>{WORD})) | {STATION}""",
     re.VERBOSE,
 )
+BRIDGE = re.compile(
+    rf"""T\ (?P<accepts>{NUMBER})\ (?P<accepted>{ID})\ (?P<rest>-|{ROUTE})\ (?P<pdu>{PDU})
+    | U\ (?P<sends>{NUMBER})\ (?P<old>{ID})\ (?P<asked>{ID})\ (?P<route>{ROUTE})\ (?P<ask>{PDU})
+    | A\ (?P<hears>{NUMBER})\ (?P<ended>{ID})\ (?:R\ (?P<good>{PDU})|B\ (?P<bad>{WORD}))
+    | V\ (?P<gives>{NUMBER})\ (?P<returned>{ID})\ (?P<reply>{PDU})
+    | G\ (?P<gone>{NUMBER})""",
+    re.VERBOSE,
+)
 RING = re.compile(
     rf"""PO\ (?P<post>{NUMBER})\ (?:Q\ (?P<asked>{ID})\ (?P<route>{WAY})|R\ (?P<replied>{ID}))\ (?P<posted>{PDU})
     | SE\ (?P<send>{NUMBER})\ (?P<heard>[ASB])
@@ -41,8 +50,20 @@ RING = re.compile(
     | JN\ (?P<joined>{NUMBER})""",
     re.VERBOSE,
 )
+# The sections in their order: by the letter of its head what numbers stand there, and the form of an entry.
+SECTIONS = {
+    "C": (re.compile(rf"C ({NUMBER})"), CONTROLLER),
+    "H": (re.compile(rf"H ({NUMBER})"), HOST),
+    "W": (re.compile(rf"W ({NUMBER}) ({NUMBER})"), BRIDGE),
+    # Network 0 has no number there.
+    "R": (re.compile(r"R(?: ([1-9][0-9]{0,9}))?"), RING),
+}
 # The largest number that each of these fields takes.
 LIMITS = {"at": 65535, "out": 65535}
+IDS = ("id", "ended", "asked", "replied", "taken", "own", "given", "declined", "accepted", "old", "returned")
+# Who makes an entry of a ring, and of a bridge; a give-up has its node in the name of the call.
+MAKERS = ("post", "send", "take", "local", "passed", "left", "joined")
+ENDS = ("accepts", "sends", "hears", "gives", "gone")
 ONE_CALL = re.compile(rf"(?P<id>{ID})=(?:(?P<route>{ROUTE}):(?P<pdu>{PDU})|(?P<op>{LOCAL}))")
 
 
@@ -61,31 +82,55 @@ class Entry:
     fields: dict
 
 
+def head_of(letter, place):
+    """The line that begins a section. A place is a node, the two ends of a bridge, or the number of a network."""
+    numbers = place if letter == "W" else [place]
+    return " ".join([letter, *(str(number) for number in numbers if letter != "R" or number)])
+
+
 @dataclass
 class Journal:
+    """The entries of each section, by its place."""
+
     controllers: dict = field(default_factory=dict)
     hosts: dict = field(default_factory=dict)
-    ring: list = field(default_factory=list)
+    bridges: dict = field(default_factory=dict)
+    rings: dict = field(default_factory=dict)
+
+    def kinds(self):
+        return {"C": self.controllers, "H": self.hosts, "W": self.bridges, "R": self.rings}
+
+    def begin(self, letter, numbers):
+        """Adds a section, and gives the list of its entries."""
+        return self.kinds()[letter].setdefault(numbers if letter == "W" else numbers[0], [])
+
+    def lists(self):
+        """The entries of each section."""
+        return [entries for sections in self.kinds().values() for entries in sections.values()]
+
+    def ends(self):
+        """The addresses of all bridge ends."""
+        return {end for ends in self.bridges for end in ends}
 
     def text(self):
         """The journal as it is written."""
         lines = ["%JOURNAL"]
-        for letter, sections in (("C", self.controllers), ("H", self.hosts)):
-            for node, entries in sections.items():
-                lines += [f"{letter} {node}"] + [entry.text for entry in entries]
-        return "\n".join(lines + ["R"] + [entry.text for entry in self.ring] + ["%END"]) + "\n"
+        for letter, sections in self.kinds().items():
+            for place, entries in sections.items():
+                lines += [head_of(letter, place)] + [entry.text for entry in entries]
+        return "\n".join(lines + ["%END"]) + "\n"
 
 
 def small(name, value):
     """Whether the numbers of a field are within their types."""
     if value is None or not isinstance(value, str):
         return True
-    if name in ("id", "ended", "asked", "replied", "taken", "own", "given", "declined"):
+    if name in IDS:
         node, path, seq = (int(part) for part in value.split("."))
         return node <= 255 and path <= 255 and seq < 2**32
     if name in ("route", "rest"):
-        return all(int(address) <= 255 for address in value.split("."))
-    if name in ("post", "send", "take", "local", "passed", "left", "joined"):
+        return value == "-" or all(int(address) <= 255 for address in value.split("."))
+    if name in MAKERS or name in ENDS:
         return int(value) <= 255
     if name == "down":
         return int(value) < 2**32
@@ -97,36 +142,46 @@ def small(name, value):
     return int(value) <= LIMITS[name] if name in LIMITS else True
 
 
+def read_head(line):
+    """The letter and the numbers of a line that begins a section; None where it begins none."""
+    form, _ = SECTIONS.get(line[:1], (None, None))
+    match = form.fullmatch(line) if form else None
+    numbers = tuple(int(number or 0) for number in match.groups()) if match else ()
+    return (line[0], numbers) if numbers and max(numbers) <= 255 else None
+
+
+def read_entry(number, line, form):
+    """The entry of a line, which has to read."""
+    match = form.fullmatch(line) if form else None
+    fields = {key: value for key, value in match.groupdict().items() if value is not None} if match else {}
+    if not match or not all(small(key, value) for key, value in fields.items()):
+        raise JournalFault(number)
+    return Entry(number, line, fields)
+
+
 def read_journal(text):
     """A journal, or the first line that does not read."""
     lines = text.split("\n")
-    journal, section, form, last = Journal(), None, None, -1
+    journal, entries, form, last = Journal(), [], None, (-1, -1)
     if lines[0] != "%JOURNAL":
         raise JournalFault(1)
     for number, line in enumerate(lines[1:], 2):
-        is_last = number == len(lines)
-        header = re.fullmatch(rf"([CH]) ({NUMBER})", line)
-        if is_last:
+        if number == len(lines):
             raise JournalFault(number)
-        if line == "%END" and form is RING:
+        if line == "%END":
             if lines[number:] != [""]:
                 raise JournalFault(number + 1)
             return journal
-        if line == "R" and form is not RING:
-            section, form = journal.ring, RING
-        elif header and form is not RING and (header[1] == "H" or form is not HOST):
-            is_first_host = header[1] == "H" and form is not HOST
-            if int(header[2]) > 255 or (int(header[2]) <= last and not is_first_host):
-                raise JournalFault(number)
-            last = int(header[2])
-            form = HOST if header[1] == "H" else CONTROLLER
-            section = (journal.hosts if form is HOST else journal.controllers).setdefault(last, [])
-        else:
-            match = form.fullmatch(line) if form else None
-            fields = {key: value for key, value in match.groupdict().items() if value is not None} if match else {}
-            if not match or not all(small(key, value) for key, value in fields.items()):
-                raise JournalFault(number)
-            section.append(Entry(number, line, fields))
+        head = read_head(line)
+        if head is None:
+            entries.append(read_entry(number, line, form))
+            continue
+        # Those of a kind rise, bridges by their left ends.
+        letter, numbers = head
+        place = (list(SECTIONS).index(letter), numbers[0])
+        if place <= last:
+            raise JournalFault(number)
+        last, form, entries = place, SECTIONS[letter][1], journal.begin(letter, numbers)
     raise JournalFault(len(lines))
 
 
@@ -200,6 +255,8 @@ class Call:
     ended: list = None
     served: list = None
     declined: list = None
+    # The name under which a bridge sent its request on.
+    onward: str = ""
     outcome: str = "open"
     result: str = ""
     raw: str = ""
@@ -244,6 +301,8 @@ class Calls:
             self.read_controller(node, entries)
         for node, entries in journal.hosts.items():
             self.read_host(node, entries)
+        for ends, entries in journal.bridges.items():
+            self.read_bridge(head_of("W", ends), entries)
 
     def call(self, name, entry, section):
         call = self.by_id.setdefault(name, Call(name, int(name.split(".")[0])))
@@ -290,6 +349,30 @@ class Calls:
                 call.ended = at
                 self.end_of_request(call, fields)
 
+    def read_bridge(self, section, entries):
+        for entry in entries:
+            fields, at = entry.fields, [0, False, entry.line]
+            for name in ("accepted", "old", "returned"):
+                if name in fields:
+                    self.call(fields[name], entry, section)
+            if "asked" in fields:
+                self.by_id[fields["old"]].onward = fields["asked"]
+                call = self.call(fields["asked"], entry, section)
+                call.began = at
+                self.ask(call, fields["route"], fields["ask"], "bridge")
+            if "ended" in fields:
+                call = self.call(fields["ended"], entry, section)
+                call.ended = at
+                self.end_of_request(call, fields)
+
+    def at_target(self, call):
+        """The call as which a request came to its target, under the last of its names."""
+        names = {call.id}
+        while call.onward and call.onward not in names:
+            call = self.by_id[call.onward]
+            names.add(call.id)
+        return call
+
     def read_served(self, node, entry, at, letter):
         if entry.fields.get("kind") == "P":
             call = self.call(entry.fields["id"], entry, f"{letter} {node}")
@@ -315,12 +398,20 @@ class Calls:
         call.result = modbus.reply_words(call.pdu, fields["good"]) if call.pdu else fields["good"]
 
 
-class Ring:
-    """The entries of the ring as the rows of a chart: frames with their fates, and idle rounds of the token as one row."""
+def maker(entry):
+    """The node that makes an entry of a ring."""
+    fields = entry.fields
+    return int(next((fields[name] for name in MAKERS if name in fields), None) or fields["given"].split(".")[0])
 
-    def __init__(self, journal, plant, calls, scans=0):
-        self.plant, self.calls, self.scans = plant, calls, scans
-        self.members = set(plant.nodes)
+
+class Ring:
+    """The entries of a ring as the rows of a chart: frames with their fates, and idle rounds of the token as one row."""
+
+    def __init__(self, journal, network, plant, calls, scans):
+        self.network, self.plant, self.calls, self.scans = network, plant, calls, scans
+        self.entries, self.ends, self.fates = journal.rings[network], journal.ends(), plant.fates_of(network)
+        # On a ring with a number those are members that do something there.
+        self.members = {maker(entry) for entry in self.entries} if network else set(plant.nodes)
         # The nodes that ask to come in, and the one that has left in a turn that goes on: it gives up its calls.
         self.asking, self.leaving = set(), None
         self.outboxes = {}
@@ -328,7 +419,7 @@ class Ring:
         self.sent = 0
         self.rows = []
         self.round, self.turns_left, self.hold = 1, len(self.members), []
-        for place, entry in enumerate(journal.ring, 1):
+        for place, entry in enumerate(self.entries, 1):
             self.add(place, entry)
         self.rows += self.hold
 
@@ -336,15 +427,19 @@ class Ring:
         """The repetition that a hold belongs to; 0 in a run of threads, where no scan waits for the token."""
         return min((self.round - 1) // self.plant.rotations + 1, self.scans) if self.scans else 0
 
+    def order(self):
+        """Where a row stands among those of other rings: a serial run makes a round of each in turn."""
+        return {"scan": self.scan(), "round": self.round if self.scans else 0, "network": self.network}
+
     def row(self, place, entry, kind, node, **more):
         name = more.get("id")
-        row = {"at": place, "line": entry.line, "kind": kind, "node": node, "text": entry.text, "scan": self.scan()} | more
+        row = {"at": place, "line": entry.line, "kind": kind, "node": node, "text": entry.text} | self.order() | more
         began = self.calls.by_id[name].began if name in self.calls.by_id else None
         if self.scans and node not in self.members and began:
             # The visit of a node that has left: it holds no token, and its call tells the scan.
             row["scan"] = max(row["scan"], began[0])
         if name:
-            self.calls.call(name, entry, "R")
+            self.calls.call(name, entry, head_of("R", self.network))
         self.hold.append(row)
         return row
 
@@ -426,7 +521,7 @@ class Ring:
 
     def send(self, place, entry, node, heard):
         self.sent += 1
-        letter = self.plant.fates[(self.sent - 1) % len(self.plant.fates)]
+        letter = self.fates[(self.sent - 1) % len(self.fates)] if self.fates else None
         box = self.outboxes.get(node)
         if not box:
             self.row(place, entry, "send", node, fate="nothing to send")
@@ -443,7 +538,7 @@ class Ring:
         """What became of a transmission, in words and as the mark of its arrow."""
         came_before, is_member = frame["came"], frame["shown"]["to"] in self.members
         # A node that is no bridge hears no frame that is to go on from it.
-        hears = is_member and not frame["is_onward"]
+        hears = is_member and (not frame["is_onward"] or frame["shown"]["to"] in self.ends)
         frame["came"] = came_before or (hears and letter != "L")
         again = ", a repeat that is dropped" if came_before else ""
         last = ", no further try" if frame["tries"] == 3 else ""
@@ -453,6 +548,8 @@ class Ring:
             return "four requests wait there", "busy"
         if not hears:
             return f"{'no bridge' if is_member else 'nobody'} there{last}", "nobody"
+        if letter is None:
+            return f"no acknowledgement{last}", "lost"
         if letter == "L":
             return f"lost{last}", "lost"
         return f"received{again}, its acknowledgement lost{last}", "unheard"
@@ -467,7 +564,7 @@ class Ring:
             last["end"] = entry.line
         elif not self.hold and not new_words:
             row = {"at": place, "line": entry.line, "end": entry.line, "kind": "idle", "node": node, "count": 1}
-            self.rows.append(row | {"scan": self.scan()})
+            self.rows.append(row | self.order())
         else:
             self.row(place, entry, "pass", node, words=words, done=f["done"] == "1")
         self.admit()
@@ -482,10 +579,16 @@ class Ring:
             self.round, self.turns_left = self.round + 1, len(self.members)
 
 
-def ring_lines(ring):
-    """The line of each entry of the ring that is linked with a station's, by what it is and the call's name."""
+def chart(journal, plant, calls, scans=0):
+    """The rows of all rings: in the order of a serial run, or else ring by ring."""
+    rings = [Ring(journal, network, plant, calls, scans).rows for network in journal.rings]
+    return list(heapq.merge(*rings, key=lambda row: (row["scan"], row["round"])))
+
+
+def ring_lines(rings):
+    """The line of each entry of a ring that is linked with another list, by what it is and the call's name."""
     found = {}
-    for entry in ring:
+    for entry in rings:
         f = entry.fields
         if "asked" in f:
             found["posted", f["asked"]] = entry.line
@@ -501,19 +604,21 @@ def ring_lines(ring):
 
 
 def caused(entry, made):
-    """Pairs of lines, a cause and what stands behind it, between an entry of a station and the ring."""
+    """Pairs of lines, a cause and what stands behind it, between an entry of a station or a bridge and a ring."""
     f, line = entry.fields, entry.line
     begun = [one["id"] for one in ONE_CALL.finditer(f.get("calls", ""))] + ([f["asked"]] if "asked" in f else [])
     pairs = [(line, made.get((kind, name))) for name in begun for kind in ("posted", "local")]
     if "ended" in f:
         pairs += [(made.get((kind, f["ended"])), line) for kind in ("taken R", "given", "local")]
+    came, went = f.get("accepted"), f.get("returned")
     if f.get("kind") == "P":
-        pairs += [(made.get(("taken Q", f["id"])), line), (line, made.get(("replied", f["id"])))]
+        came = went = f["id"]
+    pairs += [(made.get(("taken Q", came)), line), (line, made.get(("replied", went)))]
     return [pair for pair in pairs if None not in pair]
 
 
 def caused_on_ring(entry, made):
-    """The same between entries of the ring: what a port answers stands between the Take of its request and the Reply to it."""
+    """The same between entries of a ring: what a port answers stands between the Take of its request and the Reply to it."""
     f, line = entry.fields, entry.line
     pairs = []
     if "replied" in f:
@@ -523,16 +628,33 @@ def caused_on_ring(entry, made):
     return [pair for pair in pairs if None not in pair]
 
 
+def caused_in_bridge(entries):
+    """The same within a bridge: a request goes on, and a reply goes back, behind what came."""
+    came, sent_on, ended = {}, {}, {}
+    for entry in entries:
+        f = entry.fields
+        came |= {f["accepted"]: entry.line} if "accepted" in f else {}
+        sent_on |= {f["old"]: f["asked"]} if "old" in f else {}
+        ended |= {f["ended"]: entry.line} if "ended" in f else {}
+    pairs = []
+    for entry in entries:
+        f, line = entry.fields, entry.line
+        pairs += [(came.get(f[name]), line) for name in ("old", "returned") if name in f]
+        pairs += [(ended.get(sent_on.get(f["returned"])), line)] if "returned" in f else []
+    return [pair for pair in pairs if None not in pair]
+
+
 def waiting_lines(journal):
     """Two lines of which each waits for the other, where the lists of a journal fit no order in time; else None.
 
     An entry stands behind the one before it in its list, and behind its cause in another list.
     """
-    stations = [*journal.controllers.values(), *journal.hosts.values()]
-    lists, made = stations + [journal.ring], ring_lines(journal.ring)
+    lists, rings = journal.lists(), [entry for entries in journal.rings.values() for entry in entries]
+    others, made = lists[: len(lists) - len(journal.rings)], ring_lines(rings)
     pairs = [(first.line, then.line) for entries in lists for first, then in zip(entries, entries[1:])]
-    pairs += [pair for entries in stations for entry in entries for pair in caused(entry, made)]
-    pairs += [pair for entry in journal.ring for pair in caused_on_ring(entry, made)]
+    pairs += [pair for entries in others for entry in entries for pair in caused(entry, made)]
+    pairs += [pair for entry in rings for pair in caused_on_ring(entry, made)]
+    pairs += [pair for entries in journal.bridges.values() for pair in caused_in_bridge(entries)]
     left = lines_that_wait(pairs, [entry.line for entries in lists for entry in entries])
     if not left:
         return None

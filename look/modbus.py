@@ -14,11 +14,15 @@ ERRORS = {
     "3001": "the target does not know the function",
     "3002": "the target has not all of the references",
     "3003": "the target could not read the request",
+    "3006": "no room at a bridge",
+    "300a": "no way on from a bridge",
+    "300b": "no answer behind a bridge",
     "6101": "no answer",
     "6103": "no such node, or it has left",
     "6105": "four requests waited there already",
 }
 EXCEPTIONS = {1: "function not known", 2: "reference outside the map", 3: "request not well formed"}
+EXCEPTIONS |= {6: "no room at a bridge", 10: "no way on from a bridge", 11: "no answer behind a bridge"}
 READS = {1: "0", 2: "1", 3: "4", 4: "3"}
 
 

@@ -112,9 +112,10 @@ def places_of(one, plant, calls):
     return found
 
 
-def call_data(call, rows_scan):
+def call_data(call, last, rows_scan):
+    """A call, and where it was served: under its own name, or under the last under which bridges sent it on."""
     began, ended = list(call.began or [0, False, 0]), list(call.ended or [0, False, 0])
-    if call.kind == "host":
+    if call.kind in ("host", "bridge"):
         began[0], ended[0] = rows_scan.get((call.id, "began"), 0), rows_scan.get((call.id, "ended"), 0)
     return {
         "id": call.id,
@@ -125,8 +126,9 @@ def call_data(call, rows_scan):
         "words": call.words,
         "began": began if call.began else None,
         "ended": ended if call.ended else None,
-        "served": call.served,
-        "declined": call.declined,
+        "onward": call.onward,
+        "served": last.served,
+        "declined": last.declined,
         "outcome": call.outcome,
         "result": call.result,
         "tries": len(call.sends),
@@ -137,21 +139,21 @@ def call_data(call, rows_scan):
 def ring_data(journal, plant, scans):
     """The calls and the rows of the chart. Scans is 0 where the token's rounds tell no scan."""
     calls = journals.Calls(journal)
-    ring = journals.Ring(journal, plant, calls, scans)
+    rows = journals.chart(journal, plant, calls, scans)
     rows_scan = {}
-    for row in ring.rows:
+    for row in rows:
         name = row.get("id")
         if name and row["kind"] == "post" and row["what"] == "Q":
             rows_scan[name, "began"] = row["scan"]
         elif name and (row["kind"] == "give up" or (row["kind"] == "take" and row["what"] == "R")):
             rows_scan[name, "ended"] = row["scan"]
-    listed = [call_data(call, rows_scan) for call in calls.by_id.values()]
+    listed = [call_data(call, calls.at_target(call), rows_scan) for call in calls.by_id.values()]
     first_row = {}
-    for number, row in enumerate(ring.rows):
+    for number, row in enumerate(rows):
         if row.get("id"):
             first_row.setdefault(row["id"], number)
-    listed.sort(key=lambda call: first_row.get(call["id"], len(ring.rows)))
-    return calls, listed, ring.rows
+    listed.sort(key=lambda call: first_row.get(call["id"], len(rows)))
+    return calls, listed, rows
 
 
 def run_data(name, plant, panel, verdict, journal=None, scans=0, note=""):
@@ -168,6 +170,7 @@ def run_data(name, plant, panel, verdict, journal=None, scans=0, note=""):
         "dark": panel.dark,
         "calls": listed,
         "rows": rows,
+        "nodes": sorted({*plant.nodes, *(journal.ends() if journal else ())}),
     }
     return data, calls
 
@@ -181,7 +184,6 @@ def plant_data(plant, calls):
         head.append(text)
     return {
         "head": head,
-        "nodes": plant.nodes,
         "hosts": [host["node"] for host in plant.hosts],
         "controllers": controllers,
         "scan_time": plant.document.get("scan_time", 10),

@@ -98,7 +98,8 @@ def compare_controller(old, new, node, scans, are_journals):
 
 
 def numbered(calls, node):
-    return [call for call in calls if call["node"] == node and call["kind"] != "local"]
+    """The requests of a node; those that a bridge sends on are others' requests."""
+    return [call for call in calls if call["node"] == node and call["kind"] not in ("local", "bridge")]
 
 
 def side_of(call, with_scans):

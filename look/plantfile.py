@@ -89,7 +89,6 @@ class Plant:
     controllers: list
     hosts: list
     comments: list
-    fates: str
     rotations: int
 
     @property
@@ -98,6 +97,11 @@ class Plant:
 
     def controller(self, node):
         return next((one for one in self.controllers if one.node == node), None)
+
+    def fates_of(self, network):
+        """The fates on a network, by its number; None where the plant has no such network."""
+        tables = self.document.get("network", [self.document.get("net", {})])
+        return next((table.get("fates", "D") for table in tables if table.get("number", 0) == network), None)
 
     def with_panels(self, panels):
         """The text of this plant with other panels: a list of references by node. A panel is an output alone."""
@@ -234,6 +238,5 @@ def read_plant(data):
         controllers=sorted(controllers, key=lambda one: one.node),
         hosts=sorted(hosts, key=lambda host: host["node"]),
         comments=sorted(source.comments.items()),
-        fates=net.get("fates", "D"),
         rotations=net.get("rotations", 4),
     )

@@ -1,4 +1,4 @@
-// Draws the calls and the chart of the ring: lists of which only the rows that are seen are drawn.
+// Draws the calls and the chart of the rings: lists of which only the rows that are seen are drawn.
 
 // Keeps a list's seen rows drawn. drawRow(element, number) fills in a row.
 function virtualList(box, rowHeight, drawRow) {
@@ -30,7 +30,8 @@ function drawOutcomes(box, view) {
     const group = make(box, 'span', {class: 'group'}, isPair ? run.name + ': ' : '');
     if (!run.calls.length) make(group, 'span', {}, 'no calls');
     for (const outcome of Object.keys(OUTCOMES)) {
-      const calls = run.calls.filter(call => call.outcome === outcome);
+      // A request that bridges send on counts once, under its first name.
+      const calls = run.calls.filter(call => call.outcome === outcome && call.kind !== 'bridge');
       if (!calls.length) continue;
       const [sign, words] = OUTCOMES[outcome];
       const button = make(group, 'button', {class: outcome, title: 'the next of them'}, `${sign} ${calls.length} ${words}`);
@@ -70,6 +71,10 @@ function drawCall(box, call, view) {
   make(box, 'p', {class: 'result'}, call.result);
   const steps = make(box, 'p', {});
   step(steps, 'began', call.began, view);
+  if (call.onward) {
+    const on = make(steps, 'span', {class: 'step link onward'}, 'went on as call ' + call.onward);
+    on.addEventListener('click', () => view.select(call.onward, view.charted));
+  }
   const others = call.outcome === 'good' ? "answered by the node's port" : 'nobody served it';
   if (call.served) step(steps, `served at node ${call.served[0]}`, call.served.slice(1), view);
   else if (call.declined) step(steps, `came to node ${call.declined[0]} without power`, call.declined.slice(1), view);
@@ -119,7 +124,7 @@ function drawChartRow(element, rows, number, lanes, nodes, view) {
     draw(svg, 'rect', {x: lanes.x(row.node) - 5, y: 0, width: 10, height: LANE_ROW, class: 'hold'});
   }
   drawMark(svg, row, lanes);
-  const words = make(element, 'span', {class: 'words'}, wordsOf(row));
+  const words = make(element, 'span', {class: 'words'}, (row.network ? `network ${row.network}: ` : '') + wordsOf(row));
   if (row.fate) make(words, 'i', {class: isBadMark(row) ? 'bad' : 'good'}, ' ' + row.fate);
   if (row.kind === 'send' && row.words) words.append(' – ' + row.words);
   element.title = `line ${row.line}: ${row.text || 'passes of the token'}`;

@@ -37,7 +37,7 @@ const callList = virtualList(byId('calls'), LANE_ROW, (row, number) => {
   drawCallRow(row, runs[view.charted].calls[number], view, view.charted);
 });
 const chart = virtualList(byId('chart'), LANE_ROW, (row, number) => {
-  drawChartRow(row, charted, number, lanes, data.plant.nodes, view);
+  drawChartRow(row, charted, number, lanes, runs[view.charted].nodes, view);
 });
 let networks = null;
 
@@ -45,8 +45,8 @@ function showChartOf(number) {
   view.charted = number;
   byId('which').value = number;
   charted = chartRows(runs[number], byId('frames').checked);
-  lanes = lanesOf(data.plant.nodes, Math.min(420, byId('chart').clientWidth * 0.5));
-  drawLaneNames(document.querySelector('#chart .lanes'), lanes, data.plant.nodes);
+  lanes = lanesOf(runs[number].nodes, Math.min(420, byId('chart').clientWidth * 0.5));
+  drawLaneNames(document.querySelector('#chart .lanes'), lanes, runs[number].nodes);
   callList.count = runs[number].calls.length;
   byId('calls').hidden = callList.count === 0;
   chart.count = charted.length;

@@ -7,7 +7,8 @@ use Rattle.plant_types.specs.declared.net.BridgePlan.{BridgePlan}
 use Rattle.bridge_relay.specs.declared.entry.BridgeEntry.{BridgeEntry}
 use Rattle.bridge_relay.specs.declared.entry.BridgeEntry.TheVariants.{Accept, Forward, Finish}
 use Rattle.bridge_relay.specs.declared.entry.BridgeEntry.TheVariants.{Back, Gone}
-use Rattle.bridge_relay.specs.Machine.{EndIs, RelayIs, Waiting, maker, near_end, relay_after, step}
+use Rattle.bridge_relay.specs.Machine.{EndIs, RelayIs, Waiting, side_of, near_end, relay_after}
+use Rattle.bridge_relay.specs.Machine.{relay_step}
 use Rattle.bridge_relay.specs.Machine.{far_end, far_side}
 use Rattle.bridge_relay.specs.Laws.{end_after, is_by}
 use Rattle.bridge_relay.specs.Legal.{IsBridgeHistory, IsEnd, IsOpenEnd}
@@ -54,10 +55,10 @@ near-right plan relay n is = cond-false (n == plan.left) relay.left relay.right
 
 -- an entry of the other end
 step-across : (plan : BridgePlan) (relay : RelayIs) (n : ℕ) (e : BridgeEntry) → IsEnd plan n
-    → IsEnd plan (maker e) → maker e ≢ n
-    → IsAsWas (near_end plan relay n) (near_end plan (step plan relay e) n)
+    → IsEnd plan (side_of e) → side_of e ≢ n
+    → IsAsWas (near_end plan relay n) (near_end plan (relay_step plan relay e) n)
 step-across plan relay n e end made other =
-    let next = step plan relay e in
+    let next = relay_step plan relay e in
     elim (cases_eq n plan.left) [
       | inl is ↦
           let s = step_right plan relay.left relay.right e (λ m. other (m ∙ sym is)) in
@@ -80,7 +81,7 @@ step-across plan relay n e end made other =
     n-right apart (inl is) = absurd (apart is)
     n-right apart (inr is) = is
 
-    maker-left : n ≢ plan.left → IsEnd plan (maker e) → maker e ≡ plan.left
+    maker-left : n ≢ plan.left → IsEnd plan (side_of e) → side_of e ≡ plan.left
     maker-left apart (inl is) = is
     maker-left apart (inr is) = absurd (other (is ∙ sym (n-right apart end)))
 
@@ -102,8 +103,8 @@ across-stays plan n before (e ∷ es) end legal none =
     let k = first-made n e es (is_by n e) none in
     let joined = append_assoc before (e ∷ []) es in
     let here = legal before es e refl in
-    let other : maker e ≢ n = λ is. absurd
-    (let bad : true ≡ false = sym (eq-eqb (maker e) n is) ∙ k.0 in cc) in
+    let other : side_of e ≢ n = λ is. absurd
+    (let bad : true ≡ false = sym (eq-eqb (side_of e) n is) ∙ k.0 in cc) in
     let one : IsAsWas (end_after plan before n) (end_after plan (before ++ e ∷ []) n) =
     subst (λ (r : RelayIs). IsAsWas (end_after plan before n) (near_end plan r n))
     (sym (after_more plan before e))
@@ -146,11 +147,11 @@ pub record IsOwnStep (plan : BridgePlan) (n : ℕ) (list list' : List BridgeEntr
   pub stays : IsAsWas (end_after plan list n) past
   pub after_is : end_after plan list' n ≡ near_after across past far e
 
-step-own : (plan : BridgePlan) (relay : RelayIs) (n : ℕ) (e : BridgeEntry) → maker e ≡ n
-    → near_end plan (step plan relay e) n
+step-own : (plan : BridgePlan) (relay : RelayIs) (n : ℕ) (e : BridgeEntry) → side_of e ≡ n
+    → near_end plan (relay_step plan relay e) n
     ≡ near_after (far_side plan n) (near_end plan relay n) (far_end plan relay n) e
 step-own plan relay n e made =
-    let next = step plan relay e in
+    let next = relay_step plan relay e in
     elim (cases_eq n plan.left) [
       | inl is ↦ near-left plan next n is
           ∙ (ap (λ (r : RelayIs). r.left)
@@ -167,7 +168,7 @@ step-own plan relay n e made =
         (cond b relay.right relay.left) e
 
 pub own-step : (alone : Bool) (plan : BridgePlan) (n : ℕ) (list : List BridgeEntry)
-    (e : BridgeEntry) (list' : List BridgeEntry) → maker e ≡ n → IsEnd plan n
+    (e : BridgeEntry) (list' : List BridgeEntry) → side_of e ≡ n → IsEnd plan n
     → IsBridgeHistory plan list' → WentOn alone (is_by n) list (e ∷ []) list'
     → IsOwnStep plan n list list' e
 own-step alone plan n list e list' made end legal w =

@@ -9,8 +9,8 @@ use Rattle.mstr_block.specs.declared.call.CallId.{CallId}
 use Rattle.bridge_relay.specs.declared.entry.BridgeEntry.{BridgeEntry}
 use Rattle.bridge_relay.specs.declared.entry.BridgeEntry.TheVariants.{Accept, Forward, Finish}
 use Rattle.bridge_relay.specs.declared.entry.BridgeEntry.TheVariants.{Back, Gone}
-use Rattle.bridge_relay.specs.Machine.{EndIs, RelayIs, RelayPath, maker, new_relay, relay_after}
-use Rattle.bridge_relay.specs.Machine.{relay_path, step, unused_path}
+use Rattle.bridge_relay.specs.Machine.{EndIs, RelayIs, RelayPath, side_of, new_relay, relay_after}
+use Rattle.bridge_relay.specs.Machine.{relay_path, relay_step, unused_path}
 use Rattle.bridge_relay.specs.Kept.{code_between, far_after, near_accepted, near_after}
 use Rattle.bridge_relay.specs.Laws.{end_after}
 use Rattle.bridge_relay.proofs.Steps.{step_left, step_right}
@@ -22,19 +22,19 @@ use Rattle.ring_core.specs.declared.entry.RingEntry.{RingEntry}
 use Rattle.ring_core.specs.declared.entry.RingEntry.TheVariants.{Post, Take}
 use Rattle.tied_lists.specs.Waits.{last_number, number_posted, waiting, waits_posted, waits_taken}
 use Rattle.tied_lists.proofs.Paths.{number-push, waiting-push}
-use Rattle.bridge_port.specs.EndTurns.{PathsAgree, number_out, number_waited}
+use Rattle.bridge_port.specs.EndTurns.{EndPathsAgree, number_out, number_waited}
 use Rattle.bridge_port.proofs.Across.{far-stays}
 use Rattle.bridge_port.proofs.Waited.{agree-still}
 
 -- ---- an entry of the node that is of no own call
 
 pub agree-taken : (end : EndIs) (b : List RingEntry) (n : ℕ) (f : Frame) → f.kind ≡ Request
-    → PathsAgree end b → PathsAgree end (b ++ Take n f ∷ [])
+    → EndPathsAgree end b → EndPathsAgree end (b ++ Take n f ∷ [])
 agree-taken end b n f kind k = agree-still end b (Take n f)
     (λ p now. ap (λ (k : FrameKind). waits_taken p now k f) kind) (λ p now. refl) k
 
 pub agree-replied : (end : EndIs) (b : List RingEntry) (n : ℕ) (g : Frame) → g.kind ≡ Reply
-    → PathsAgree end b → PathsAgree end (b ++ Post n g ∷ [])
+    → EndPathsAgree end b → EndPathsAgree end (b ++ Post n g ∷ [])
 agree-replied end b n g kind k = agree-still end b (Post n g)
     (λ p now. ap (λ (k : FrameKind). waits_posted p now k g) kind)
     (λ p now. ap (λ (k : FrameKind). number_posted p now k g) kind) k
@@ -65,8 +65,8 @@ record HaveFour (relay : RelayIs) : Type 0 where
   pub right : length relay.right.paths ≡ 4
 
 four-step : (plan : BridgePlan) (relay : RelayIs) (e : BridgeEntry) → HaveFour relay
-    → HaveFour (step plan relay e)
-four-step plan relay e four = elim (cases_eq (maker e) plan.left) [
+    → HaveFour (relay_step plan relay e)
+four-step plan relay e four = elim (cases_eq (side_of e) plan.left) [
   | inl is ↦ subst HaveFour (sym (step_left plan relay.left relay.right e is)) (record {
     left = near-size plan.right relay.left relay.right e ∙ four.left;
     right = far-size plan.right relay.left relay.right e ∙ four.right;
@@ -78,10 +78,10 @@ four-step plan relay e four = elim (cases_eq (maker e) plan.left) [
 ]
 
 four-after : (plan : BridgePlan) (relay : RelayIs) (list : List BridgeEntry) → HaveFour relay
-    → HaveFour (fold (step plan) relay list)
+    → HaveFour (fold (relay_step plan) relay list)
 four-after plan relay [] four = four
 four-after plan relay (e ∷ list) four =
-    four-after plan (step plan relay e) list (four-step plan relay e four)
+    four-after plan (relay_step plan relay e) list (four-step plan relay e four)
 
 pub have-four : (plan : BridgePlan) (list : List BridgeEntry) (n : ℕ)
     → length (end_after plan list n).paths ≡ 4
@@ -117,7 +117,7 @@ went-out across near far side old id route request is size =
     }
 
 pub agree-called : (end end' : EndIs) (b : List RingEntry) (n : ℕ) (f : Frame) → f.kind ≡ Request
-    → WentOut end end' f.id → PathsAgree end b → PathsAgree end' (b ++ Post n f ∷ [])
+    → WentOut end end' f.id → EndPathsAgree end b → EndPathsAgree end' (b ++ Post n f ∷ [])
 agree-called end end' b n f kind w k =
     let q = f.id.path in
     let waits : (p : ℕ)

@@ -10,8 +10,8 @@ use Rattle.tied_lists.specs.Tied.{TiedEnd}
 use Rattle.tied_lists.proofs.Growth.{grew-ours}
 use Rattle.comm_port.specs.Sides.{RingSideIs}
 use Rattle.comm_port.specs.Turns.{IsOwnTurn}
-use Rattle.bridge_port.specs.EndTurns.{EndTurning, PathsAgree}
-use Rattle.bridge_port.specs.Reading.{backs_of, side_items}
+use Rattle.bridge_port.specs.EndTurns.{EndTurning, EndPathsAgree}
+use Rattle.joint_history.specs.Bridges.{backs_of, side_items}
 use Rattle.bridge_port.specs.Sides.{BridgeSideIs}
 use Rattle.bridge_port.proofs.Across.{still-open, still-stays}
 use Rattle.bridge_port.proofs.Lists.{backs-still, items-still}
@@ -40,7 +40,7 @@ turning-others alone n bridge list side side' ring ring' turn grew t =
       legal = t.legal;
       own_turn = turn;
       tied = subst (TiedEnd (side_items n list) (backs_of n list)) (sym same) t.tied;
-      paths = subst (PathsAgree (end_after bridge.plan list n)) (sym same) t.paths;
+      paths = subst (EndPathsAgree (end_after bridge.plan list n)) (sym same) t.paths;
     }
 
 -- the bridge's, by entries of the other end

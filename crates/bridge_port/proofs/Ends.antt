@@ -1,10 +1,12 @@
 -- The laws of a bridge's end and its node, as both lists go on.
 use Rattle.std.proofs.Common.{◌≡◌, ℕ, ◌==◌, ◌||◌, Bool, true, false, cond, List, [], ◌∷◌, ◌++◌, map}
 use Rattle.std.proofs.Common.{filter, filter_map, not, Option, Some, None, refl, sym, ap, ◌∙◌}
-use Rattle.std.proofs.Common.{append_assoc, append-nil, ne_eqb}
-use Rattle.std.specs.List.{AllByRecursion as Each, cons_option, list_any}
+use Rattle.std.proofs.Common.{append-nil, ne_eqb}
+use Rattle.std.specs.List.{AllByRecursion as Each, cons_option}
 use Rattle.std.proofs.lemmas.Bool.{cond-true, cond-false}
+use Rattle.std.proofs.lemmas.List.{map-append}
 use Rattle.std.proofs.lemmas.List.Elements.{filter-append, filter_map-append}
+use Rattle.std.proofs.lemmas.List.Folds.{list_any-append}
 use Rattle.mstr_block.specs.declared.call.CallId.{CallId}
 use Rattle.mstr_block.specs.declared.call.MstrResult.{MstrResult}
 use Rattle.ring_core.specs.Statistics.{is_for_stats}
@@ -16,53 +18,17 @@ use Rattle.ring_core.specs.declared.entry.RingEntry.{RingEntry}
 use Rattle.ring_core.specs.declared.entry.RingEntry.TheVariants.{Post, Take, Local, GiveUp}
 use Rattle.tied_lists.specs.Items.{ABridge, Answered, Asked, Called, Item, Items, Kind, NetCall}
 use Rattle.tied_lists.specs.Items.{LocalCall, Came, Replied, Lacked, RequestItem, ForStats}
-use Rattle.tied_lists.specs.Items.{Plain, Taken, answered_of, asked_by, asked_in, asked_of, down_of}
+use Rattle.tied_lists.specs.Items.{Plain, answered_of, asked_by, asked_in, asked_of, down_of}
 use Rattle.tied_lists.specs.Items.{downs_by, ended_at_home, ended_by, ended_in, ended_of, item_of}
 use Rattle.tied_lists.specs.Items.{kind_in, net_ask, plain_items, port_answers, replied_by}
 use Rattle.tied_lists.specs.Items.{replied_in, replied_of, reply_of, request_of, stats_items}
 use Rattle.tied_lists.specs.Items.{taken_by, taken_in, taken_of, with_answer, with_calls, with_end}
 use Rattle.tied_lists.specs.Tied.{RepliesAreBacks, TiedEnd, is_port_reply}
 use Rattle.tied_lists.proofs.Asked.{same-refl}
+use Rattle.tied_lists.proofs.Steps.{ends-append, plain-append, stats-append}
 
 both : {X : Type 0} (a b c d : List X) → a ≡ c → b ≡ d → a ++ b ≡ c ++ d
 both a b c d p q = λ i. p i ++ q i
-
-map-joined : {X Y : Type 0} (f : X → Y) (xs ys : List X) → map f (xs ++ ys) ≡ map f xs ++ map f ys
-map-joined f [] ys = refl
-map-joined f (x ∷ xs) ys = ap (λ l. f x ∷ l) (map-joined f xs ys)
-
-cons-joined : {X : Type 0} (o : Option X) (xs ys : List X)
-    → cons_option o (xs ++ ys) ≡ cons_option o xs ++ ys
-cons-joined None xs ys = refl
-cons-joined (Some x) xs ys = refl
-
-plain-joined : (ts us : List Taken) → plain_items (ts ++ us) ≡ plain_items ts ++ plain_items us
-plain-joined [] us = refl
-plain-joined (Plain id rest pdu ∷ ts) us =
-    ap (λ (l : List RequestItem). record { id = id; rest = rest; request = Some pdu } ∷ l)
-    (plain-joined ts us)
-plain-joined (ForStats id pdu ∷ ts) us = plain-joined ts us
-
-stats-joined : (ts us : List Taken) → stats_items (ts ++ us) ≡ stats_items ts ++ stats_items us
-stats-joined [] us = refl
-stats-joined (Plain id rest pdu ∷ ts) us = stats-joined ts us
-stats-joined (ForStats id pdu ∷ ts) us =
-    ap (λ (l : List RequestItem). record { id = id; rest = []; request = Some pdu } ∷ l)
-    (stats-joined ts us)
-
-ends-joined : (asked : List Asked) (b c : List RingEntry)
-    → ended_by ABridge asked (b ++ c)
-    ≡ ended_by ABridge asked b ++ ended_by ABridge (asked ++ asked_by b) c
-ends-joined asked [] c = ap (λ l. ended_by ABridge l c) (sym (append-nil asked))
-ends-joined asked (x ∷ b) c =
-    let more = asked ++ cons_option (asked_of x) [] in
-    let joins : more ++ asked_by b ≡ asked ++ asked_by (x ∷ b) =
-    append_assoc asked (cons_option (asked_of x) []) (asked_by b)
-    ∙ ap (λ l. asked ++ l) (sym (cons-joined (asked_of x) [] (asked_by b))) in
-    ap (λ l. cons_option (ended_of ABridge asked x) l)
-    (ends-joined more b c ∙ ap (λ l. ended_by ABridge more b ++ ended_by ABridge l c) joins)
-    ∙ cons-joined (ended_of ABridge asked x) (ended_by ABridge more b)
-    (ended_by ABridge (asked ++ asked_by (x ∷ b)) c)
 
 -- what is added keeps the laws by itself, but for that of the Replies
 pub record EndAdds (a a' : Items) (b c : List RingEntry) (calls : List Called)
@@ -87,13 +53,13 @@ end-adds a a' backs backs' b c calls answers t m replies =
       asks = filter_map-append asked_of b c ∙ (both _ _ _ _ t.asks m.asks
           ∙ (sym (filter_map-append net_ask a.calls calls)
           ∙ ap (filter_map net_ask) (sym m.calls_are)));
-      peers = ap (map item_of) m.answers_are ∙ (map-joined item_of a.answers answers
-          ∙ (both _ _ _ _ t.peers m.peers ∙ (sym (plain-joined ts us) ∙ ap plain_items (sym tu))));
-      port = ap (map item_of) lm ∙ (map-joined item_of (port_answers b) (port_answers c)
-          ∙ (both _ _ _ _ t.port m.port ∙ (sym (stats-joined ts us) ∙ ap stats_items (sym tu))));
+      peers = ap (map item_of) m.answers_are ∙ (map-append item_of a.answers answers
+          ∙ (both _ _ _ _ t.peers m.peers ∙ (sym (plain-append ts us) ∙ ap plain_items (sym tu))));
+      port = ap (map item_of) lm ∙ (map-append item_of (port_answers b) (port_answers c)
+          ∙ (both _ _ _ _ t.port m.port ∙ (sym (stats-append ts us) ∙ ap stats_items (sym tu))));
       replies = replies;
       ends = m.ends ∙ (ap (λ l. l ++ ended_by ABridge (asked_by b) c) t.ends
-          ∙ sym (ends-joined [] b c));
+          ∙ sym (ends-append ABridge [] b c));
       downs = filter_map-append down_of b c ∙ both _ _ [] [] t.downs m.downs;
     }
 
@@ -157,17 +123,6 @@ each-as : {X : Type 0} (P Q : X → Type 0) (xs : List X) → ((x : X) → P x �
 each-as P Q [] f all = tt
 each-as P Q (x ∷ xs) f all = (f x all.0, each-as P Q xs f all.1)
 
-any-joined : {X : Type 0} (test : X → Bool) (xs ys : List X)
-    → list_any test (xs ++ ys) ≡ (list_any test xs || list_any test ys)
-any-joined test [] ys = refl
-any-joined test (x ∷ xs) ys =
-    ap (λ (b : Bool). test x || b) (any-joined test xs ys)
-    ∙ or-joined (test x) (list_any test xs) (list_any test ys)
-  where
-    or-joined : (x y z : Bool) → (x || (y || z)) ≡ ((x || y) || z)
-    or-joined true y z = refl
-    or-joined false y z = refl
-
 or-none : (x : Bool) → (x || false) ≡ x
 or-none true = refl
 or-none false = refl
@@ -177,14 +132,14 @@ more-by-port : (answers : List Answered) (more : Answered) (item : Item)
     → is_same_call more.id item.0 ≡ false
     → is_port_reply (answers ++ more ∷ []) item ≡ is_port_reply answers item
 more-by-port answers more item apart =
-    any-joined (λ (a : Answered). is_same_call a.id item.0) answers (more ∷ [])
+    list_any-append (λ (a : Answered). is_same_call a.id item.0) answers (more ∷ [])
     ∙ (ap (λ (b : Bool). is_port_reply answers item || (b || false)) apart
     ∙ or-none (is_port_reply answers item))
 
 last-by-port : (answers : List Answered) (more : Answered) (reply : Option (List ℕ))
     → is_port_reply (answers ++ more ∷ []) (more.id, reply) ≡ true
 last-by-port answers more reply =
-    any-joined (λ (a : Answered). is_same_call a.id more.id) answers (more ∷ [])
+    list_any-append (λ (a : Answered). is_same_call a.id more.id) answers (more ∷ [])
     ∙ (ap (λ (b : Bool). is_port_reply answers (more.id, reply) || (b || false))
     (same-refl more.id) ∙ or-true (is_port_reply answers (more.id, reply)))
   where
@@ -223,7 +178,7 @@ replies-told backs b c answer port replied apart t =
           ∙ (both _ _ _ _
           (filter-as by_port (is_port_reply (port_answers b)) (replied_by b) same ∙ t.told)
           (one-kept by_port item last)
-          ∙ (sym (map-joined (λ (x : Answered). (x.id, x.reply)) (port_answers b) (answer ∷ []))
+          ∙ (sym (map-append (λ (x : Answered). (x.id, x.reply)) (port_answers b) (answer ∷ []))
           ∙ ap (map (λ (x : Answered). (x.id, x.reply))) (sym port_is))));
     }
 

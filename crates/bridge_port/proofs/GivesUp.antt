@@ -15,7 +15,7 @@ use Rattle.bridge_relay.specs.declared.entry.BridgeEntry.TheVariants.{Finish}
 use Rattle.bridge_relay.specs.declared.entry.RelayResult.TheVariants as results
 use Rattle.bridge_relay.specs.Machine.{EndIs}
 use Rattle.bridge_relay.specs.Laws.{end_after, is_by}
-use Rattle.bridge_relay.specs.Legal.{IsBridgeHistory, is_out}
+use Rattle.bridge_relay.specs.Legal.{IsBridgeHistory, is_call_out}
 use Rattle.tied_lists.specs.Own.{is_of, own, Grew, WentOn}
 use Rattle.tied_lists.specs.Items.{Item, Items, NetCall, kind_in}
 use Rattle.tied_lists.specs.Tied.{TiedEnd}
@@ -37,9 +37,9 @@ use Rattle.comm_port.proofs.Parts.{each-both, each-still, grew-none, in-order-bo
 use Rattle.comm_port.proofs.Parts.{part-both}
 use Rattle.comm_port.proofs.RingTurns.{kept-both, on-still}
 use Rattle.comm_port.proofs.Sends.{kept-found}
-use Rattle.bridge_port.specs.EndParts.{IsGivenUp}
-use Rattle.bridge_port.specs.EndTurns.{EndTurning, PathsAgree}
-use Rattle.bridge_port.specs.Reading.{backs_of, side_items}
+use Rattle.bridge_port.specs.EndParts.{EndGivesUp}
+use Rattle.bridge_port.specs.EndTurns.{EndTurning, EndPathsAgree}
+use Rattle.joint_history.specs.Bridges.{backs_of, side_items}
 use Rattle.bridge_port.specs.Sides.{BridgeSideIs}
 use Rattle.bridge_port.proofs.Across.{own-step}
 use Rattle.bridge_port.proofs.EndTurns.{turning-others}
@@ -93,7 +93,7 @@ pub waits-on : {P Q : Type 0} (n p seq : ℕ) (bridge : BridgeSideIs P) (list : 
     (side : RingSideIs Q) (ring : List RingEntry) → IsPath p → EndTurning n bridge list side ring
     → seq ≡ awaited_number (path_of (part_at side.net n ring) p).awaits → (seq ≡ 0 → ⊥)
     → WaitsOn n p seq side.net
-    (is_out bridge.plan list n (record { node = n; path = p; seq = seq })) ring
+    (is_call_out bridge.plan list n (record { node = n; path = p; seq = seq })) ring
 waits-on n p seq bridge list side ring path t is some =
     let id : CallId = record { node = n; path = p; seq = seq } in
     let follows = (legal-follows side.net ring n t.own_turn.on).node.part in
@@ -118,12 +118,12 @@ waits-on n p seq bridge list side ring path t is some =
 path-none : (alone alone' : Bool) (net : NetPlan) (n p : ℕ) (list : List BridgeEntry)
     (ring ring' : List RingEntry) → due_on net n (part_at net n ring) p ≡ None
     → Grew alone' (is_of n) ring [] ring'
-    → PartOf alone alone' (is_by n) n (InOrder (IsGivenUp n) (due_calls net n ring (p ∷ [])))
+    → PartOf alone alone' (is_by n) n (InOrder (EndGivesUp n) (due_calls net n ring (p ∷ [])))
     list list ring ring'
 path-none alone alone' net n p list ring ring' none grew = record {
   noted = [];
   done = [];
-  due = subst (λ (d : Option CallId). InOrder (IsGivenUp n) (cons_option d []) [] []) (sym none)
+  due = subst (λ (d : Option CallId). InOrder (EndGivesUp n) (cons_option d []) [] []) (sym none)
       (refl, refl);
   station = grew-none alone (is_by n) list;
   node = grew;
@@ -134,14 +134,14 @@ path-given : (alone alone' : Bool) (net : NetPlan) (n p : ℕ) (id : CallId) (wo
     → due_on net n (part_at net n ring) p ≡ Some id
     → Grew alone (is_by n) list (Finish n id (results.Bad word) ∷ []) list'
     → Grew alone' (is_of n) ring (GiveUp id word ∷ []) ring'
-    → PartOf alone alone' (is_by n) n (InOrder (IsGivenUp n) (due_calls net n ring (p ∷ [])))
+    → PartOf alone alone' (is_by n) n (InOrder (EndGivesUp n) (due_calls net n ring (p ∷ [])))
     list list' ring ring'
 path-given alone alone' net n p id word list list' ring ring' due noted grew = record {
   noted = Finish n id (results.Bad word) ∷ [];
   done = GiveUp id word ∷ [];
-  due = subst (λ (d : Option CallId). InOrder (IsGivenUp n) (cons_option d [])
+  due = subst (λ (d : Option CallId). InOrder (EndGivesUp n) (cons_option d [])
       (Finish n id (results.Bad word) ∷ []) (GiveUp id word ∷ [])) (sym due)
-      (in-order-one (IsGivenUp n) id (Finish n id (results.Bad word) ∷ []) (GiveUp id word ∷ [])
+      (in-order-one (EndGivesUp n) id (Finish n id (results.Bad word) ∷ []) (GiveUp id word ∷ [])
       (word, refl, refl));
   station = noted;
   node = grew;
@@ -190,8 +190,8 @@ turning-gave alone alone' n id word bridge list list' side ring ring' path made 
           ∷ [])) (sym (backs-one alone n list e list' refl went ∙ append-nil (backs_of n list)))
           (subst (λ (a : Items). TiedEnd a (backs_of n list) (own n ring ++ GiveUp id word ∷ []))
           (sym (items-one alone n list e list' refl went)) tied));
-      paths = subst (PathsAgree (end_after bridge.plan list' n)) (sym own_is)
-          (subst (λ (x : EndIs). PathsAgree x (own n ring ++ GiveUp id word ∷ []))
+      paths = subst (EndPathsAgree (end_after bridge.plan list' n)) (sym own_is)
+          (subst (λ (x : EndIs). EndPathsAgree x (own n ring ++ GiveUp id word ∷ []))
           (sym s.after_is) paths);
     }
 
@@ -205,7 +205,7 @@ pub record GivesPath {P Q : Type 0} (alone alone' : Bool) (n p : ℕ) (bridge : 
     pub less : sends_left side.net ring' n ≤ sends_left side.net ring n
     pub left : HasLeft side.net ring n → HasLeft side.net ring' n
     pub given : PartOf alone alone' (is_by n) n
-        (InOrder (IsGivenUp n) (due_calls side.net n ring (p ∷ []))) list list' ring ring'
+        (InOrder (EndGivesUp n) (due_calls side.net n ring (p ∷ []))) list list' ring ring'
     pub part : GivesOnPath side.net n p ring ring'
 
 -- it waits for nothing
@@ -311,24 +311,24 @@ pub given-skip : (alone alone' : Bool) (net : NetPlan) (n : ℕ) (chosen : List 
     (list list' : List BridgeEntry) (ring ring' : List RingEntry) → 1 ≤ p → p < 5
     → is_chosen chosen p ≡ false
     → PartOf alone alone' (is_by n) n
-    (InOrder (IsGivenUp n) (due_calls net n ring (chosen_below chosen p))) list list' ring ring'
+    (InOrder (EndGivesUp n) (due_calls net n ring (chosen_below chosen p))) list list' ring ring'
     → PartOf alone alone' (is_by n) n
-    (InOrder (IsGivenUp n) (due_calls net n ring (chosen_below chosen (p + 1)))) list list' ring
+    (InOrder (EndGivesUp n) (due_calls net n ring (chosen_below chosen (p + 1)))) list list' ring
     ring'
 given-skip alone alone' net n chosen p list list' ring ring' from to off g =
     subst (λ (l : List ℕ). PartOf alone alone' (is_by n) n
-    (InOrder (IsGivenUp n) (due_calls net n ring l)) list list' ring ring')
+    (InOrder (EndGivesUp n) (due_calls net n ring l)) list list' ring ring')
     (sym (chosen-skip chosen p from to off)) g
 
 pub given-more : (alone alone' : Bool) (net : NetPlan) (n : ℕ) (chosen : List Bool) (p : ℕ)
     (one two three : List BridgeEntry) (ring ring' ring'' : List RingEntry) → 1 ≤ p → p < 5
     → is_chosen chosen p ≡ true → GivesWhere net n chosen p ring ring'
     → PartOf alone alone' (is_by n) n
-    (InOrder (IsGivenUp n) (due_calls net n ring (chosen_below chosen p))) one two ring ring'
+    (InOrder (EndGivesUp n) (due_calls net n ring (chosen_below chosen p))) one two ring ring'
     → PartOf alone alone' (is_by n) n
-    (InOrder (IsGivenUp n) (due_calls net n ring' (p ∷ []))) two three ring' ring''
+    (InOrder (EndGivesUp n) (due_calls net n ring' (p ∷ []))) two three ring' ring''
     → PartOf alone alone' (is_by n) n
-    (InOrder (IsGivenUp n) (due_calls net n ring (chosen_below chosen (p + 1)))) one three ring
+    (InOrder (EndGivesUp n) (due_calls net n ring (chosen_below chosen (p + 1)))) one three ring
     ring''
 given-more alone alone' net n chosen p one two three ring ring' ring'' from to on g a b =
     let paths = chosen_below chosen p in
@@ -336,11 +336,11 @@ given-more alone alone' net n chosen p one two three ring ring' ring'' from to o
     ≡ due_calls net n ring paths ++ due_calls net n ring' (p ∷ []) =
     ap (due_calls net n ring) (chosen-more chosen p from to on) ∙ due-more net n chosen p
     (part_at net n ring) (part_at net n ring') g.part paths in
-    subst (λ (l : List CallId). PartOf alone alone' (is_by n) n (InOrder (IsGivenUp n) l) one
+    subst (λ (l : List CallId). PartOf alone alone' (is_by n) n (InOrder (EndGivesUp n) l) one
     three ring ring'') (sym is)
-    (part-both alone alone' (is_by n) n (InOrder (IsGivenUp n) (due_calls net n ring paths))
-    (InOrder (IsGivenUp n) (due_calls net n ring' (p ∷ [])))
-    (InOrder (IsGivenUp n) (due_calls net n ring paths ++ due_calls net n ring' (p ∷ []))) one two
+    (part-both alone alone' (is_by n) n (InOrder (EndGivesUp n) (due_calls net n ring paths))
+    (InOrder (EndGivesUp n) (due_calls net n ring' (p ∷ [])))
+    (InOrder (EndGivesUp n) (due_calls net n ring paths ++ due_calls net n ring' (p ∷ []))) one two
     three ring ring' ring''
-    (λ noted noted' done done' x y. in-order-both (IsGivenUp n) (due_calls net n ring paths)
+    (λ noted noted' done done' x y. in-order-both (EndGivesUp n) (due_calls net n ring paths)
     (due_calls net n ring' (p ∷ [])) noted noted' done done' x y) a b)

@@ -28,7 +28,8 @@ use Rattle.comm_port.specs.Parts.{InOrder, PartOf}
 use Rattle.comm_port.specs.Sides.{RingSideIs}
 use Rattle.comm_port.proofs.Leaves.{overdue-is}
 use Rattle.comm_port.proofs.Through.{NoAsks, serving-keeps, through}
-use Rattle.bridge_port.specs.EndParts.{ArePosted, BacksAll, IsBack, IsGivenUp, SendsAll, post_of}
+use Rattle.bridge_port.specs.EndParts.{ArePosted, BacksAll, EndGivesUp, EndSendsAll, IsBackEntry}
+use Rattle.bridge_port.specs.EndParts.{post_of}
 use Rattle.bridge_port.specs.EndTurns.{EndTies, EndTurning}
 use Rattle.bridge_port.specs.Sides.{BridgeSideIs}
 
@@ -52,7 +53,7 @@ turning-ties n bridge list side ring open-end holds t = record {
 -- ---- before requests are sent on
 
 -- the Replies that were given back
-backs-sort : (n : ℕ) (noted : List BridgeEntry) → Each IsBack noted
+backs-sort : (n : ℕ) (noted : List BridgeEntry) → Each IsBackEntry noted
     → Each (IsServing n) (filter_map (post_of n) noted)
 backs-sort n [] all = tt
 backs-sort n (Back side id reply ∷ noted) all = (refl, backs-sort n noted all.1)
@@ -63,7 +64,7 @@ backs-sort n (Gone side ∷ noted) all = absurd all.0
 
 backs-adds : (alone alone' : Bool) (n : ℕ) (list list' : List BridgeEntry)
     (ring ring' : List RingEntry)
-    → PartOf alone alone' (is_by n) n (ArePosted IsBack n) list list' ring ring'
+    → PartOf alone alone' (is_by n) n (ArePosted IsBackEntry n) list list' ring ring'
     → Adds alone' (is_of n) (IsServing n) ring ring'
 backs-adds alone alone' n list list' ring ring' p =
     adds-grew alone' (is_of n) (IsServing n) ring p.done ring'
@@ -108,7 +109,7 @@ may-forward alone alone' net n plan list list' ring served backed rest on free o
 -- ---- behind the Sends
 
 pub rest-sent : (alone alone' : Bool) (net : NetPlan) (n : ℕ) (list list' : List BridgeEntry)
-    (ring ring' : List RingEntry) → SendsAll alone alone' net n list list' ring ring'
+    (ring ring' : List RingEntry) → EndSendsAll alone alone' net n list list' ring ring'
     → IsAtRest net n ring'
 rest-sent alone alone' net n list list' ring ring' s = record {
   all_sent = s.frames.all_sent;
@@ -118,9 +119,10 @@ rest-sent alone alone' net n list list' ring ring' s = record {
 pub given-over : (alone alone' : Bool) (net : NetPlan) (n : ℕ) (list list' : List BridgeEntry)
     (ring ring' : List RingEntry) → Holds net ring n → IsAtRest net n ring
     → PartOf alone alone' (is_by n) n
-    (InOrder (IsGivenUp n) (due_calls net n ring network_paths)) list list' ring ring'
-    → PartOf alone alone' (is_by n) n (InOrder (IsGivenUp n) (overdue net n ring)) list list' ring
+    (InOrder (EndGivesUp n) (due_calls net n ring network_paths)) list list' ring ring'
+    → PartOf alone alone' (is_by n) n (InOrder (EndGivesUp n) (overdue net n ring)) list list' ring
     ring'
 given-over alone alone' net n list list' ring ring' holds rest p =
-    subst (λ (l : List CallId). PartOf alone alone' (is_by n) n (InOrder (IsGivenUp n) l) list list'
-    ring ring') (overdue-is net n ring holds.here rest.none_failed) p
+    subst (λ (l : List CallId).
+    PartOf alone alone' (is_by n) n (InOrder (EndGivesUp n) l) list list' ring ring')
+    (overdue-is net n ring holds.here rest.none_failed) p

@@ -41,9 +41,9 @@ use Rattle.comm_port.proofs.Leaves.{IsQuietCause, all-on, all-paths, ending-too,
 use Rattle.comm_port.proofs.Leaves.{four-same, handed-ends, handed-on, unnamed}
 use Rattle.comm_port.proofs.RingTurns.{not-in}
 use Rattle.comm_port.proofs.Through.{IsEnding, rest-through}
-use Rattle.bridge_port.specs.EndParts.{AsksBridge, AsksIfDone, AsksRing, IsGivenUp}
-use Rattle.bridge_port.specs.EndTurns.{EndTies, EndTurning, PathsAgree, number_waited}
-use Rattle.bridge_port.specs.Reading.{backs_of, side_items}
+use Rattle.bridge_port.specs.EndParts.{AsksBridge, EndAsksIfDone, AsksRing, EndGivesUp}
+use Rattle.bridge_port.specs.EndTurns.{EndTies, EndTurning, EndPathsAgree, number_waited}
+use Rattle.joint_history.specs.Bridges.{backs_of, side_items}
 use Rattle.bridge_port.specs.Sides.{BridgeSideIs}
 use Rattle.bridge_port.proofs.Across.{own-step}
 use Rattle.bridge_port.proofs.Ends.{end-quiet}
@@ -55,7 +55,7 @@ use Rattle.bridge_port.proofs.Waited.{agree-as, agree-still}
 
 pub asks-posted : (alone alone' : Bool) (plan : BridgePlan) (net : NetPlan) (n : ℕ) (posted : Bool)
     (list : List BridgeEntry) (ring : List RingEntry) → posted ≡ true
-    → AsksIfDone alone alone' plan net n posted list list ring ring false
+    → EndAsksIfDone alone alone' plan net n posted list list ring ring false
 asks-posted alone alone' plan net n posted list ring is =
     subst (λ (b : Bool). AsksBridge (not b) alone alone' plan net n list list ring ring false)
     (sym is) (refl, refl, refl)
@@ -63,7 +63,7 @@ asks-posted alone alone' plan net n posted list ring is =
 pub asks-busy : (alone alone' : Bool) (plan : BridgePlan) (net : NetPlan) (n : ℕ) (posted : Bool)
     (list list' : List BridgeEntry) (ring : List RingEntry) → posted ≡ false
     → WentOn alone (is_by n) list [] list' → is_idle_end (end_after plan list' n) ≡ false
-    → AsksIfDone alone alone' plan net n posted list list' ring ring false
+    → EndAsksIfDone alone alone' plan net n posted list list' ring ring false
 asks-busy alone alone' plan net n posted list list' ring is went busy =
     subst (λ (b : Bool). AsksBridge (not b) alone alone' plan net n list list' ring ring false)
     (sym is) (
@@ -76,7 +76,7 @@ pub asks-all : (alone alone' : Bool) (plan : BridgePlan) (net : NetPlan) (n : �
     → WentOn alone (is_by n) list [] list' → is_idle_end (end_after plan list' n) ≡ true
     → WentOn alone' (is_of n) ring [] ring'
     → answer ≡ only_bridges net (ring_after net ring').nodes n
-    → AsksIfDone alone alone' plan net n posted list list' ring ring' answer
+    → EndAsksIfDone alone alone' plan net n posted list list' ring ring' answer
 asks-all alone alone' plan net n posted list list' ring ring' answer is went idle on only =
     subst (λ (b : Bool). AsksBridge (not b) alone alone' plan net n list list' ring ring' answer)
     (sym is) (
@@ -108,7 +108,7 @@ pub record Asked {Q : Type 0} (n : ℕ) (side : RingSideIs Q) (ring : List RingE
 asked-here : {Q : Type 0} (posted alone alone' : Bool) (plan : BridgePlan) (n : ℕ)
     (list list' : List BridgeEntry) (side : RingSideIs Q) (ring ring' : List RingEntry)
     (answer : Bool) → Asked n side ring → IsFree side.net ring n → IsOnRing side.net ring' n
-    → AsksIfDone alone alone' plan side.net n posted list list' ring ring' answer
+    → EndAsksIfDone alone alone' plan side.net n posted list list' ring ring' answer
     → Asked n side ring'
 asked-here posted alone alone' plan n list list' side ring ring' answer a free on asked =
     let net = side.net in
@@ -131,7 +131,7 @@ pub asked-at : {Q : Type 0} (posted alone alone' : Bool) (plan : BridgePlan) (n 
     (list list' : List BridgeEntry) (side side' : RingSideIs Q) (ring ring' : List RingEntry)
     (answer : Bool) → side' ≡ side → Asked n side ring → IsFree side.net ring n
     → IsOnRing side'.net ring' n
-    → AsksIfDone alone alone' plan side.net n posted list list' ring ring' answer
+    → EndAsksIfDone alone alone' plan side.net n posted list list' ring ring' answer
     → Asked n side' ring'
 asked-at {Q} posted alone alone' plan n list list' side side' ring ring' answer same a free on
     asked =
@@ -145,7 +145,7 @@ record Handed {P Q : Type 0} (n : ℕ) (bridge : BridgeSideIs P) (list : List Br
     (side : RingSideIs Q) (ring : List RingEntry) : Type 0 where
   pub on : IsOnRing side.net ring n
   pub tied : TiedEnd (side_items n list) (backs_of n list) (own n ring)
-  pub paths : PathsAgree (end_after bridge.plan list n) (own n ring)
+  pub paths : EndPathsAgree (end_after bridge.plan list n) (own n ring)
 
 last-quiet : (n : ℕ) (done : Bool) (words : List ℕ) (cause : Option LeaveCause) (a : Items)
     (backs : List Item) (b : List RingEntry) → IsQuietCause cause → TiedEnd a backs b
@@ -156,8 +156,8 @@ last-quiet n done words (Some cause) a backs b quiet t =
     end-quiet a backs b (Leave n cause) refl refl refl refl refl (quiet cause refl) t
 
 last-still : (n : ℕ) (done : Bool) (words : List ℕ) (cause : Option LeaveCause) (end : EndIs)
-    (b : List RingEntry) → PathsAgree end b
-    → PathsAgree end (b ++ last_entry n done words cause ∷ [])
+    (b : List RingEntry) → EndPathsAgree end b
+    → EndPathsAgree end (b ++ last_entry n done words cause ∷ [])
 last-still n done words None end b k =
     agree-still end b (Pass n done words) (λ p now. refl) (λ p now. refl) k
 last-still n done words (Some cause) end b k =
@@ -176,7 +176,7 @@ handed-at alone n done words cause bridge list side ring ring' quiet legal hande
       tied = subst (TiedEnd (side_items n list) (backs_of n list)) (sym own_is)
           (last-quiet n done words cause (side_items n list) (backs_of n list) (own n ring) quiet
           t.tied);
-      paths = subst (PathsAgree (end_after bridge.plan list n)) (sym own_is)
+      paths = subst (EndPathsAgree (end_after bridge.plan list n)) (sym own_is)
           (last-still n done words cause (end_after bridge.plan list n) (own n ring) t.paths);
     }
 
@@ -345,7 +345,7 @@ none-out-now n bridge list side ring none t =
 -- ---- the calls given up are all that the node did
 
 giving-sort : (n : ℕ) (ids : List CallId) (noted : List BridgeEntry) (done : List RingEntry)
-    → InOrder (IsGivenUp n) ids noted done → Each IsGivingUp done
+    → InOrder (EndGivesUp n) ids noted done → Each IsGivingUp done
 giving-sort n [] noted done a = subst (Each IsGivingUp) (sym a.1) tt
 giving-sort n (id ∷ ids) noted done a =
     let done-is : done ≡ GiveUp id a.6.0 ∷ a.3 = a.5 ∙ ap (λ l. l ++ a.3) a.6.2 in
@@ -353,7 +353,7 @@ giving-sort n (id ∷ ids) noted done a =
 
 pub given-adds : (alone alone' : Bool) (n : ℕ) (ids : List CallId) (list list' : List BridgeEntry)
     (ring ring' : List RingEntry)
-    → PartOf alone alone' (is_by n) n (InOrder (IsGivenUp n) ids) list list' ring ring'
+    → PartOf alone alone' (is_by n) n (InOrder (EndGivesUp n) ids) list list' ring ring'
     → Adds alone' (is_of n) IsEnding ring ring'
 given-adds alone alone' n ids list list' ring ring' p =
     adds-weaker alone' (is_of n) IsGivingUp IsEnding ring ring' ending-too
@@ -363,7 +363,7 @@ given-adds alone alone' n ids list list' ring ring' p =
 pub rest-given : (alone alone' : Bool) (net : NetPlan) (n : ℕ) (ids : List CallId)
     (list list' : List BridgeEntry) (ring ring' : List RingEntry) → IsOnRing net ring n
     → IsLegalRing net ring'
-    → PartOf alone alone' (is_by n) n (InOrder (IsGivenUp n) ids) list list' ring ring'
+    → PartOf alone alone' (is_by n) n (InOrder (EndGivesUp n) ids) list list' ring ring'
     → IsAtRest net n ring → IsAtRest net n ring'
 rest-given alone alone' net n ids list list' ring ring' on legal p rest =
     rest-through alone' net n ring ring' on legal

@@ -3,7 +3,7 @@ use Rattle.std.proofs.Common.{◌≡◌, ℕ, Bool, List, [], ◌∷◌, ◌++�
 use Rattle.std.proofs.Common.{refl, ap, ◌∙◌, append-nil, eq-eqb}
 use Rattle.std.specs.List.{cons_option, AllByRecursion as Each}
 use Rattle.std.proofs.lemmas.List.Elements.{filter_map-append}
-use Rattle.bridge_relay.specs.Machine.{maker}
+use Rattle.bridge_relay.specs.Machine.{side_of}
 use Rattle.bridge_relay.specs.declared.entry.BridgeEntry.{BridgeEntry}
 use Rattle.bridge_relay.specs.declared.entry.BridgeEntry.TheVariants.{Accept, Forward, Finish}
 use Rattle.bridge_relay.specs.declared.entry.BridgeEntry.TheVariants.{Back, Gone}
@@ -12,28 +12,28 @@ use Rattle.tied_lists.specs.Items.{Called, Items, NetCall, kind_of_sort, no_item
 use Rattle.tied_lists.proofs.Boxes.{each-push}
 use Rattle.tied_lists.proofs.Growth.{grew-one, grew-ours}
 use Rattle.bridge_relay.specs.Laws.{is_by}
-use Rattle.bridge_port.specs.Reading.{back_of, backs_of, made_by, side_item_next}
-use Rattle.bridge_port.specs.Reading.{side_items, side_items_after}
+use Rattle.joint_history.specs.Bridges.{back_of, backs_of, made_at_end, side_item_next}
+use Rattle.joint_history.specs.Bridges.{side_items, side_items_after}
 
 -- an entry of an end stands in its own list
-pub mine-one : (n : ℕ) (e : BridgeEntry) → maker e ≡ n → made_by n (e ∷ []) ≡ e ∷ []
-mine-one n e is = ap (λ (b : Bool). cond b (e ∷ []) []) (eq-eqb (maker e) n is)
+pub mine-one : (n : ℕ) (e : BridgeEntry) → side_of e ≡ n → made_at_end n (e ∷ []) ≡ e ∷ []
+mine-one n e is = ap (λ (b : Bool). cond b (e ∷ []) []) (eq-eqb (side_of e) n is)
 
 -- entries of the other end, and then these
 pub made-went : (alone : Bool) (n : ℕ) (old added new : List BridgeEntry)
-    → made_by n added ≡ added → WentOn alone (is_by n) old added new
-    → made_by n new ≡ made_by n old ++ added
+    → made_at_end n added ≡ added → WentOn alone (is_by n) old added new
+    → made_at_end n new ≡ made_at_end n old ++ added
 made-went alone n old added new mine w =
     grew-ours alone (is_by n) old added new (grew-one alone (is_by n) old added new mine w)
 
 pub made-still : (alone : Bool) (n : ℕ) (old new : List BridgeEntry)
-    → WentOn alone (is_by n) old [] new → made_by n new ≡ made_by n old
+    → WentOn alone (is_by n) old [] new → made_at_end n new ≡ made_at_end n old
 made-still alone n old new w =
-    made-went alone n old [] new refl w ∙ append-nil (made_by n old)
+    made-went alone n old [] new refl w ∙ append-nil (made_at_end n old)
 
 pub made-one : (alone : Bool) (n : ℕ) (old : List BridgeEntry) (e : BridgeEntry)
-    (new : List BridgeEntry) → maker e ≡ n → WentOn alone (is_by n) old (e ∷ []) new
-    → made_by n new ≡ made_by n old ++ e ∷ []
+    (new : List BridgeEntry) → side_of e ≡ n → WentOn alone (is_by n) old (e ∷ []) new
+    → made_at_end n new ≡ made_at_end n old ++ e ∷ []
 made-one alone n old e new is w = made-went alone n old (e ∷ []) new (mine-one n e is) w
 
 pub items-joined : (a : Items) (xs ys : List BridgeEntry)
@@ -43,10 +43,10 @@ items-joined a (x ∷ xs) ys = items-joined (side_item_next a x) xs ys
 
 -- the items after an entry of the end, and after none
 pub items-one : (alone : Bool) (n : ℕ) (old : List BridgeEntry) (e : BridgeEntry)
-    (new : List BridgeEntry) → maker e ≡ n → WentOn alone (is_by n) old (e ∷ []) new
+    (new : List BridgeEntry) → side_of e ≡ n → WentOn alone (is_by n) old (e ∷ []) new
     → side_items n new ≡ side_item_next (side_items n old) e
 items-one alone n old e new is w = ap (side_items_after no_items) (made-one alone n old e new is w)
-    ∙ items-joined no_items (made_by n old) (e ∷ [])
+    ∙ items-joined no_items (made_at_end n old) (e ∷ [])
 
 pub items-still : (alone : Bool) (n : ℕ) (old new : List BridgeEntry)
     → WentOn alone (is_by n) old [] new → side_items n new ≡ side_items n old
@@ -54,10 +54,10 @@ items-still alone n old new w = ap (side_items_after no_items) (made-still alone
 
 -- what it gave back
 pub backs-one : (alone : Bool) (n : ℕ) (old : List BridgeEntry) (e : BridgeEntry)
-    (new : List BridgeEntry) → maker e ≡ n → WentOn alone (is_by n) old (e ∷ []) new
+    (new : List BridgeEntry) → side_of e ≡ n → WentOn alone (is_by n) old (e ∷ []) new
     → backs_of n new ≡ backs_of n old ++ cons_option (back_of e) []
 backs-one alone n old e new is w = ap (filter_map back_of) (made-one alone n old e new is w)
-    ∙ filter_map-append back_of (made_by n old) (e ∷ [])
+    ∙ filter_map-append back_of (made_at_end n old) (e ∷ [])
 
 pub backs-still : (alone : Bool) (n : ℕ) (old new : List BridgeEntry)
     → WentOn alone (is_by n) old [] new → backs_of n new ≡ backs_of n old
@@ -81,4 +81,4 @@ net-after a [] all = all
 net-after a (e ∷ es) all = net-after (side_item_next a e) es (net-next a e all)
 
 pub all-net : (n : ℕ) (list : List BridgeEntry) → Each IsNet (side_items n list).calls
-all-net n list = net-after no_items (made_by n list) tt
+all-net n list = net-after no_items (made_at_end n list) tt

@@ -4,6 +4,7 @@ use Rattle.std.proofs.Common.{cond, List, [], ◌∷◌, ◌++◌, Option, Some,
 use Rattle.std.proofs.Common.{get_or, filter_map, count_by, is_some, option_map, refl}
 use Rattle.std.proofs.Common.{sym, ap, ◌∙◌, subst, inl, inr, arith, append_assoc, append-nil}
 use Rattle.std.proofs.Common.{eq-eqb, ne_eqb, length-append}
+use Rattle.std.proofs.lemmas.List.{length-map}
 use Rattle.std.specs.List.{AllByRecursion as Each, cons_option, slice_get}
 use Rattle.std.proofs.lemmas.Bool.{cases_eq}
 use Rattle.std.proofs.lemmas.List.Elements.{filter-append}
@@ -15,8 +16,9 @@ use Rattle.bridge_relay.specs.declared.entry.BridgeEntry.TheVariants.{Accept, Fo
 use Rattle.bridge_relay.specs.declared.entry.BridgeEntry.TheVariants.{Back, Gone}
 use Rattle.bridge_relay.specs.declared.entry.RelayResult.{RelayResult}
 use Rattle.bridge_relay.specs.Machine.{EndIs, OutCall, RelayIs, RelayPath, Returned, Waiting}
-use Rattle.bridge_relay.specs.Machine.{exception_to, far_end, far_side, maker, near_end, new_relay}
-use Rattle.bridge_relay.specs.Machine.{relay_after, relay_path, returned, step, unsent}
+use Rattle.bridge_relay.specs.Machine.{exception_to, far_end, far_side, near_end, new_relay}
+use Rattle.bridge_relay.specs.Machine.{relay_after, relay_path, relay_step, returned, side_of}
+use Rattle.bridge_relay.specs.Machine.{unsent}
 use Rattle.bridge_relay.specs.Machine.{unused_path}
 use Rattle.bridge_relay.specs.Kept.{code_between, far_accepted, far_after, near_accepted}
 use Rattle.bridge_relay.specs.Kept.{near_after, returned_by}
@@ -28,8 +30,8 @@ use Rattle.ring_laws.proofs.Lists.{count-cons, count-push, one-if, none-if, same
 use Rattle.tied_lists.specs.Items.{Answered, Item, Items, no_items}
 use Rattle.tied_lists.proofs.Boxes.{each-drop, each-push}
 use Rattle.bridge_port.specs.EndParts.{is_accept, is_back}
-use Rattle.bridge_port.specs.Reading.{back_of, backs_of, made_by, side_item_next, side_items}
-use Rattle.bridge_port.specs.Reading.{side_items_after}
+use Rattle.joint_history.specs.Bridges.{back_of, backs_of, made_at_end, side_item_next, side_items}
+use Rattle.joint_history.specs.Bridges.{side_items_after}
 use Rattle.bridge_port.proofs.Across.{legal-front}
 use Rattle.bridge_port.proofs.Lists.{items-joined}
 use Rattle.bridge_port.proofs.Names.{AreAccepted, answers_named}
@@ -62,10 +64,6 @@ first-less : {X : Type 0} (xs : List X) (x : X) → slice_get xs 0 ≡ Some x
     → length (drop 1 xs) + 1 ≡ length xs
 first-less [] x is = absurd (cc)
 first-less (y ∷ xs) x is = omega arith
-
-length-mapped : {X Y : Type 0} (f : X → Y) (xs : List X) → length (map f xs) ≡ length xs
-length-mapped f [] = refl
-length-mapped f (x ∷ xs) = let more = length-mapped f xs in omega (arith, more)
 
 -- ---- how many calls are out
 
@@ -292,7 +290,7 @@ owed-other Known across near far backs accepts (Gone side) owes o = record {
   out = o.out;
   count =
       let long = length-append near.to_give (map unsent far.to_send) in
-      let here = length-mapped unsent far.to_send in
+      let here = length-map far.to_send unsent in
       let count = o.count in
       omega (arith, long, here, count);
 }
@@ -305,12 +303,12 @@ owed-other Known across near far backs accepts (Gone side) owes o = record {
 -- ---- both ends behind an entry
 
 record OwnPair (plan : BridgePlan) (relay : RelayIs) (n : ℕ) (e : BridgeEntry) : Type 0 where
-  pub near : near_end plan (step plan relay e) n
+  pub near : near_end plan (relay_step plan relay e) n
       ≡ near_after (far_side plan n) (near_end plan relay n) (far_end plan relay n) e
-  pub far : far_end plan (step plan relay e) n
+  pub far : far_end plan (relay_step plan relay e) n
       ≡ far_after (far_side plan n) (near_end plan relay n) (far_end plan relay n) e
 
-own-pair : (plan : BridgePlan) (relay : RelayIs) (n : ℕ) (e : BridgeEntry) → maker e ≡ n
+own-pair : (plan : BridgePlan) (relay : RelayIs) (n : ℕ) (e : BridgeEntry) → side_of e ≡ n
     → OwnPair plan relay n e
 own-pair plan relay n e made = elim (cases_eq n plan.left) [
   | inl is ↦
@@ -355,17 +353,17 @@ own-pair plan relay n e made = elim (cases_eq n plan.left) [
 
 record OtherPair (plan : BridgePlan) (relay : RelayIs) (n : ℕ) (e : BridgeEntry) : Type 0 where
   pub across : ℕ
-  pub near : near_end plan (step plan relay e) n
+  pub near : near_end plan (relay_step plan relay e) n
       ≡ far_after across (far_end plan relay n) (near_end plan relay n) e
-  pub far : far_end plan (step plan relay e) n
+  pub far : far_end plan (relay_step plan relay e) n
       ≡ near_after across (far_end plan relay n) (near_end plan relay n) e
-  pub made : far_end plan relay n ≡ near_end plan relay (maker e)
+  pub made : far_end plan relay n ≡ near_end plan relay (side_of e)
 
 other-pair : (plan : BridgePlan) (relay : RelayIs) (n : ℕ) (e : BridgeEntry) → IsEnd plan n
-    → IsEnd plan (maker e) → maker e ≢ n → OtherPair plan relay n e
+    → IsEnd plan (side_of e) → side_of e ≢ n → OtherPair plan relay n e
 other-pair plan relay n e end made other = elim (cases_eq n plan.left) [
   | inl is ↦
-      let apart : maker e ≢ plan.left = λ m. other (m ∙ sym is) in
+      let apart : side_of e ≢ plan.left = λ m. other (m ∙ sym is) in
       let s = step_right plan relay.left relay.right e apart in
       let b = eq-eqb n plan.left is in
       record {
@@ -375,10 +373,10 @@ other-pair plan relay n e end made other = elim (cases_eq n plan.left) [
         far = ap (λ (r : RelayIs). far_end plan r n) s ∙ ap far-by' b
             ∙ sym (ap (far-of plan.left) b);
         made = ap (λ (x : Bool). cond x right left) b
-            ∙ sym (ap (λ (x : Bool). cond x left right) (ne_eqb (maker e) plan.left apart));
+            ∙ sym (ap (λ (x : Bool). cond x left right) (ne_eqb (side_of e) plan.left apart));
       }
   | inr apart ↦
-      let there : maker e ≡ plan.left = maker-left apart made in
+      let there : side_of e ≡ plan.left = maker-left apart made in
       let s = step_left plan relay.left relay.right e there in
       let b = ne_eqb n plan.left apart in
       record {
@@ -388,7 +386,7 @@ other-pair plan relay n e end made other = elim (cases_eq n plan.left) [
         far = ap (λ (r : RelayIs). far_end plan r n) s ∙ ap far-by b
             ∙ sym (ap (far-of plan.right) b);
         made = ap (λ (x : Bool). cond x right left) b
-            ∙ sym (ap (λ (x : Bool). cond x left right) (eq-eqb (maker e) plan.left there));
+            ∙ sym (ap (λ (x : Bool). cond x left right) (eq-eqb (side_of e) plan.left there));
       }
 ]
   where
@@ -420,7 +418,7 @@ other-pair plan relay n e end made other = elim (cases_eq n plan.left) [
     n-right apart (inl is) = absurd (apart is)
     n-right apart (inr is) = is
 
-    maker-left : n ≢ plan.left → IsEnd plan (maker e) → maker e ≡ plan.left
+    maker-left : n ≢ plan.left → IsEnd plan (side_of e) → side_of e ≡ plan.left
     maker-left apart (inl is) = is
     maker-left apart (inr is) = absurd (other (is ∙ sym (n-right apart end)))
 
@@ -437,7 +435,7 @@ some-first side None e is = absurd (let bad : None ≡ Some e = is in cc)
 some-first side (Some item) e is = (item, refl)
 
 owes-own : (Known : CallId → Type 0) (plan : BridgePlan) (past : List BridgeEntry) (n : ℕ)
-    (e : BridgeEntry) → maker e ≡ n → IsKnown n Known e
+    (e : BridgeEntry) → side_of e ≡ n → IsKnown n Known e
     → FitsBridge plan past e
     → OwesOwn Known (end_after plan past n) e
 owes-own Known plan past n (Accept side id route request) made known fits = known made
@@ -451,7 +449,7 @@ owes-own Known plan past n (Gone side) made known fits = tt
 
 owes-other : (plan : BridgePlan) (past : List BridgeEntry) (e : BridgeEntry)
     → FitsBridge plan past e
-    → OwesOther (end_after plan past (maker e)) e
+    → OwesOther (end_after plan past (side_of e)) e
 owes-other plan past (Accept side id route request) fits = tt
 owes-other plan past (Forward side old id route request) fits =
     let m = forward_made plan past side old id route request fits in
@@ -462,33 +460,34 @@ owes-other plan past (Gone side) fits = tt
 
 -- how many of its entries are such
 abbrev made-count : (BridgeEntry → Bool) → ℕ → List BridgeEntry → ℕ
-made-count test n list = count_by test (made_by n list)
+made-count test n list = count_by test (made_at_end n list)
 
 made-joined : (n : ℕ) (list : List BridgeEntry) (e : BridgeEntry)
-    → made_by n (list ++ e ∷ []) ≡ made_by n list ++ cond (is_by n e) (e ∷ []) []
+    → made_at_end n (list ++ e ∷ []) ≡ made_at_end n list ++ cond (is_by n e) (e ∷ []) []
 made-joined n [] e = refl
 made-joined n (x ∷ list) e = by (is_by n x) (made-joined n list e)
   where
     by : (b : Bool)
-        → made_by n (list ++ e ∷ []) ≡ made_by n list ++ cond (is_by n e) (e ∷ []) []
-        → cond b (x ∷ made_by n (list ++ e ∷ [])) (made_by n (list ++ e ∷ []))
-        ≡ cond b (x ∷ made_by n list) (made_by n list) ++ cond (is_by n e) (e ∷ []) []
+        → made_at_end n (list ++ e ∷ []) ≡ made_at_end n list ++ cond (is_by n e) (e ∷ []) []
+        → cond b (x ∷ made_at_end n (list ++ e ∷ [])) (made_at_end n (list ++ e ∷ []))
+        ≡ cond b (x ∷ made_at_end n list) (made_at_end n list) ++ cond (is_by n e) (e ∷ []) []
     by true more = ap (λ l. x ∷ l) more
     by false more = more
 
 count-mine : (test : BridgeEntry → Bool) (n : ℕ) (list : List BridgeEntry) (e : BridgeEntry)
-    → maker e ≡ n → made-count test n (list ++ e ∷ []) ≡ made-count test n list + cond (test e) 1 0
+    → side_of e ≡ n
+    → made-count test n (list ++ e ∷ []) ≡ made-count test n list + cond (test e) 1 0
 count-mine test n list e made =
     ap (count_by test) (made-joined n list e
-    ∙ ap (λ (b : Bool). made_by n list ++ cond b (e ∷ []) []) (eq-eqb (maker e) n made))
-    ∙ count-push test (made_by n list) e
+    ∙ ap (λ (b : Bool). made_at_end n list ++ cond b (e ∷ []) []) (eq-eqb (side_of e) n made))
+    ∙ count-push test (made_at_end n list) e
 
 count-other : (test : BridgeEntry → Bool) (n : ℕ) (list : List BridgeEntry) (e : BridgeEntry)
-    → maker e ≢ n → made-count test n (list ++ e ∷ []) ≡ made-count test n list
+    → side_of e ≢ n → made-count test n (list ++ e ∷ []) ≡ made-count test n list
 count-other test n list e other =
     ap (count_by test) (made-joined n list e
-    ∙ ap (λ (b : Bool). made_by n list ++ cond b (e ∷ []) []) (ne_eqb (maker e) n other)
-    ∙ append-nil (made_by n list))
+    ∙ ap (λ (b : Bool). made_at_end n list ++ cond b (e ∷ []) []) (ne_eqb (side_of e) n other)
+    ∙ append-nil (made_at_end n list))
 
 abbrev OwedAt : (CallId → Type 0) → BridgePlan → ℕ → List BridgeEntry → Type 0
 OwedAt Known plan n list = Owed Known (end_after plan list n)
@@ -503,13 +502,13 @@ owed-as Known near near' far far' backs accepts a b o =
     (subst (λ (x : EndIs). Owed Known near x backs accepts) (sym b) o)
 
 owed-next : (Known : CallId → Type 0) (plan : BridgePlan) (n : ℕ) (past : List BridgeEntry)
-    (e : BridgeEntry) → IsEnd plan n → IsEnd plan (maker e) → IsKnown n Known e
+    (e : BridgeEntry) → IsEnd plan n → IsEnd plan (side_of e) → IsKnown n Known e
     → FitsBridge plan past e
     → OwedAt Known plan n past → OwedAt Known plan n (past ++ e ∷ [])
 owed-next Known plan n past e end made known fits o =
     let relay = relay_after plan past in
     let next = after_more plan past e in
-    elim (cases_eq (maker e) n) [
+    elim (cases_eq (side_of e) n) [
       | inl mine ↦
           let pair = own-pair plan relay n e mine in
           let one = owed-own Known (far_side plan n) (near_end plan relay n)
@@ -581,7 +580,7 @@ accepted-next a (Finish side x result) n es = tt
 accepted-next a (Back side x reply) n es = tt
 accepted-next a (Gone side) n es = tt
 
-not-known : (n : ℕ) (Known : CallId → Type 0) (e : BridgeEntry) → maker e ≢ n → IsKnown n Known e
+not-known : (n : ℕ) (Known : CallId → Type 0) (e : BridgeEntry) → side_of e ≢ n → IsKnown n Known e
 not-known n Known (Accept side x route request) other = λ is. absurd (other is)
 not-known n Known (Forward side old x route request) other = tt
 not-known n Known (Finish side x result) other = tt
@@ -589,18 +588,21 @@ not-known n Known (Back side x reply) other = tt
 not-known n Known (Gone side) other = tt
 
 all-known : (a : Items) (n : ℕ) (es : List BridgeEntry)
-    → Each (IsKnown n (λ id. 1 ≤ answers_named id (side_items_after a (made_by n es)).answers)) es
+    → Each (IsKnown n
+    (λ id. 1 ≤ answers_named id (side_items_after a (made_at_end n es)).answers)) es
 all-known a n [] = tt
-all-known a n (e ∷ es) = elim (cases_eq (maker e) n) [
+all-known a n (e ∷ es) = elim (cases_eq (side_of e) n) [
   | inl mine ↦
-      let here : made_by n (e ∷ es) ≡ e ∷ made_by n es =
-      ap (λ (b : Bool). cond b (e ∷ made_by n es) (made_by n es)) (eq-eqb (maker e) n mine) in
+      let here : made_at_end n (e ∷ es) ≡ e ∷ made_at_end n es =
+      ap (λ (b : Bool). cond b (e ∷ made_at_end n es) (made_at_end n es))
+      (eq-eqb (side_of e) n mine) in
       subst (λ (l : List BridgeEntry).
       Each (IsKnown n (λ id. 1 ≤ answers_named id (side_items_after a l).answers)) (e ∷ es))
-      (sym here) (accepted-next a e n (made_by n es), all-known (side_item_next a e) n es)
+      (sym here) (accepted-next a e n (made_at_end n es), all-known (side_item_next a e) n es)
   | inr other ↦
-      let here : made_by n (e ∷ es) ≡ made_by n es =
-      ap (λ (b : Bool). cond b (e ∷ made_by n es) (made_by n es)) (ne_eqb (maker e) n other) in
+      let here : made_at_end n (e ∷ es) ≡ made_at_end n es =
+      ap (λ (b : Bool). cond b (e ∷ made_at_end n es) (made_at_end n es))
+      (ne_eqb (side_of e) n other) in
       subst (λ (l : List BridgeEntry).
       Each (IsKnown n (λ id. 1 ≤ answers_named id (side_items_after a l).answers)) (e ∷ es))
       (sym here) (not-known n _ e other, all-known a n es)
@@ -655,7 +657,7 @@ due-accepted plan n list id reply end legal due =
 -- and was not given back so often
 pub backs-few : (plan : BridgePlan) (n : ℕ) (list : List BridgeEntry) → IsEnd plan n
     → IsBridgeHistory plan list
-    → count_by is_back (made_by n list) ≤ count_by is_accept (made_by n list)
+    → count_by is_back (made_at_end n list) ≤ count_by is_accept (made_at_end n list)
 backs-few plan n list end legal =
     let o = owed-all plan n list end legal in
     let count = o.count in
@@ -668,11 +670,11 @@ items-later n xs ys id some =
     subst (λ (l : List BridgeEntry). 1 ≤ answers_named id (side_items_after no_items l).answers)
     (sym (filter-append (is_by n) xs ys))
     (subst (λ (a : Items). 1 ≤ answers_named id a.answers)
-    (sym (items-joined no_items (made_by n xs) (made_by n ys)))
-    (grows-after (side_items n xs) (made_by n ys) id some))
+    (sym (items-joined no_items (made_at_end n xs) (made_at_end n ys)))
+    (grows-after (side_items n xs) (made_at_end n ys) id some))
 
 back-accepted : (plan : BridgePlan) (n : ℕ) (past more : List BridgeEntry) (e : BridgeEntry)
-    → IsEnd plan n → IsBridgeHistory plan (past ++ e ∷ more) → maker e ≡ n
+    → IsEnd plan n → IsBridgeHistory plan (past ++ e ∷ more) → side_of e ≡ n
     → Each (λ (item : Item). Accepted n (past ++ e ∷ more) item.0) (cons_option (back_of e) [])
 back-accepted plan n past more (Accept side x route request) end legal made = tt
 back-accepted plan n past more (Forward side old x route request) end legal made = tt
@@ -688,25 +690,25 @@ back-accepted plan n past more (Gone side) end legal made = tt
 backs-run : (plan : BridgePlan) (n : ℕ) (past more : List BridgeEntry) → IsEnd plan n
     → IsBridgeHistory plan (past ++ more)
     → Each (λ (item : Item). Accepted n (past ++ more) item.0)
-    (filter_map back_of (made_by n more))
+    (filter_map back_of (made_at_end n more))
 backs-run plan n past [] end legal = tt
 backs-run plan n past (e ∷ more) end legal =
     let join = append_assoc past (e ∷ []) more in
     let rest = subst (λ (l : List BridgeEntry). Each (λ (item : Item). Accepted n l item.0)
-    (filter_map back_of (made_by n more))) join
+    (filter_map back_of (made_at_end n more))) join
     (backs-run plan n (past ++ e ∷ []) more end (subst (IsBridgeHistory plan) (sym join) legal)) in
-    elim (cases_eq (maker e) n) [
+    elim (cases_eq (side_of e) n) [
       | inl mine ↦
-          let here : made_by n (e ∷ more) ≡ e ∷ made_by n more =
-          ap (λ (b : Bool). cond b (e ∷ made_by n more) (made_by n more))
-          (eq-eqb (maker e) n mine) in
+          let here : made_at_end n (e ∷ more) ≡ e ∷ made_at_end n more =
+          ap (λ (b : Bool). cond b (e ∷ made_at_end n more) (made_at_end n more))
+          (eq-eqb (side_of e) n mine) in
           subst (λ (l : List BridgeEntry). Each
           (λ (item : Item). Accepted n (past ++ e ∷ more) item.0) (filter_map back_of l)) (sym here)
           (cons-each (back_of e) (back-accepted plan n past more e end legal mine) rest)
       | inr other ↦
-          let here : made_by n (e ∷ more) ≡ made_by n more =
-          ap (λ (b : Bool). cond b (e ∷ made_by n more) (made_by n more))
-          (ne_eqb (maker e) n other) in
+          let here : made_at_end n (e ∷ more) ≡ made_at_end n more =
+          ap (λ (b : Bool). cond b (e ∷ made_at_end n more) (made_at_end n more))
+          (ne_eqb (side_of e) n other) in
           subst (λ (l : List BridgeEntry). Each
           (λ (item : Item). Accepted n (past ++ e ∷ more) item.0) (filter_map back_of l)) (sym here)
           rest
@@ -715,9 +717,9 @@ backs-run plan n past (e ∷ more) end legal =
     cons-each : (o : Option Item)
         → Each (λ (item : Item). Accepted n (past ++ e ∷ more) item.0) (cons_option o [])
         → Each (λ (item : Item). Accepted n (past ++ e ∷ more) item.0)
-        (filter_map back_of (made_by n more))
+        (filter_map back_of (made_at_end n more))
         → Each (λ (item : Item). Accepted n (past ++ e ∷ more) item.0)
-        (cons_option o (filter_map back_of (made_by n more)))
+        (cons_option o (filter_map back_of (made_at_end n more)))
     cons-each None one rest = rest
     cons-each (Some item) one rest = (one.0, rest)
 

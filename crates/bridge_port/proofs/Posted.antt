@@ -17,7 +17,7 @@ use Rattle.bridge_relay.specs.declared.entry.BridgeEntry.TheVariants.{Forward, B
 use Rattle.bridge_relay.specs.Bridge.{IsForwarded, frame_made}
 use Rattle.bridge_relay.specs.Laws.{end_after, is_by}
 use Rattle.bridge_relay.specs.Legal.{IsBridgeHistory, IsEnd, due_forward}
-use Rattle.bridge_relay.specs.Machine.{EndIs, RelayPath, maker, relay_path, unused_path}
+use Rattle.bridge_relay.specs.Machine.{EndIs, RelayPath, side_of, relay_path, unused_path}
 use Rattle.bridge_relay.specs.Kept.{near_after}
 use Rattle.bridge_relay.proofs.Legal.{forward_made}
 use Rattle.bridge_relay.proofs.Paths.{at_path}
@@ -45,10 +45,11 @@ use Rattle.comm_port.specs.Sides.{RingSideIs}
 use Rattle.comm_port.proofs.Dues.{nothing-waits}
 use Rattle.comm_port.proofs.Parts.{grew-none}
 use Rattle.comm_port.proofs.Through.{not-failed-put, out-not-failed}
-use Rattle.bridge_port.specs.EndParts.{ArePosted, AreForwarded, IsForward, are_some, backs_left}
-use Rattle.bridge_port.specs.EndParts.{is_accept, is_any_chosen, is_back, paths_left, post_of}
+use Rattle.bridge_port.specs.EndParts.{ArePosted, AreForwarded, IsForwardEntry, are_some}
+use Rattle.bridge_port.specs.EndParts.{backs_left, is_accept, is_any_chosen, is_back, paths_left}
+use Rattle.bridge_port.specs.EndParts.{post_of}
 use Rattle.bridge_port.specs.EndTurns.{EndTurning, number_out, number_waited}
-use Rattle.bridge_port.specs.Reading.{made_by}
+use Rattle.joint_history.specs.Bridges.{made_at_end}
 use Rattle.bridge_port.specs.Sides.{BridgeSideIs, MakesDue}
 use Rattle.bridge_port.proofs.Across.{own-step, still-stays}
 use Rattle.bridge_port.proofs.Agree.{WentOut, have-four, went-out}
@@ -107,7 +108,7 @@ module _ (alone : Bool) (n : ℕ) (due : List BridgeEntry → Option BridgeEntry
 
 pub posted-one : (alone alone' : Bool) (n : ℕ) (Sort : BridgeEntry → Type 0) (e : BridgeEntry)
     (g : Frame) (list list' : List BridgeEntry) (ring ring' : List RingEntry) → Sort e
-    → frame_made e ≡ Some g → maker e ≡ n → WentOn alone (is_by n) list (e ∷ []) list'
+    → frame_made e ≡ Some g → side_of e ≡ n → WentOn alone (is_by n) list (e ∷ []) list'
     → Grew alone' (is_of n) ring (Post n g ∷ []) ring'
     → PartOf alone alone' (is_by n) n (ArePosted Sort n) list list' ring ring'
 posted-one alone alone' n Sort e g list list' ring ring' sort frame made went grew = record {
@@ -155,7 +156,7 @@ pub forwarded-both : (n : ℕ) (some some' : Bool) (noted noted' : List BridgeEn
     → AreForwarded some' n noted' done'
     → AreForwarded (some || some') n (noted ++ noted') (done ++ done')
 forwarded-both n some some' noted noted' done done' a b = (
-  posted-both n IsForward noted noted' done done' a.0 b.0,
+  posted-both n IsForwardEntry noted noted' done done' a.0 b.0,
   some-joined noted noted' ∙ (λ i. a.1 i || b.1 i),
 )
 
@@ -170,8 +171,8 @@ pub fewer-backs : (alone : Bool) (plan : BridgePlan) (n : ℕ) (list : List Brid
 fewer-backs alone plan n list id reply list' end legal went =
     let e : BridgeEntry = Back n id reply in
     let made = made-one alone n list e list' refl went in
-    let accepts = ap (count_by is_accept) made ∙ count-push is_accept (made_by n list) e in
-    let backs = ap (count_by is_back) made ∙ count-push is_back (made_by n list) e in
+    let accepts = ap (count_by is_accept) made ∙ count-push is_accept (made_at_end n list) e in
+    let backs = ap (count_by is_back) made ∙ count-push is_back (made_at_end n list) e in
     let few = backs-few plan n list' end legal in
     omega (arith, accepts, backs, few)
 

@@ -22,9 +22,9 @@ use Rattle.comm_port.specs.SendsAll.{IsNextSending}
 use Rattle.comm_port.specs.Sides.{RingSideIs}
 use Rattle.comm_port.proofs.HostTurning.{own-turn}
 use Rattle.comm_port.proofs.Parts.{each-both, each-grew, grew-none, part-as, part-both}
-use Rattle.bridge_port.specs.EndParts.{IsGivenUp, SendsAll, finish_of}
-use Rattle.bridge_port.specs.EndTurns.{EndTurning, PathsAgree}
-use Rattle.bridge_port.specs.Reading.{backs_of, side_items}
+use Rattle.bridge_port.specs.EndParts.{EndGivesUp, EndSendsAll, finish_at_end}
+use Rattle.bridge_port.specs.EndTurns.{EndTurning, EndPathsAgree}
+use Rattle.joint_history.specs.Bridges.{backs_of, side_items}
 use Rattle.bridge_port.specs.Sides.{BridgeSideIs}
 use Rattle.bridge_port.proofs.EndTurns.{turning-others}
 use Rattle.bridge_port.proofs.Ends.{end-quiet}
@@ -48,7 +48,7 @@ turning-sent alone n heard bridge list side ring ring' legal sent t =
       tied = subst (TiedEnd (side_items n list) (backs_of n list)) (sym own_is)
           (end-quiet (side_items n list) (backs_of n list) (own n ring) (Send n heard) refl refl
           refl refl refl refl t.tied);
-      paths = subst (PathsAgree (end_after bridge.plan list n)) (sym own_is)
+      paths = subst (EndPathsAgree (end_after bridge.plan list n)) (sym own_is)
           (agree-still (end_after bridge.plan list n) (own n ring) (Send n heard) (λ p now. refl)
           (λ p now. refl) t.paths);
     }
@@ -66,23 +66,23 @@ turning-all alone n bridge list side ring ring' legal all t =
 
 -- each call that was given up was finished with its word
 abbrev pub Finished : ℕ → List BridgeEntry → List RingEntry → Type 0
-Finished n noted done = noted ≡ filter_map (finish_of n) done
+Finished n noted done = noted ≡ filter_map (finish_at_end n) done
 
 pub finished-both : (n : ℕ) (noted noted' : List BridgeEntry) (done done' : List RingEntry)
     → Finished n noted done → Finished n noted' done' → Finished n (noted ++ noted') (done ++ done')
 finished-both n noted noted' done done' a b = (λ i. a i ++ b i) ∙ sym
-    (filter_map-append (finish_of n) done done')
+    (filter_map-append (finish_at_end n) done done')
 
 finished-of : (n : ℕ) (ids : List CallId) (noted : List BridgeEntry) (done : List RingEntry)
-    → InOrder (IsGivenUp n) ids noted done → Finished n noted done
-finished-of n [] noted done a = a.0 ∙ ap (filter_map (finish_of n)) (sym a.1)
+    → InOrder (EndGivesUp n) ids noted done → Finished n noted done
+finished-of n [] noted done a = a.0 ∙ ap (filter_map (finish_at_end n)) (sym a.1)
 finished-of n (id ∷ ids) noted done a =
     let word = a.6.0 in
     let rest = finished-of n ids a.1 a.3 a.7 in
     let done-is : done ≡ GiveUp id word ∷ a.3 = a.5 ∙ ap (λ l. l ++ a.3) a.6.2 in
     a.4 ∙ (ap (λ l. l ++ a.1) a.6.1
     ∙ (ap (λ (l : List BridgeEntry). Finish n id (results.Bad word) ∷ l) rest
-    ∙ ap (filter_map (finish_of n)) (sym done-is)))
+    ∙ ap (filter_map (finish_at_end n)) (sym done-is)))
 
 pub send-part : (alone alone' : Bool) (n : ℕ) (heard : Heard) (list : List BridgeEntry)
     (ring ring' : List RingEntry) → Grew alone' (is_of n) ring (Send n heard ∷ []) ring'
@@ -97,10 +97,10 @@ send-part alone alone' n heard list ring ring' grew = record {
 
 pub given-part : (alone alone' : Bool) (n : ℕ) (ids : List CallId) (list list' : List BridgeEntry)
     (ring ring' : List RingEntry)
-    → PartOf alone alone' (is_by n) n (InOrder (IsGivenUp n) ids) list list' ring ring'
+    → PartOf alone alone' (is_by n) n (InOrder (EndGivesUp n) ids) list list' ring ring'
     → PartOf alone alone' (is_by n) n (Finished n) list list' ring ring'
 given-part alone alone' n ids list list' ring ring' p = part-as alone alone' (is_by n) n
-    (InOrder (IsGivenUp n) ids) (Finished n) list list' ring ring'
+    (InOrder (EndGivesUp n) ids) (Finished n) list list' ring ring'
     (λ noted done x. finished-of n ids noted done x) p
 
 pub finished-more : (alone alone' : Bool) (n : ℕ) (one two three : List BridgeEntry)
@@ -116,7 +116,7 @@ pub sent-all : (alone alone' : Bool) (net : NetPlan) (n : ℕ) (chosen : List Bo
     → AllSent alone' net n ring ring' → MaySend net n chosen (part_at net n ring)
     → PartOf alone alone' (is_by n) n (Finished n) list list' first ring
     → EachNext n (IsNextSending net n each_path) first ring
-    → SendsAll alone alone' net n list list' first ring'
+    → EndSendsAll alone alone' net n list list' first ring'
 sent-all alone alone' net n chosen list list' first ring ring' s m p each =
     let q = finished-more alone alone' n list list' list' first ring ring' p (record {
       noted = [];

@@ -23,9 +23,10 @@ use Rattle.comm_port.specs.HostStands.{own_side}
 use Rattle.comm_port.specs.Sides.{MayWrite, RingSideIs}
 use Rattle.comm_port.proofs.Standings.{start-rests}
 use Rattle.comm_port.proofs.Through.{rest-others}
-use Rattle.bridge_port.specs.EndTurns.{BridgeWorkerIs, EndTies, PathsAgree, number_out}
+use Rattle.bridge_port.specs.EndTurns.{BridgeWorkerIs, EndTies, EndPathsAgree, number_out}
 use Rattle.bridge_port.specs.EndTurns.{number_waited}
-use Rattle.bridge_port.specs.Reading.{back_of, backs_of, made_by, side_items, side_items_after}
+use Rattle.joint_history.specs.Bridges.{back_of, backs_of, made_at_end, side_items}
+use Rattle.joint_history.specs.Bridges.{side_items_after}
 use Rattle.bridge_port.specs.Sides.{BridgeSideIs}
 use Rattle.bridge_port.specs.Stands.{EndIsReady, own_bridge}
 use Rattle.bridge_port.proofs.Across.{across-stays}
@@ -33,7 +34,7 @@ use Rattle.bridge_port.proofs.Waited.{agree-as}
 
 -- ---- at the start
 
-agree-new : PathsAgree new_end []
+agree-new : EndPathsAgree new_end []
 agree-new = record {
   waits = λ p is. at_path (λ q. number_waited (waiting q [])
       ≡ number_out (relay_path new_end q)) p is refl refl refl
@@ -67,7 +68,7 @@ ties-new n bridge side serves end serves_ring on wait = record {
     ends = refl;
     downs = refl;
   };
-  paths = subst (λ (x : EndIs). PathsAgree x []) (sym (end-new bridge.plan n)) agree-new;
+  paths = subst (λ (x : EndIs). EndPathsAgree x []) (sym (end-new bridge.plan n)) agree-new;
   rest = start-rests side.net n;
 }
 
@@ -88,18 +89,18 @@ ties-ring n bridge list side ring more none legal t =
       on = on-others side.net n ring more t.on legal none;
       answer = t.answer;
       tied = subst (TiedEnd (side_items n list) (backs_of n list)) (sym same) t.tied;
-      paths = subst (PathsAgree (end_after bridge.plan list n)) (sym same) t.paths;
+      paths = subst (EndPathsAgree (end_after bridge.plan list n)) (sym same) t.paths;
       rest = rest-others side.net n ring more t.on legal none t.rest;
     }
 
 -- entries of the other end
 pub ties-across : {P Q : Type 0} (n : ℕ) (bridge : BridgeSideIs P) (list more : List BridgeEntry)
-    (side : RingSideIs Q) (ring : List RingEntry) → made_by n more ≡ []
+    (side : RingSideIs Q) (ring : List RingEntry) → made_at_end n more ≡ []
     → IsBridgeHistory bridge.plan (list ++ more) → EndTies n bridge list side ring
     → EndTies n bridge (list ++ more) side ring
 ties-across n bridge list more side ring none legal t =
-    let same : made_by n (list ++ more) ≡ made_by n list = filter-append (is_by n) list more
-    ∙ (ap (λ l. made_by n list ++ l) none ∙ append-nil (made_by n list)) in
+    let same : made_at_end n (list ++ more) ≡ made_at_end n list = filter-append (is_by n) list more
+    ∙ (ap (λ l. made_at_end n list ++ l) none ∙ append-nil (made_at_end n list)) in
     let stays = across-stays bridge.plan n list more t.end legal none in
     record {
       serves_bridge = t.serves_bridge;
@@ -145,7 +146,7 @@ ready-ring n worker left bridge net ring more none legal t = record {
 }
 
 pub ready-across : (n : ℕ) (worker : BridgeWorkerIs) (left : Bool) (plan : BridgePlan)
-    (list more : List BridgeEntry) (net : NetPlan) (ring : List RingEntry) → made_by n more ≡ []
+    (list more : List BridgeEntry) (net : NetPlan) (ring : List RingEntry) → made_at_end n more ≡ []
     → IsBridgeHistory plan (list ++ more)
     → EndIsReady n worker left (record { plan = plan; history = list }) net ring
     → EndIsReady n worker left (record { plan = plan; history = list ++ more }) net ring

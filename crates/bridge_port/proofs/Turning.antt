@@ -10,8 +10,8 @@ use Rattle.bridge_relay.specs.declared.entry.BridgeEntry.TheVariants.{Back}
 use Rattle.bridge_relay.specs.declared.entry.RelayResult.TheVariants as results
 use Rattle.bridge_relay.specs.Kept.{code_between, near_accepted, near_after}
 use Rattle.bridge_relay.specs.Laws.{end_after, is_by}
-use Rattle.bridge_relay.specs.Legal.{IsBridgeHistory, IsEnd, is_out}
-use Rattle.bridge_relay.specs.Machine.{EndIs, freed, given_back, maker}
+use Rattle.bridge_relay.specs.Legal.{IsBridgeHistory, IsEnd, is_call_out}
+use Rattle.bridge_relay.specs.Machine.{EndIs, freed, given_back, side_of}
 use Rattle.ring_core.specs.Legal.{IsLegalRing, IsPath}
 use Rattle.ring_core.specs.Statistics.{is_for_stats}
 use Rattle.ring_core.specs.Words.{frame_route}
@@ -33,8 +33,8 @@ use Rattle.comm_port.specs.Sides.{MayWrite, RingSideIs}
 use Rattle.comm_port.specs.Turns.{IsOwnTurn, KeepsInbox}
 use Rattle.comm_port.proofs.HostTurning.{own-turn}
 use Rattle.comm_port.proofs.RingTurns.{on-still, own-moved, own-on}
-use Rattle.bridge_port.specs.EndTurns.{EndTaking, EndTurning, PathsAgree}
-use Rattle.bridge_port.specs.Reading.{back_of, backs_of, side_item_next, side_items}
+use Rattle.bridge_port.specs.EndTurns.{EndTaking, EndTurning, EndPathsAgree}
+use Rattle.joint_history.specs.Bridges.{back_of, backs_of, side_item_next, side_items}
 use Rattle.bridge_port.specs.Sides.{BridgeSideIs}
 use Rattle.bridge_port.proofs.Across.{IsAsWas, as-was, own-step}
 use Rattle.bridge_port.proofs.Agree.{agree-called, agree-replied, agree-taken, have-four, went-out}
@@ -90,7 +90,7 @@ turning-still {P} {Q} alone n bridge list side side' ring ring' same legal went 
 -- the call of a Reply is out
 pub reply-out : {P Q : Type 0} (n : ℕ) (f : Frame) (bridge : BridgeSideIs P)
     (list : List BridgeEntry) (side : RingSideIs Q) (ring : List RingEntry) → f.kind ≡ Reply
-    → EndTaking n f bridge list side ring → is_out bridge.plan list n f.id ≡ true
+    → EndTaking n f bridge list side ring → is_call_out bridge.plan list n f.id ≡ true
 reply-out n f bridge list side ring kind t =
     let r = t.reply kind in
     let named : record { node = n; path = f.id.path; seq = f.id.seq } ≡ f.id =
@@ -99,7 +99,7 @@ reply-out n f bridge list side ring kind t =
       path = f.id.path;
       seq = f.id.seq;
     } in
-    subst (λ (id : CallId). is_out bridge.plan list n id ≡ true) named
+    subst (λ (id : CallId). is_call_out bridge.plan list n id ≡ true) named
     (waited-out bridge.plan list n f.id.path f.id.seq t.before r.0 r.3.is_path t.paths r.1
     (ap (λ (x : CallId). x.seq) r.2))
 
@@ -111,7 +111,7 @@ record Noted (n : ℕ) (list' : List BridgeEntry) (a : Items) (backs : List Item
   pub backs_are : backs_of n list' ≡ backs
 
 noted-one : (alone : Bool) (n : ℕ) (list : List BridgeEntry) (e : BridgeEntry)
-    (list' : List BridgeEntry) → maker e ≡ n → WentOn alone (is_by n) list (e ∷ []) list'
+    (list' : List BridgeEntry) → side_of e ≡ n → WentOn alone (is_by n) list (e ∷ []) list'
     → Noted n list' (side_item_next (side_items n list) e)
     (backs_of n list ++ cons_option (back_of e) [])
 noted-one alone n list e list' made went = record {
@@ -125,7 +125,7 @@ turning-from : {P Q : Type 0} (n : ℕ) (bridge bridge' : BridgeSideIs P)
     → MayWrite bridge.writer n → IsEnd bridge.plan n → new.gone ≡ false
     → IsBridgeHistory bridge.plan list' → Noted n list' a backs
     → end_after bridge.plan list' n ≡ new → IsOwnTurn side ring' n → TiedEnd a backs (own n ring')
-    → PathsAgree new (own n ring') → EndTurning n bridge' list' side' ring'
+    → EndPathsAgree new (own n ring') → EndTurning n bridge' list' side' ring'
 turning-from {P} {Q} n bridge bridge' list' side side' ring' a backs new same same' serves end gone
     legal noted end_is turn tied paths =
     subst (λ (s : RingSideIs Q). EndTurning n bridge' list' s ring') (sym same')
@@ -136,7 +136,7 @@ turning-from {P} {Q} n bridge bridge' list' side side' ring' a backs new same sa
       own_turn = turn;
       tied = subst (λ (x : Items). TiedEnd x (backs_of n list') (own n ring')) (sym noted.items)
           (subst (λ (x : List Item). TiedEnd a x (own n ring')) (sym noted.backs_are) tied);
-      paths = subst (λ (x : EndIs). PathsAgree x (own n ring')) (sym end_is) paths;
+      paths = subst (λ (x : EndIs). EndPathsAgree x (own n ring')) (sym end_is) paths;
     }))
 
 -- a Reply
@@ -165,7 +165,7 @@ turning-got alone n f bridge bridge' list list' side ring same kind legal went t
     (subst (λ (l : List Item). TiedEnd (with_end a f.id (Replied f.pdu)) l (own n ring))
     (sym (append-nil backs))
     (subst (TiedEnd (with_end a f.id (Replied f.pdu)) backs) (sym t.own_is) tied))
-    (subst (PathsAgree (freed s.past f.id.path)) (sym t.own_is) paths)
+    (subst (EndPathsAgree (freed s.past f.id.path)) (sym t.own_is) paths)
 
 -- a Request that the bridge accepted
 accepted-is : (near : EndIs) (id : CallId) (route request : List ℕ) (code : Option ℕ)
@@ -199,7 +199,7 @@ turning-accepted alone n f bridge bridge' list list' side ring same kind plain l
     (noted-one alone n list e list' refl went) s.after_is t.own_turn
     (subst (λ (l : List Item). TiedEnd a' l (own n ring)) (sym (append-nil backs))
     (subst (TiedEnd a' backs) (sym t.own_is) tied))
-    (subst (PathsAgree new) (sym t.own_is) paths)
+    (subst (EndPathsAgree new) (sym t.own_is) paths)
 
 -- a Request for statistics
 pub turning-told : {P Q : Type 0} (n : ℕ) (f : Frame) (bridge : BridgeSideIs P)
@@ -240,7 +240,7 @@ turning-told {P} {Q} n f bridge list side side' alone ring ring' same kind stats
       legal = t.legal;
       own_turn = turn;
       tied = subst (TiedEnd (side_items n list) (backs_of n list)) (sym own_is) tied;
-      paths = subst (PathsAgree end) (joined ∙ sym own_is) three;
+      paths = subst (EndPathsAgree end) (joined ∙ sym own_is) three;
     })
 
 -- ---- a reply that was given back
@@ -274,7 +274,7 @@ turning-backed alone alone' n id pdu bridge bridge' list list' side side' ring r
     turning-from n bridge bridge' list' side side' ring' a backs' new same same' t.serves
     t.is_open.end (s.stays.gone ∙ t.is_open.here) legal (noted-one alone n list e list' refl went)
     s.after_is (own-turn side ring ring' n t.own_turn legal_ring kept)
-    (subst (TiedEnd a backs') (sym own_is) tied) (subst (PathsAgree new) (sym own_is) paths)
+    (subst (TiedEnd a backs') (sym own_is) tied) (subst (EndPathsAgree new) (sym own_is) paths)
 
 -- ---- a request that was sent on
 
@@ -307,4 +307,4 @@ turning-called alone alone' n old f bridge bridge' list list' side side' ring ri
     s.after_is (own-turn side ring ring' n t.own_turn legal_ring kept)
     (subst (λ (l : List Item). TiedEnd a' l (own n ring')) (sym (append-nil backs))
     (subst (TiedEnd a' backs) (sym own_is) tied))
-    (subst (PathsAgree new) (sym own_is) paths)
+    (subst (EndPathsAgree new) (sym own_is) paths)

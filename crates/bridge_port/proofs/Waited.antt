@@ -17,7 +17,7 @@ use Rattle.ring_core.specs.Machine.{awaited_number}
 use Rattle.bridge_relay.specs.declared.entry.BridgeEntry.{BridgeEntry}
 use Rattle.bridge_relay.specs.Machine.{EndIs, RelayPath, freed, relay_path, unused_path}
 use Rattle.bridge_relay.specs.Laws.{end_after}
-use Rattle.bridge_relay.specs.Legal.{is_out}
+use Rattle.bridge_relay.specs.Legal.{is_call_out}
 use Rattle.bridge_relay.proofs.Paths.{path_known}
 use Rattle.tied_lists.specs.Items.{Asked, AtHome, Called, CallSort, Item, NetCall, OverNet}
 use Rattle.tied_lists.specs.Items.{kind_in, kind_of_sort, last_asked, net_ask, or_some}
@@ -26,15 +26,15 @@ use Rattle.tied_lists.specs.Waits.{AwaitsThis, last_number, number_next, waiting
 use Rattle.tied_lists.proofs.Asked.{waiting-last}
 use Rattle.tied_lists.proofs.Paths.{number-push, waiting-push}
 use Rattle.comm_port.proofs.Dues.{nothing-waits}
-use Rattle.bridge_port.specs.EndTurns.{PathsAgree, number_out, number_waited}
-use Rattle.bridge_port.specs.Reading.{side_items}
+use Rattle.bridge_port.specs.EndTurns.{EndPathsAgree, number_out, number_waited}
+use Rattle.joint_history.specs.Bridges.{side_items}
 use Rattle.bridge_port.proofs.Lists.{IsNet, all-net}
 
 -- ---- the paths
 
 -- those of the end as they were
-pub agree-as : (old new : EndIs) (b : List RingEntry) → new.paths ≡ old.paths → PathsAgree old b
-    → PathsAgree new b
+pub agree-as : (old new : EndIs) (b : List RingEntry) → new.paths ≡ old.paths → EndPathsAgree old b
+    → EndPathsAgree new b
 agree-as old new b same k = record {
   waits = λ p is. k.waits p is
       ∙ ap (λ (ps : List RelayPath). number_out (get_or ps (p - 1) unused_path)) (sym same);
@@ -45,7 +45,8 @@ agree-as old new b same k = record {
 -- an entry of the node that says nothing of its own calls
 pub agree-still : (end : EndIs) (b : List RingEntry) (e : RingEntry)
     → ((p : ℕ) (now : Option Frame) → waits_next p now e ≡ now)
-    → ((p now : ℕ) → number_next p now e ≡ now) → PathsAgree end b → PathsAgree end (b ++ e ∷ [])
+    → ((p now : ℕ) → number_next p now e ≡ now)
+    → EndPathsAgree end b → EndPathsAgree end (b ++ e ∷ [])
 agree-still end b e waits numbers k = record {
   waits = λ p is. ap number_waited (waiting-push p b e ∙ waits p (waiting p b)) ∙ k.waits p is;
   numbers = λ p is. number-push p b e ∙ (numbers p (last_number p b) ∙ k.numbers p is);
@@ -68,8 +69,8 @@ freed-there end p q is_p is_q other =
 -- a call that was ended by one entry of each list
 pub agree-ended : (end : EndIs) (b : List RingEntry) (e : RingEntry) (q : ℕ) → IsPath q
     → ((p : ℕ) (now : Option Frame) → waits_next p now e ≡ cond (q == p) None now)
-    → ((p now : ℕ) → number_next p now e ≡ now) → PathsAgree end b
-    → PathsAgree (freed end q) (b ++ e ∷ [])
+    → ((p now : ℕ) → number_next p now e ≡ now) → EndPathsAgree end b
+    → EndPathsAgree (freed end q) (b ++ e ∷ [])
 agree-ended end b e q is_q waits numbers k = record {
   waits = λ p is. ap number_waited (waiting-push p b e ∙ waits p (waiting p b)) ∙ waits-at p is;
   numbers = λ p is. number-push p b e ∙ (numbers p (last_number p b) ∙ (k.numbers p is
@@ -128,9 +129,9 @@ out-by true last seq is = let same : seq ≡ last = cc in eq-eqb last seq (sym s
 out-by false last seq is = absurd (let bad : Some seq ≡ None = is in cc)
 
 pub waited-out : (plan : BridgePlan) (list : List BridgeEntry) (n p seq : ℕ) (b : List RingEntry)
-    (f : Frame) → IsPath p → PathsAgree (end_after plan list n) b → waiting p b ≡ Some f
+    (f : Frame) → IsPath p → EndPathsAgree (end_after plan list n) b → waiting p b ≡ Some f
     → f.id.seq ≡ seq
-    → is_out plan list n (record { node = n; path = p; seq = seq }) ≡ true
+    → is_call_out plan list n (record { node = n; path = p; seq = seq }) ≡ true
 waited-out plan list n p seq b f path k is number =
     let there = relay_path (end_after plan list n) p in
     let on = out-by (is_some there.out) there.last seq

@@ -34,37 +34,37 @@ use Rattle.comm_port.specs.Leaving.{cause_due, HandedOn}
 use Rattle.comm_port.specs.Parts.{InOrder, PartOf, calls_waiting}
 use Rattle.comm_port.specs.Replies.{reply_frame}
 use Rattle.comm_port.specs.SendsAll.{SendsFrames}
-use Rattle.bridge_port.specs.Reading.{made_by}
+use Rattle.joint_history.specs.Bridges.{made_at_end}
 
 -- ---- First: what lies in the inbox is served.
 
 -- A frame is served: it is taken, and a Reply finishes its call. A request for statistics has the
 -- port do what is asked and post its Reply; another is accepted.
-abbrev pub ServedAs : FrameKind → Bool → ℕ → Frame → List BridgeEntry → List RingEntry → Type 0
-ServedAs Reply stats n f noted done =
+abbrev pub EndServesAs : FrameKind → Bool → ℕ → Frame → List BridgeEntry → List RingEntry → Type 0
+EndServesAs Reply stats n f noted done =
     (noted ≡ Finish n f.id (results.Reply f.pdu) ∷ []) × (done ≡ Take n f ∷ [])
-ServedAs Request true n f noted done = (op : LocalOp) × (result : MstrResult)
+EndServesAs Request true n f noted done = (op : LocalOp) × (result : MstrResult)
     × (request_of op ≡ Some f.pdu) × (noted ≡ [])
     × (done ≡ Take n f ∷ Local n f.id op result ∷ Post n (reply_frame f.id (reply_of result)) ∷ [])
-ServedAs Request false n f noted done =
+EndServesAs Request false n f noted done =
     (noted ≡ Accept n f.id f.rest f.pdu ∷ []) × (done ≡ Take n f ∷ [])
 
-abbrev pub IsServed : ℕ → Frame → List BridgeEntry → List RingEntry → Type 0
-IsServed n f noted done = ServedAs f.kind (is_for_stats f) n f noted done
+abbrev pub EndServes : ℕ → Frame → List BridgeEntry → List RingEntry → Type 0
+EndServes n f noted done = EndServesAs f.kind (is_for_stats f) n f noted done
 
 -- A frame that was taken already is served.
-abbrev pub IsAnswered : ℕ → Frame → List BridgeEntry → List RingEntry → Type 0
-IsAnswered n f noted done = IsServed n f noted (Take n f ∷ done)
+abbrev pub EndAnswers : ℕ → Frame → List BridgeEntry → List RingEntry → Type 0
+EndAnswers n f noted done = EndServes n f noted (Take n f ∷ done)
 
 -- ---- Second: replies are given back, and requests sent on.
 
-abbrev pub IsBack : BridgeEntry → Type 0
-IsBack (Back side id reply) = Unit {0}
-IsBack _ = ⊥
+abbrev pub IsBackEntry : BridgeEntry → Type 0
+IsBackEntry (Back side id reply) = Unit {0}
+IsBackEntry _ = ⊥
 
-abbrev pub IsForward : BridgeEntry → Type 0
-IsForward (Forward side old id route request) = Unit {0}
-IsForward _ = ⊥
+abbrev pub IsForwardEntry : BridgeEntry → Type 0
+IsForwardEntry (Forward side old id route request) = Unit {0}
+IsForwardEntry _ = ⊥
 
 -- What is posted of an entry: its frame, if it has one.
 abbrev pub post_of : ℕ → BridgeEntry → Option RingEntry
@@ -85,33 +85,34 @@ pub record PostsAll (alone_bridge alone_ring : Bool) (Sort : BridgeEntry → Typ
 abbrev pub BacksAll : Bool → Bool → BridgePlan → ℕ → List BridgeEntry → List BridgeEntry
     → List RingEntry → List RingEntry → Type 0
 BacksAll alone_bridge alone_ring plan n list new_list ring new_ring =
-    PostsAll alone_bridge alone_ring IsBack (λ past. due_back plan past n) n list new_list
+    PostsAll alone_bridge alone_ring IsBackEntry (λ past. due_back plan past n) n list new_list
     ring new_ring
 
 abbrev pub ForwardsAll : Bool → Bool → BridgePlan → ℕ → List BridgeEntry → List BridgeEntry
     → List RingEntry → List RingEntry → Type 0
 ForwardsAll alone_bridge alone_ring plan n list new_list ring new_ring =
-    PostsAll alone_bridge alone_ring IsForward (λ past. due_forward plan past n) n list new_list
-    ring new_ring
+    PostsAll alone_bridge alone_ring IsForwardEntry (λ past. due_forward plan past n) n
+    list new_list ring new_ring
 
 -- ---- Third: the outbox is sent.
 
 -- A call that is given up finishes with its word.
-abbrev pub finish_of : ℕ → RingEntry → Option BridgeEntry
-finish_of n (GiveUp id word) = Some (Finish n id (results.Bad word))
-finish_of n _ = None
+abbrev pub finish_at_end : ℕ → RingEntry → Option BridgeEntry
+finish_at_end n (GiveUp id word) = Some (Finish n id (results.Bad word))
+finish_at_end n _ = None
 
 -- A node sends until its outbox is empty; each call that fails is given up at once and finished.
-pub record SendsAll (alone_bridge alone_ring : Bool) (net : NetPlan) (n : ℕ)
+pub record EndSendsAll (alone_bridge alone_ring : Bool) (net : NetPlan) (n : ℕ)
     (list new_list : List BridgeEntry) (ring new_ring : List RingEntry) : Type 0 where
   pub frames : SendsFrames alone_ring net n each_path ring new_ring
-  pub finishes : Grew alone_bridge (is_by n) list (filter_map (finish_of n) frames.done) new_list
+  pub finishes : Grew alone_bridge (is_by n) list
+      (filter_map (finish_at_end n) frames.done) new_list
 
 -- ---- Fourth: what waited for too long is given up.
 
 -- A call is given up, and finished with that word.
-abbrev pub IsGivenUp : ℕ → CallId → List BridgeEntry → List RingEntry → Type 0
-IsGivenUp n id noted done = (word : ℕ) × (noted ≡ Finish n id (results.Bad word) ∷ [])
+abbrev pub EndGivesUp : ℕ → CallId → List BridgeEntry → List RingEntry → Type 0
+EndGivesUp n id noted done = (word : ℕ) × (noted ≡ Finish n id (results.Bad word) ∷ [])
     × (done ≡ GiveUp id word ∷ [])
 
 -- ---- Last: the token goes on.
@@ -134,9 +135,9 @@ AsksBridge false alone_bridge alone_ring plan net n list new_list ring new_ring 
 
 -- A turn asks whether the end is done: it is exactly where the turn posted no Request, and then the
 -- end is idle and only ends of bridges are left, each as its list stood when it was asked.
-abbrev pub AsksIfDone : Bool → Bool → BridgePlan → NetPlan → ℕ → Bool → List BridgeEntry
+abbrev pub EndAsksIfDone : Bool → Bool → BridgePlan → NetPlan → ℕ → Bool → List BridgeEntry
     → List BridgeEntry → List RingEntry → List RingEntry → Bool → Type 0
-AsksIfDone alone_bridge alone_ring plan net n has_posted list new_list ring new_ring done =
+EndAsksIfDone alone_bridge alone_ring plan net n has_posted list new_list ring new_ring done =
     AsksBridge (not has_posted) alone_bridge alone_ring plan net n list new_list ring new_ring done
 
 -- After a Leave each call that waits is given up and finished, by rising path; then the end is
@@ -145,7 +146,7 @@ pub record LeavesBridge (alone_bridge alone_ring : Bool) (n : ℕ) (list new_lis
     (ring new_ring : List RingEntry) : Type 0 where
   pub given_list : List BridgeEntry
   pub gives_up : PartOf alone_bridge alone_ring (is_by n) n
-      (InOrder (IsGivenUp n) (calls_waiting n ring)) list given_list ring new_ring
+      (InOrder (EndGivesUp n) (calls_waiting n ring)) list given_list ring new_ring
   pub none_waits : calls_waiting n new_ring ≡ []
   pub gone : WentOn alone_bridge (is_by n) given_list (Gone n ∷ []) new_list
 
@@ -165,7 +166,7 @@ pub record EndsEndTurn (alone_bridge alone_ring : Bool) (plan : BridgePlan) (net
   pub done : Bool
   pub asked_list : List BridgeEntry
   pub asked_ring : List RingEntry
-  pub asked : AsksIfDone alone_bridge alone_ring plan net n has_posted list asked_list
+  pub asked : EndAsksIfDone alone_bridge alone_ring plan net n has_posted list asked_list
       ring asked_ring done
   pub left_is : left ≡ is_some (cause_due net (ring_after net asked_ring) n done budget)
   pub handed_ring : List RingEntry
@@ -187,7 +188,7 @@ pub record HoldsEndTurn (alone_bridge alone_ring : Bool) (plan : BridgePlan) (ne
   pub served_list : List BridgeEntry
   pub served_ring : List RingEntry
   pub serves : PartOf alone_bridge alone_ring (is_by n) n
-      (InOrder (IsServed n) (inbox_of net n ring)) list served_list ring served_ring
+      (InOrder (EndServes n) (inbox_of net n ring)) list served_list ring served_ring
   pub all_served : inbox_of net n served_ring ≡ []
   pub backed_list : List BridgeEntry
   pub backed_ring : List RingEntry
@@ -199,11 +200,11 @@ pub record HoldsEndTurn (alone_bridge alone_ring : Bool) (plan : BridgePlan) (ne
       backed_ring called_ring
   pub sent_list : List BridgeEntry
   pub sent_ring : List RingEntry
-  pub sends : SendsAll alone_bridge alone_ring net n called_list sent_list called_ring sent_ring
+  pub sends : EndSendsAll alone_bridge alone_ring net n called_list sent_list called_ring sent_ring
   pub given_list : List BridgeEntry
   pub given_ring : List RingEntry
   pub gives_up : PartOf alone_bridge alone_ring (is_by n) n
-      (InOrder (IsGivenUp n) (overdue net n sent_ring)) sent_list given_list sent_ring given_ring
+      (InOrder (EndGivesUp n) (overdue net n sent_ring)) sent_list given_list sent_ring given_ring
   pub ends : EndsEndTurn alone_bridge alone_ring plan net n budget (are_some forwards.part.noted)
       given_list new_list given_ring new_ring left
 
@@ -219,7 +220,7 @@ is_back _ = false
 
 -- How many replies an end can still give back to what it accepted.
 abbrev pub backs_left : ℕ → List BridgeEntry → ℕ
-backs_left n list = count_by is_accept (made_by n list) - count_by is_back (made_by n list)
+backs_left n list = count_by is_accept (made_at_end n list) - count_by is_back (made_at_end n list)
 
 -- How many paths of an end have no call out.
 abbrev pub paths_left : BridgePlan → ℕ → List BridgeEntry → ℕ
@@ -229,14 +230,14 @@ paths_left plan n list =
 -- A reply was given back and posted, if one was due.
 pub record BacksNext (alone_bridge alone_ring : Bool) (plan : BridgePlan) (n : ℕ)
     (list new_list : List BridgeEntry) (ring new_ring : List RingEntry) (gave : Bool) : Type 0 where
-  pub part : PartOf alone_bridge alone_ring (is_by n) n (ArePosted IsBack n) list new_list
+  pub part : PartOf alone_bridge alone_ring (is_by n) n (ArePosted IsBackEntry n) list new_list
       ring new_ring
   pub less : gave ≡ true → backs_left n new_list < backs_left n list
   pub none_due : gave ≡ false → due_back plan new_list n ≡ None
 
 -- Requests were sent on and posted, at least one exactly where this says so.
 abbrev pub AreForwarded : Bool → ℕ → List BridgeEntry → List RingEntry → Type 0
-AreForwarded some n noted done = ArePosted IsForward n noted done × (are_some noted ≡ some)
+AreForwarded some n noted done = ArePosted IsForwardEntry n noted done × (are_some noted ≡ some)
 
 -- A request was sent on and posted on this path.
 pub record ForwardsOne (alone_bridge alone_ring : Bool) (plan : BridgePlan) (net : NetPlan)

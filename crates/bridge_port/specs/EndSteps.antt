@@ -13,9 +13,9 @@ use Rattle.comm_port.specs.RingSteps.{RingStep}
 use Rattle.comm_port.specs.Stands.{HasGrown}
 use Rattle.bridge_port.specs.declared.bridge_side.BridgeSide as bridge_sides
 use Rattle.bridge_port.specs.EndTurns.{BridgeWorkerIs, EndTaking, EndTies, EndTurning}
-use Rattle.bridge_port.specs.EndParts.{AsksIfDone, BacksAll, BacksNext, EndsEndTurn, ForwardsNext}
-use Rattle.bridge_port.specs.EndParts.{ForwardsOn, HoldsEndTurn, IsAnswered, IsGivenUp, IsServed}
-use Rattle.bridge_port.specs.EndParts.{LeavesBridge, SendsAll}
+use Rattle.bridge_port.specs.EndParts.{BacksAll, BacksNext, EndAnswers, EndAsksIfDone, EndGivesUp}
+use Rattle.bridge_port.specs.EndParts.{EndSendsAll, EndServes, EndsEndTurn, ForwardsNext}
+use Rattle.bridge_port.specs.EndParts.{ForwardsOn, HoldsEndTurn, LeavesBridge}
 
 -- ---- The bridge alone.
 
@@ -65,12 +65,12 @@ module _ {B P R Q : Type 0} (b : bridge_sides.Ghosts B P) (r : ring_sides.Ghosts
 
   -- What is due to a frame that was taken was done.
   abbrev pub Meets : ℕ → Frame → B → B → R → R → Type 0
-  Meets n f bridge bridge' ring ring' = PartOver n (IsAnswered n f) bridge bridge' ring ring'
+  Meets n f bridge bridge' ring ring' = PartOver n (EndAnswers n f) bridge bridge' ring ring'
 
   -- All that lay in the inbox was served, in its order.
   abbrev pub ServesAll : ℕ → B → B → R → R → Type 0
   ServesAll n bridge bridge' ring ring' =
-      PartOver n (InOrder (IsServed n) (inbox_of (r.side ring).net n (r.known ring)))
+      PartOver n (InOrder (EndServes n) (inbox_of (r.side ring).net n (r.known ring)))
       bridge bridge' ring ring'
 
   -- A reply was given back and posted, if one was due.
@@ -97,13 +97,13 @@ module _ {B P R Q : Type 0} (b : bridge_sides.Ghosts B P) (r : ring_sides.Ghosts
 
   -- All was sent; each call that failed was given up at once and finished.
   abbrev pub SendsAllOver : ℕ → B → B → R → R → Type 0
-  SendsAllOver n bridge bridge' ring ring' = SendsAll b.alone r.alone (r.side ring).net n
+  SendsAllOver n bridge bridge' ring ring' = EndSendsAll b.alone r.alone (r.side ring).net n
       (b.known bridge) (b.known bridge') (r.known ring) (r.known ring')
 
   -- The calls of these paths were given up and finished, in order, where that was due.
   abbrev pub GivesUpBy : ℕ → List ℕ → B → B → R → R → Type 0
   GivesUpBy n paths bridge bridge' ring ring' = PartOver n
-      (InOrder (IsGivenUp n) (due_calls (r.side ring).net n (r.known ring) paths))
+      (InOrder (EndGivesUp n) (due_calls (r.side ring).net n (r.known ring) paths))
       bridge bridge' ring ring'
 
   -- Those of the paths that an array chooses were.
@@ -113,7 +113,7 @@ module _ {B P R Q : Type 0} (b : bridge_sides.Ghosts B P) (r : ring_sides.Ghosts
 
   -- A turn asked whether the end is done.
   abbrev pub AsksDoneOver : ℕ → Bool → B → B → R → R → Bool → Type 0
-  AsksDoneOver n has_posted bridge bridge' ring ring' done = AsksIfDone b.alone r.alone
+  AsksDoneOver n has_posted bridge bridge' ring ring' done = EndAsksIfDone b.alone r.alone
       (b.bridge bridge).plan (r.side ring).net n has_posted (b.known bridge) (b.known bridge')
       (r.known ring) (r.known ring') done
 

@@ -16,7 +16,7 @@ use Rattle.tied_lists.specs.Waits.{waiting, last_number, IsAsk, IsOnRing}
 use Rattle.comm_port.specs.Giving.{IsAtRest}
 use Rattle.comm_port.specs.Sides.{RingSideIs, MayWrite}
 use Rattle.comm_port.specs.Turns.{IsOwnTurn}
-use Rattle.bridge_port.specs.Reading.{backs_of, side_items}
+use Rattle.joint_history.specs.Bridges.{backs_of, side_items}
 use Rattle.bridge_port.specs.Sides.{BridgeSideIs}
 
 -- The worker of a bridge's end: the end's address, and whether it keeps to a budget of Passes.
@@ -35,7 +35,7 @@ number_out path = if is_some path.out then Some path.last else None
 
 -- Each path of the node waits for the call that is out on the same path of the end, and the number
 -- that was posted there last is the one that the end gave last.
-pub record PathsAgree (end : EndIs) (b : List RingEntry) : Type 0 where
+pub record EndPathsAgree (end : EndIs) (b : List RingEntry) : Type 0 where
   pub waits : (p : ℕ) → IsPath p → number_waited (waiting p b) ≡ number_out (relay_path end p)
   pub numbers : (p : ℕ) → IsPath p → last_number p b ≡ (relay_path end p).last
 
@@ -48,7 +48,7 @@ pub record EndTurning {P Q : Type 0} (n : ℕ) (bridge : BridgeSideIs P) (list :
   pub legal : IsBridgeHistory bridge.plan list
   pub own_turn : IsOwnTurn side ring n
   pub tied : TiedEnd (side_items n list) (backs_of n list) (own n ring)
-  pub paths : PathsAgree (end_after bridge.plan list n) (own n ring)
+  pub paths : EndPathsAgree (end_after bridge.plan list n) (own n ring)
 
 -- A worker stands between an end that has not left and the ring, before the last entry of the node,
 -- a Take of this frame.
@@ -61,7 +61,7 @@ pub record EndTaking {P Q : Type 0} (n : ℕ) (f : Frame) (bridge : BridgeSideIs
   pub legal : IsBridgeHistory bridge.plan list
   pub own_turn : IsOwnTurn side ring n
   pub tied : TiedEnd (side_items n list) (backs_of n list) before
-  pub paths : PathsAgree (end_after bridge.plan list n) before
+  pub paths : EndPathsAgree (end_after bridge.plan list n) before
   pub request : f.kind ≡ Request → f.id.node ≢ n
   pub reply : f.kind ≡ Reply → (ask : Frame) × (waiting f.id.path before ≡ Some ask)
       × (ask.id ≡ f.id) × IsAsk n f.id.path ask
@@ -77,5 +77,5 @@ pub record EndTies {P Q : Type 0} (n : ℕ) (bridge : BridgeSideIs P) (list : Li
   pub on : IsOnRing side.net ring n
   pub answer : 0 < side.net.answer
   pub tied : TiedEnd (side_items n list) (backs_of n list) (own n ring)
-  pub paths : PathsAgree (end_after bridge.plan list n) (own n ring)
+  pub paths : EndPathsAgree (end_after bridge.plan list n) (own n ring)
   pub rest : IsAtRest side.net n ring

@@ -1,4 +1,3 @@
-pub mod Reading
 pub mod Sides
 pub mod EndTurns
 pub mod EndParts

@@ -1,7 +1,7 @@
 //! A bridge as the worker of one of its ends has it: by itself, or behind a gate that the worker of
 //! the other end passes too.
 ghost use Rattle.std.specs.Prelude.{◌≡◌, ◌∷◌, [], List, Bool, true};
-ghost use Rattle.bridge_relay.specs.Legal.{IsBridgeHistory, IsEnd, IsOpenEnd, is_out};
+ghost use Rattle.bridge_relay.specs.Legal.{IsBridgeHistory, IsEnd, IsOpenEnd, is_call_out};
 ghost use Rattle.bridge_relay.specs.Machine.{is_idle_end, none_out};
 ghost use Rattle.bridge_relay.specs.declared.entry.BridgeEntry.TheVariants.{Accept, Finish, Gone};
 ghost use Rattle.comm_port.specs.Sides.{MayWrite};
@@ -72,7 +72,7 @@ pub trait BridgeSide {
     fn finish(&mut self, side: u8, id: CallId, outcome: RelayResult) -> Result<(), AllocError>
         requires serves { MayWrite (bridge self.old).writer side }
         requires is_open { IsOpenEnd (bridge self.old).plan (known self.old) side }
-        requires out { is_out (bridge self.old).plan (known self.old) side id ≡ true }
+        requires out { is_call_out (bridge self.old).plan (known self.old) side id ≡ true }
         ensures went { EndAdds alone known side self.old self.new result
             (λ _. Finish side id outcome ∷ []) }
         ensures legal { IsBridgeHistory (bridge self.old).plan (known self.new) }

@@ -17,7 +17,7 @@ use Rattle.bridge_relay.specs.declared.entry.BridgeEntry.{BridgeEntry}
 use Rattle.bridge_relay.specs.declared.entry.BridgeEntry.TheVariants.{Accept, Forward, Finish}
 use Rattle.bridge_relay.specs.declared.entry.BridgeEntry.TheVariants.{Back, Gone}
 use Rattle.bridge_relay.specs.declared.entry.RelayResult.{RelayResult}
-use Rattle.bridge_relay.specs.Machine.{OutCall, RelayPath, relay_path, unused_path, maker}
+use Rattle.bridge_relay.specs.Machine.{OutCall, RelayPath, relay_path, unused_path, side_of}
 use Rattle.bridge_relay.specs.Machine.{relay_after, near_end, new_end}
 use Rattle.bridge_relay.specs.Legal.{IsEnd, IsBridgeHistory, IsBridgeStep, is_network_path}
 use Rattle.bridge_relay.specs.Laws.{end_after, sends_on_path, sends_call, ends_call}
@@ -73,7 +73,7 @@ count_same test history entry is =
 
 -- the part of an end with one entry more
 part_more : (plan : BridgePlan) (history : List BridgeEntry) (side : ℕ) (entry : BridgeEntry)
-    → IsBridgePlan plan → IsEnd plan side → IsEnd plan (maker entry)
+    → IsBridgePlan plan → IsEnd plan side → IsEnd plan (side_of entry)
     → part_of (end_after plan (history ++ entry ∷ []) side)
     ≡ own_step side (part_of (end_after plan history side)) entry
 part_more plan history side entry sound is made =
@@ -164,7 +164,7 @@ other_path one other apart = elim (cases_Bool (is_same_call one other)) [
 -- an entry of the other end
 by_other : (side : ℕ) (id : CallId) (plan : BridgePlan) (past : List BridgeEntry)
     (entry : BridgeEntry)
-    → id.node ≡ side → maker entry ≢ side → IsBridgeStep plan past entry → IsQuiet side id entry
+    → id.node ≡ side → side_of entry ≢ side → IsBridgeStep plan past entry → IsQuiet side id entry
 by_other side id plan past (Accept by i route request) node apart step =
     record { on_path = refl; sends = refl; ends = refl }
 by_other side id plan past (Forward by old i route request) node apart step =
@@ -190,13 +190,13 @@ by_other side id plan past (Gone by) node apart step =
 
 -- the part behind an entry of its own end
 own_part : (plan : BridgePlan) (history : List BridgeEntry) (entry : BridgeEntry)
-    → IsBridgePlan plan → IsEnd plan (maker entry)
-    → part_of (end_after plan (history ++ entry ∷ []) (maker entry))
-    ≡ part_step (part_of (end_after plan history (maker entry))) entry
+    → IsBridgePlan plan → IsEnd plan (side_of entry)
+    → part_of (end_after plan (history ++ entry ∷ []) (side_of entry))
+    ≡ part_step (part_of (end_after plan history (side_of entry))) entry
 own_part plan history entry sound made =
-    let part = part_of (end_after plan history (maker entry)) in
-    part_more plan history (maker entry) entry sound made made
-    ∙ ap (λ b. cond b (part_step part entry) part) (eq-eqb (maker entry) (maker entry) refl)
+    let part = part_of (end_after plan history (side_of entry)) in
+    part_more plan history (side_of entry) entry sound made made
+    ∙ ap (λ b. cond b (part_step part entry) part) (eq-eqb (side_of entry) (side_of entry) refl)
 
 -- behind a Forward of its own end
 told_forward : (plan : BridgePlan) (history : List BridgeEntry) (side : ℕ) (id old i : CallId)
@@ -309,7 +309,7 @@ told_finish plan history side id i outcome sound own told step =
 told_own : (plan : BridgePlan) (history : List BridgeEntry) (side : ℕ) (id : CallId)
     (entry : BridgeEntry)
     → IsBridgePlan plan → IsOwnCall plan side id → Told plan history side id
-    → IsBridgeStep plan history entry → maker entry ≡ side
+    → IsBridgeStep plan history entry → side_of entry ≡ side
     → Told plan (history ++ entry ∷ []) side id
 told_own plan history side id (Accept by i route request) sound own told step here =
     told_still plan history side id (Accept by i route request) told
@@ -346,14 +346,14 @@ told_more : (plan : BridgePlan) (history : List BridgeEntry) (side : ℕ) (id : 
     → Told plan (history ++ entry ∷ []) side id
 told_more plan history side id entry sound own told step =
     let part = part_of (end_after plan history side) in
-    elim (cases_eq (maker entry) side) [
+    elim (cases_eq (side_of entry) side) [
       | inl here ↦ told_own plan history side id entry sound own told step here
       | inr apart ↦
           told_still plan history side id entry told
           (by_other side id plan history entry own.node apart step)
           (ap (λ (p : Part). p.paths)
           (part_more plan history side entry sound own.end step.side.end
-          ∙ ap (λ b. cond b (part_step part entry) part) (ne_eqb (maker entry) side apart)))
+          ∙ ap (λ b. cond b (part_step part entry) part) (ne_eqb (side_of entry) side apart)))
     ]
 
 told_from : (plan : BridgePlan) (side : ℕ) (id : CallId) (before history : List BridgeEntry)

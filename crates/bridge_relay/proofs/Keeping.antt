@@ -13,8 +13,8 @@ use Rattle.ring_core.specs.Words.{request_along}
 use Rattle.ring_core.specs.Legal.{IsPath}
 use Rattle.bridge_relay.specs.declared.entry.BridgeEntry.{BridgeEntry}
 use Rattle.bridge_relay.specs.declared.entry.BridgeEntry.TheVariants.{Forward}
-use Rattle.bridge_relay.specs.Machine.{EndIs, RelayIs, Waiting, near_end, relay_after, step}
-use Rattle.bridge_relay.specs.Machine.{free_path}
+use Rattle.bridge_relay.specs.Machine.{EndIs, RelayIs, Waiting, near_end, relay_after, relay_step}
+use Rattle.bridge_relay.specs.Machine.{free_relay_path}
 use Rattle.bridge_relay.specs.Legal.{IsEnd, IsBridgeHistory, IsBridgeStep, IsOpenEnd, due_forward}
 use Rattle.bridge_relay.specs.Legal.{forward_by}
 use Rattle.bridge_relay.specs.Bridge.{BridgeIs, BridgeWentOn, IsForwarded, frame_made}
@@ -25,14 +25,15 @@ use Rattle.bridge_relay.proofs.Steps.{after_more}
 
 pub kept_more : (plan : BridgePlan) (old new : RelayIs) (history more : List BridgeEntry)
     (entry : BridgeEntry)
-    → IsBridge plan old history → IsBridgeStep plan history entry → new ≡ step plan old entry
+    → IsBridge plan old history → IsBridgeStep plan history entry → new ≡ relay_step plan old entry
     → more ≡ history ++ entry ∷ []
     → IsBridge plan new more
 kept_more plan old new history more entry kept fits stepped grown = record {
   sound = kept.sound;
   legal = subst (IsBridgeHistory plan) (sym grown)
       (legal_more plan history entry kept.legal fits);
-  state = stepped ∙ ap (λ r. step plan r entry) kept.state ∙ sym (after_more plan history entry)
+  state = stepped ∙ ap (λ r. relay_step plan r entry) kept.state
+      ∙ sym (after_more plan history entry)
       ∙ ap (relay_after plan) (sym grown);
 }
 
@@ -52,12 +53,12 @@ pub forward_due : (v : BridgeIs) (plan : BridgePlan) (relay : RelayIs) (history 
     (side : ℕ) (end : EndIs)
     → record { plan = plan; history = history } ≡ v → relay ≡ relay_after plan history
     → end ≡ near_end plan relay side
-    → forward_by side end (slice_get end.to_send 0) (free_path end)
+    → forward_by side end (slice_get end.to_send 0) (free_relay_path end)
     ≡ due_forward v.plan v.history side
 forward_due v plan relay history side end view state near =
     let here : end ≡ near_end plan (relay_after plan history) side =
     near ∙ ap (λ r. near_end plan r side) state in
-    ap (λ (e : EndIs). forward_by side e (slice_get e.to_send 0) (free_path e)) here
+    ap (λ (e : EndIs). forward_by side e (slice_get e.to_send 0) (free_relay_path e)) here
     ∙ ap (λ (w : BridgeIs). due_forward w.plan w.history side) view
 
 -- what is due is a step
@@ -138,7 +139,7 @@ forward_frame plan history side frame is made =
     let none = due_forward plan history side ≡ None in
     let some = IsForwarded plan history side in
     subst (λ f. MatchOption f none some) (sym made)
-    (match_forward side end (slice_get end.to_send 0) (free_path end) none some (λ e. e)
+    (match_forward side end (slice_get end.to_send 0) (free_relay_path end) none some (λ e. e)
     (λ old id route request due. forwarded plan history side old id route request is due))
 
 pub forward_answer : {E : Type 0} (plan : BridgePlan) (history : List BridgeEntry) (side : ℕ)

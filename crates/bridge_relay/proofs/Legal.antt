@@ -8,11 +8,11 @@ use Rattle.mstr_block.specs.declared.call.CallId.{CallId}
 use Rattle.bridge_relay.specs.declared.entry.BridgeEntry.{BridgeEntry}
 use Rattle.bridge_relay.specs.declared.entry.BridgeEntry.TheVariants.{Accept, Forward, Finish}
 use Rattle.bridge_relay.specs.declared.entry.BridgeEntry.TheVariants.{Back, Gone}
-use Rattle.bridge_relay.specs.Machine.{EndIs, Waiting, near_end, relay_after, free_path}
-use Rattle.bridge_relay.specs.Legal.{IsBridgeHistory, IsBridgeStep, IsOpenEnd, next_call}
+use Rattle.bridge_relay.specs.Machine.{EndIs, Waiting, near_end, relay_after, free_relay_path}
+use Rattle.bridge_relay.specs.Legal.{IsBridgeHistory, IsBridgeStep, IsOpenEnd, forward_id}
 use Rattle.bridge_relay.specs.Legal.{forward_by}
 use Rattle.bridge_relay.specs.Legal.{due_forward}
-use Rattle.bridge_relay.specs.Kept.{HasPath, IsFreePath}
+use Rattle.bridge_relay.specs.Kept.{HasRelayPath, IsFreePath}
 use Rattle.bridge_relay.proofs.Lists.{split_last, nothing_in}
 use Rattle.bridge_relay.proofs.Paths.{known_path, least_free}
 
@@ -36,26 +36,26 @@ pub record IsMadeOf (side : ℕ) (end : EndIs) (waits : Option Waiting) (old id 
   pub first : waits ≡ Some item
   pub path : IsFreePath end id.path
   pub old_is : old ≡ item.id
-  pub id_is : id ≡ next_call side end id.path
+  pub id_is : id ≡ forward_id side end id.path
   pub route_is : route ≡ item.route
   pub request_is : request ≡ item.request
 
 made_of : (side : ℕ) (end : EndIs) (waits : Option Waiting) (path : Option ℕ)
     (old id : CallId) (route request : List ℕ)
-    → free_path end ≡ path
+    → free_relay_path end ≡ path
     → forward_by side end waits path ≡ Some (Forward side old id route request)
     → IsMadeOf side end waits old id route request
 made_of side end None path old id route request free is = absurd cc
 made_of side end (Some item) None old id route request free is = absurd cc
 made_of side end (Some item) (Some path) old id route request free is =
-    let named : next_call side end path ≡ id = cc in
+    let named : forward_id side end path ≡ id = cc in
     let there : path ≡ id.path = ap (λ (i : CallId). i.path) named in
     record {
       item = item;
       first = refl;
       path = subst (IsFreePath end) there (least_free end path free);
       old_is = cc;
-      id_is = sym named ∙ ap (next_call side end) there;
+      id_is = sym named ∙ ap (forward_id side end) there;
       route_is = cc;
       request_is = cc;
     }
@@ -67,11 +67,11 @@ pub forward_made : (plan : BridgePlan) (history : List BridgeEntry) (side : ℕ)
     (slice_get (near_end plan (relay_after plan history) side).to_send 0) old id route request
 forward_made plan history side old id route request is =
     let end = near_end plan (relay_after plan history) side in
-    made_of side end (slice_get end.to_send 0) (free_path end) old id route request refl is
+    made_of side end (slice_get end.to_send 0) (free_relay_path end) old id route request refl is
 
 -- the path of a step is one of the four
 pub step_path : (plan : BridgePlan) (history : List BridgeEntry) (entry : BridgeEntry)
-    → IsBridgeStep plan history entry → HasPath entry
+    → IsBridgeStep plan history entry → HasRelayPath entry
 step_path plan history (Accept side id route request) fits = tt
 step_path plan history (Forward side old id route request) fits =
     (forward_made plan history side old id route request fits.fits).path.is_path
@@ -96,5 +96,5 @@ pub forward_step : (plan : BridgePlan) (history : List BridgeEntry) (side : ℕ)
     → IfSome (due_forward plan history side) (IsBridgeStep plan history)
 forward_step plan history side is =
     let end = near_end plan (relay_after plan history) side in
-    if_forward (IsBridgeStep plan history) side end (slice_get end.to_send 0) (free_path end)
+    if_forward (IsBridgeStep plan history) side end (slice_get end.to_send 0) (free_relay_path end)
     (λ old id route request due. record { side = is; fits = due })

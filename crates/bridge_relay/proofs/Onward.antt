@@ -8,7 +8,8 @@ use Rattle.plant_types.specs.declared.net.BridgePlan.{BridgePlan}
 use Rattle.bridge_relay.specs.declared.entry.BridgeEntry.{BridgeEntry}
 use Rattle.bridge_relay.specs.declared.entry.BridgeEntry.TheVariants.{Accept, Forward, Finish}
 use Rattle.bridge_relay.specs.declared.entry.BridgeEntry.TheVariants.{Back, Gone}
-use Rattle.bridge_relay.specs.Machine.{EndIs, RelayIs, Waiting, new_relay, step, relay_after, maker}
+use Rattle.bridge_relay.specs.Machine.{EndIs, RelayIs, Waiting, new_relay, relay_step, relay_after}
+use Rattle.bridge_relay.specs.Machine.{side_of}
 use Rattle.bridge_relay.specs.Machine.{no_path_code, busy_code, waiting_limit}
 use Rattle.bridge_relay.specs.Kept.{code_between, near_accepted, far_accepted, near_after}
 use Rattle.bridge_relay.specs.Kept.{far_after}
@@ -84,11 +85,11 @@ far_keeps across near far (Back side id reply) all = all
 far_keeps across near far (Gone side) all = all
 
 step_sends : (plan : BridgePlan) (relay : RelayIs) (entry : BridgeEntry) → SendsOn plan relay
-    → SendsOn plan (step plan relay entry)
+    → SendsOn plan (relay_step plan relay entry)
 step_sends plan relay entry sends =
     let left = relay.left in
     let right = relay.right in
-    elim (cases_eq (maker entry) plan.left) [
+    elim (cases_eq (side_of entry) plan.left) [
       | inl is ↦ subst (SendsOn plan) (sym (step_left plan left right entry is)) (record {
         left = near_keeps plan.left plan.right left right entry sends.left;
         right = far_keeps plan.right left right entry sends.right;
@@ -100,10 +101,10 @@ step_sends plan relay entry sends =
     ]
 
 all_send : (plan : BridgePlan) (relay : RelayIs) (history : List BridgeEntry) → SendsOn plan relay
-    → SendsOn plan (fold (step plan) relay history)
+    → SendsOn plan (fold (relay_step plan) relay history)
 all_send plan relay [] sends = sends
 all_send plan relay (entry ∷ history) sends =
-    all_send plan (step plan relay entry) history (step_sends plan relay entry sends)
+    all_send plan (relay_step plan relay entry) history (step_sends plan relay entry sends)
 
 -- after entries each end sends on
 pub sends_on : (plan : BridgePlan) (history : List BridgeEntry)

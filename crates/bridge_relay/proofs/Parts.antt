@@ -10,7 +10,7 @@ use Rattle.bridge_relay.specs.declared.entry.BridgeEntry.{BridgeEntry}
 use Rattle.bridge_relay.specs.declared.entry.BridgeEntry.TheVariants.{Accept, Forward, Finish}
 use Rattle.bridge_relay.specs.declared.entry.BridgeEntry.TheVariants.{Back, Gone}
 use Rattle.bridge_relay.specs.Machine.{EndIs, RelayIs, RelayPath, Waiting, unused_path, new_end}
-use Rattle.bridge_relay.specs.Machine.{new_relay, near_end, step, maker}
+use Rattle.bridge_relay.specs.Machine.{new_relay, near_end, relay_step, side_of}
 use Rattle.bridge_relay.specs.Legal.{IsEnd, IsBridgeHistory, IsBridgeStep}
 use Rattle.bridge_relay.specs.Kept.{code_between, near_accepted, far_accepted, near_after}
 use Rattle.bridge_relay.specs.Kept.{far_after}
@@ -74,48 +74,50 @@ far_part across near far (Gone side) = refl
 
 -- the left end, and the right one, behind an entry
 left_step : (plan : BridgePlan) (relay : RelayIs) (entry : BridgeEntry)
-    → part_of (step plan relay entry).left ≡ own_step plan.left (part_of relay.left) entry
+    → part_of (relay_step plan relay entry).left ≡ own_step plan.left (part_of relay.left) entry
 left_step plan relay entry =
     let left = relay.left in
     let right = relay.right in
     let own = λ (b : Bool). cond b (part_step (part_of left) entry) (part_of left) in
-    elim (cases_eq (maker entry) plan.left) [
+    elim (cases_eq (side_of entry) plan.left) [
       | inl is ↦
           ap (λ (r : RelayIs). part_of r.left) (step_left plan left right entry is)
-          ∙ near_part plan.right left right entry ∙ ap own (sym (eq-eqb (maker entry) plan.left is))
+          ∙ near_part plan.right left right entry
+          ∙ ap own (sym (eq-eqb (side_of entry) plan.left is))
       | inr is ↦
           ap (λ (r : RelayIs). part_of r.left) (step_right plan left right entry is)
-          ∙ far_part plan.left right left entry ∙ ap own (sym (ne_eqb (maker entry) plan.left is))
+          ∙ far_part plan.left right left entry
+          ∙ ap own (sym (ne_eqb (side_of entry) plan.left is))
     ]
 
 right_step : (plan : BridgePlan) (relay : RelayIs) (entry : BridgeEntry) → plan.left ≢ plan.right
-    → IsEnd plan (maker entry)
-    → part_of (step plan relay entry).right ≡ own_step plan.right (part_of relay.right) entry
+    → IsEnd plan (side_of entry)
+    → part_of (relay_step plan relay entry).right ≡ own_step plan.right (part_of relay.right) entry
 right_step plan relay entry two made =
     let left = relay.left in
     let right = relay.right in
     let own = λ (b : Bool). cond b (part_step (part_of right) entry) (part_of right) in
-    elim (cases_eq (maker entry) plan.left) [
+    elim (cases_eq (side_of entry) plan.left) [
       | inl is ↦
-          let apart : maker entry ≢ plan.right = λ e. two (sym is ∙ e) in
+          let apart : side_of entry ≢ plan.right = λ e. two (sym is ∙ e) in
           ap (λ (r : RelayIs). part_of r.right) (step_left plan left right entry is)
           ∙ far_part plan.right left right entry
-          ∙ ap own (sym (ne_eqb (maker entry) plan.right apart))
+          ∙ ap own (sym (ne_eqb (side_of entry) plan.right apart))
       | inr is ↦
-          let here : maker entry ≡ plan.right =
+          let here : side_of entry ≡ plan.right =
           elim made [ inl e ↦ absurd (is e) | inr e ↦ e ] in
           ap (λ (r : RelayIs). part_of r.right) (step_right plan left right entry is)
           ∙ near_part plan.left right left entry
-          ∙ ap own (sym (eq-eqb (maker entry) plan.right here))
+          ∙ ap own (sym (eq-eqb (side_of entry) plan.right here))
     ]
 
 -- an end of a bridge behind an entry
 pub side_step : (plan : BridgePlan) (relay : RelayIs) (side : ℕ) (entry : BridgeEntry)
-    → IsBridgePlan plan → IsEnd plan side → IsEnd plan (maker entry)
-    → part_of (near_end plan (step plan relay entry) side)
+    → IsBridgePlan plan → IsEnd plan side → IsEnd plan (side_of entry)
+    → part_of (near_end plan (relay_step plan relay entry) side)
     ≡ own_step side (part_of (near_end plan relay side)) entry
 side_step plan relay side entry sound is made =
-    let after = step plan relay entry in
+    let after = relay_step plan relay entry in
     elim (cases_eq side plan.left) [
       | inl e ↦
           let by : (side == plan.left) ≡ true = eq-eqb side plan.left e in
@@ -132,15 +134,15 @@ side_step plan relay side entry sound is made =
     ]
 
 abbrev AreByEnds : BridgePlan → List BridgeEntry → Type 0
-AreByEnds plan history = AllByRecursion (λ entry. IsEnd plan (maker entry)) history
+AreByEnds plan history = AllByRecursion (λ entry. IsEnd plan (side_of entry)) history
 
 side_steps : (plan : BridgePlan) (relay : RelayIs) (side : ℕ) (history : List BridgeEntry)
     → IsBridgePlan plan → IsEnd plan side → AreByEnds plan history
-    → part_of (near_end plan (fold (step plan) relay history) side)
+    → part_of (near_end plan (fold (relay_step plan) relay history) side)
     ≡ fold (own_step side) (part_of (near_end plan relay side)) history
 side_steps plan relay side [] sound is made = refl
 side_steps plan relay side (entry ∷ history) sound is made =
-    side_steps plan (step plan relay entry) side history sound is made.1
+    side_steps plan (relay_step plan relay entry) side history sound is made.1
     ∙ ap (λ p. fold (own_step side) p history) (side_step plan relay side entry sound is made.0)
 
 -- an end at first
@@ -197,9 +199,9 @@ all_steps plan P each before (entry ∷ history) legal = (
 
 pub own_tell : OwnEntriesTellTheEnd
 own_tell plan history side sound legal is =
-    let made : AreByEnds plan history = all_steps plan (λ e. IsEnd plan (maker e))
+    let made : AreByEnds plan history = all_steps plan (λ e. IsEnd plan (side_of e))
     (λ past entry step. step.side.end) [] history legal in
-    let kept = all_filter (λ e. IsEnd plan (maker e)) (is_by side) history made in
+    let kept = all_filter (λ e. IsEnd plan (side_of e)) (is_by side) history made in
     let both = part_told plan side history sound is made
     ∙ sym (own_alone side (part_of new_end) history)
     ∙ sym (part_told plan side (filter (is_by side) history) sound is kept) in

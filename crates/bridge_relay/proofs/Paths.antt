@@ -4,7 +4,7 @@ use Rattle.std.proofs.lemmas.Bool.{cases_eq}
 use Rattle.std.specs.List.{AllByRecursion}
 use Rattle.mstr_block.specs.Table.{network_paths}
 use Rattle.ring_core.specs.Legal.{IsPath}
-use Rattle.bridge_relay.specs.Machine.{EndIs, free_path, is_free}
+use Rattle.bridge_relay.specs.Machine.{EndIs, free_relay_path, is_free_relay_path}
 use Rattle.bridge_relay.specs.Legal.{is_network_path}
 use Rattle.bridge_relay.specs.Kept.{IsFreePath}
 use Rattle.bridge_relay.proofs.Lists.{found}
@@ -45,7 +45,7 @@ pub known_path : (p : ℕ) → is_network_path p ≡ true → IsPath p
 known_path p is = grind (arith)
 
 -- what is the least free path is free
-pub least_free : (end : EndIs) (path : ℕ) → free_path end ≡ Some path → IsFreePath end path
+pub least_free : (end : EndIs) (path : ℕ) → free_relay_path end ≡ Some path → IsFreePath end path
 least_free end path is =
-    let both = found IsPath (is_free end) network_paths path paths_are is in
+    let both = found IsPath (is_free_relay_path end) network_paths path paths_are is in
     record { is_path = both.1; free = both.0 }

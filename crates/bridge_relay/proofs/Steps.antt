@@ -8,7 +8,8 @@ use Rattle.bridge_relay.specs.declared.entry.BridgeEntry.{BridgeEntry}
 use Rattle.bridge_relay.specs.declared.entry.BridgeEntry.TheVariants.{Accept, Forward, Finish}
 use Rattle.bridge_relay.specs.declared.entry.BridgeEntry.TheVariants.{Back, Gone}
 use Rattle.bridge_relay.specs.Machine.{EndIs, RelayIs, Waiting, near_end, far_end, far_side}
-use Rattle.bridge_relay.specs.Machine.{with_ends, code_at_once, accepted, step, maker, relay_after}
+use Rattle.bridge_relay.specs.Machine.{with_ends, code_at_once, accepted, relay_step, side_of}
+use Rattle.bridge_relay.specs.Machine.{relay_after}
 use Rattle.bridge_relay.specs.Machine.{new_relay}
 use Rattle.bridge_relay.specs.Kept.{code_between, near_accepted, far_accepted, near_after}
 use Rattle.bridge_relay.specs.Kept.{far_after}
@@ -43,8 +44,8 @@ both_by plan left right entry by_left =
     })
 
 step_is : (plan : BridgePlan) (left right : EndIs) (entry : BridgeEntry)
-    → step plan (record { left = left; right = right }) entry
-    ≡ both_by plan left right entry (maker entry == plan.left)
+    → relay_step plan (record { left = left; right = right }) entry
+    ≡ both_by plan left right entry (side_of entry == plan.left)
 step_is plan left right (Accept side id route request) =
     let relay : RelayIs = record { left = left; right = right } in
     let item : Waiting = record { id = id; route = route; request = request } in
@@ -58,28 +59,28 @@ step_is plan left right (Gone side) = refl
 
 -- an entry of the left end, and of the right one
 pub step_left : (plan : BridgePlan) (left right : EndIs) (entry : BridgeEntry)
-    → maker entry ≡ plan.left
-    → step plan (record { left = left; right = right }) entry
+    → side_of entry ≡ plan.left
+    → relay_step plan (record { left = left; right = right }) entry
     ≡ record {
       left = near_after plan.right left right entry;
       right = far_after plan.right left right entry;
     }
 step_left plan left right entry is =
     step_is plan left right entry
-    ∙ ap (both_by plan left right entry) (eq-eqb (maker entry) plan.left is)
+    ∙ ap (both_by plan left right entry) (eq-eqb (side_of entry) plan.left is)
 
 pub step_right : (plan : BridgePlan) (left right : EndIs) (entry : BridgeEntry)
-    → maker entry ≢ plan.left
-    → step plan (record { left = left; right = right }) entry
+    → side_of entry ≢ plan.left
+    → relay_step plan (record { left = left; right = right }) entry
     ≡ record {
       left = far_after plan.left right left entry;
       right = near_after plan.left right left entry;
     }
 step_right plan left right entry is =
     step_is plan left right entry
-    ∙ ap (both_by plan left right entry) (ne_eqb (maker entry) plan.left is)
+    ∙ ap (both_by plan left right entry) (ne_eqb (side_of entry) plan.left is)
 
 -- both ends after one entry more
 pub after_more : (plan : BridgePlan) (history : List BridgeEntry) (entry : BridgeEntry)
-    → relay_after plan (history ++ entry ∷ []) ≡ step plan (relay_after plan history) entry
-after_more plan history entry = fold_push (step plan) new_relay history entry
+    → relay_after plan (history ++ entry ∷ []) ≡ relay_step plan (relay_after plan history) entry
+after_more plan history entry = fold_push (relay_step plan) new_relay history entry

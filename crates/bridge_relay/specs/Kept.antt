@@ -9,23 +9,23 @@ use Rattle.bridge_relay.specs.declared.entry.BridgeEntry.{BridgeEntry}
 use Rattle.bridge_relay.specs.declared.entry.BridgeEntry.TheVariants.{Accept, Forward, Finish}
 use Rattle.bridge_relay.specs.declared.entry.BridgeEntry.TheVariants.{Back, Gone}
 use Rattle.bridge_relay.specs.Machine.{EndIs, RelayIs, Waiting, Returned, waiting_limit}
-use Rattle.bridge_relay.specs.Machine.{no_path_code, busy_code, exception_to, waits_for, gives}
+use Rattle.bridge_relay.specs.Machine.{no_path_code, busy_code, exception_to, queues, gives}
 use Rattle.bridge_relay.specs.Machine.{sent_on, freed, returned, relay_path, given_back, unsent}
-use Rattle.bridge_relay.specs.Machine.{left_for_good, relay_after, is_free}
+use Rattle.bridge_relay.specs.Machine.{left_for_good, relay_after, is_free_relay_path}
 use Rattle.bridge_relay.specs.Legal.{IsBridgeHistory}
 
 -- The path of a call that an entry makes or ends is one of the four.
-abbrev pub HasPath : BridgeEntry → Type 0
-HasPath (Accept side id route request) = Unit {0}
-HasPath (Forward side old id route request) = IsPath id.path
-HasPath (Finish side id result) = IsPath id.path
-HasPath (Back side id reply) = Unit {0}
-HasPath (Gone side) = Unit {0}
+abbrev pub HasRelayPath : BridgeEntry → Type 0
+HasRelayPath (Accept side id route request) = Unit {0}
+HasRelayPath (Forward side old id route request) = IsPath id.path
+HasRelayPath (Finish side id result) = IsPath id.path
+HasRelayPath (Back side id reply) = Unit {0}
+HasRelayPath (Gone side) = Unit {0}
 
 -- A path, one of the four, that is free.
 pub record IsFreePath (end : EndIs) (path : ℕ) : Type 0 where
   pub is_path : IsPath path
-  pub free : is_free end path ≡ true
+  pub free : is_free_relay_path end path ≡ true
 
 -- The Back of a reply that waits.
 abbrev pub returned_by : ℕ → Returned → BridgeEntry
@@ -46,7 +46,7 @@ near_accepted near item (Some code) =
     gives near (record { id = item.id; reply = exception_to item.request code } ∷ [])
 
 abbrev pub far_accepted : EndIs → Waiting → Option ℕ → EndIs
-far_accepted far item None = waits_for far item
+far_accepted far item None = queues far item
 far_accepted far item (Some code) = far
 
 -- What an entry makes of the end that makes it, given the address across and both ends.

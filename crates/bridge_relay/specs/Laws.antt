@@ -11,8 +11,8 @@ use Rattle.bridge_relay.specs.declared.entry.BridgeEntry.{BridgeEntry}
 use Rattle.bridge_relay.specs.declared.entry.BridgeEntry.TheVariants.{Accept, Forward, Finish}
 use Rattle.bridge_relay.specs.declared.entry.BridgeEntry.TheVariants.{Back, Gone}
 use Rattle.bridge_relay.specs.declared.entry.RelayResult.{RelayResult}
-use Rattle.bridge_relay.specs.Machine.{EndIs, near_end, relay_after, relay_path, maker}
-use Rattle.bridge_relay.specs.Legal.{IsEnd, IsBridgeHistory, is_out}
+use Rattle.bridge_relay.specs.Machine.{EndIs, near_end, relay_after, relay_path, side_of}
+use Rattle.bridge_relay.specs.Legal.{IsEnd, IsBridgeHistory, is_call_out}
 
 -- The end of an address after entries.
 abbrev pub end_after : BridgePlan → List BridgeEntry → ℕ → EndIs
@@ -20,7 +20,7 @@ end_after plan history side = near_end plan (relay_after plan history) side
 
 -- An entry is one of this side.
 abbrev pub is_by : ℕ → BridgeEntry → Bool
-is_by side entry = maker entry == side
+is_by side entry = side_of entry == side
 
 -- The paths of an end, and whether it has left, are told by its own entries alone.
 pub record OwnEntriesTell (plan : BridgePlan) (history : List BridgeEntry) (side : ℕ)
@@ -67,7 +67,7 @@ NumbersCount = (plan : BridgePlan) (history : List BridgeEntry) (side path : ℕ
     ≡ count_by (sends_on_path side path) history
 
 -- A call that goes out is named by its side, one of the four paths, and the next number there.
-pub record IsNewCall (before : List BridgeEntry) (side : ℕ) (id : CallId) : Type 0 where
+pub record IsNewForward (before : List BridgeEntry) (side : ℕ) (id : CallId) : Type 0 where
   pub node : id.node ≡ side
   pub path : IsPath id.path
   pub number : id.seq ≡ count_by (sends_on_path side id.path) before + 1
@@ -78,7 +78,7 @@ ForwardsMakeNewCalls =
     (route request : List ℕ)
     → IsBridgePlan plan → IsBridgeHistory plan history
     → history ≡ before ++ Forward side old id route request ∷ after
-    → IsNewCall before side id
+    → IsNewForward before side id
 
 -- No call goes out twice, and none ends twice.
 pub record IsCalledOnce (history : List BridgeEntry) (id : CallId) : Type 0 where
@@ -100,7 +100,7 @@ pub record IsUnderWay (history : List BridgeEntry) (side : ℕ) (id : CallId) : 
 abbrev pub CallsOutAreUnderWay : Type 0
 CallsOutAreUnderWay = (plan : BridgePlan) (history : List BridgeEntry) (side : ℕ) (id : CallId)
     → IsBridgePlan plan → IsBridgeHistory plan history → IsEnd plan side
-    → is_out plan history side id ≡ true → IsUnderWay history side id
+    → is_call_out plan history side id ≡ true → IsUnderWay history side id
 
 -- A call ends behind its one Forward, and has not ended before.
 abbrev pub FinishesEndCalls : Type 0

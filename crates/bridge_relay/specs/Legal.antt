@@ -8,8 +8,8 @@ use Rattle.mstr_block.specs.declared.call.CallId.{CallId}
 use Rattle.bridge_relay.specs.declared.entry.BridgeEntry.{BridgeEntry}
 use Rattle.bridge_relay.specs.declared.entry.BridgeEntry.TheVariants.{Accept, Forward, Finish}
 use Rattle.bridge_relay.specs.declared.entry.BridgeEntry.TheVariants.{Back, Gone}
-use Rattle.bridge_relay.specs.Machine.{EndIs, Waiting, Returned, near_end, free_path}
-use Rattle.bridge_relay.specs.Machine.{relay_path, is_out_on, none_out, relay_after, maker}
+use Rattle.bridge_relay.specs.Machine.{EndIs, Waiting, Returned, near_end, free_relay_path}
+use Rattle.bridge_relay.specs.Machine.{relay_path, is_out_on, none_out, relay_after, side_of}
 
 -- One of the two addresses of a bridge.
 abbrev pub IsEnd : BridgePlan → ℕ → Type 0
@@ -25,26 +25,26 @@ abbrev pub is_network_path : ℕ → Bool
 is_network_path path = list_any (λ known. known == path) network_paths
 
 -- The call of this name is out at an end.
-abbrev pub is_out : BridgePlan → List BridgeEntry → ℕ → CallId → Bool
-is_out plan history side id = ((id.node == side) && is_network_path id.path)
+abbrev pub is_call_out : BridgePlan → List BridgeEntry → ℕ → CallId → Bool
+is_call_out plan history side id = ((id.node == side) && is_network_path id.path)
     && is_out_on (relay_path (near_end plan (relay_after plan history) side) id.path) id
 
 -- The name of the next call on a path of an end.
-abbrev pub next_call : ℕ → EndIs → ℕ → CallId
-next_call side end path =
+abbrev pub forward_id : ℕ → EndIs → ℕ → CallId
+forward_id side end path =
     record { node = side; path = path; seq = (relay_path end path).last + 1 }
 
 -- The Forward that is due at an end: of the first request that waits, on the least free path; none
 -- where nothing waits or no path is free.
 abbrev pub forward_by : ℕ → EndIs → Option Waiting → Option ℕ → Option BridgeEntry
 forward_by side end (Some item) (Some path) =
-    Some (Forward side item.id (next_call side end path) item.route item.request)
+    Some (Forward side item.id (forward_id side end path) item.route item.request)
 forward_by side end _ _ = None
 
 abbrev pub due_forward : BridgePlan → List BridgeEntry → ℕ → Option BridgeEntry
 due_forward plan history side =
     let end = near_end plan (relay_after plan history) side in
-    forward_by side end (slice_get end.to_send 0) (free_path end)
+    forward_by side end (slice_get end.to_send 0) (free_relay_path end)
 
 -- The Back that is due at an end: of the first reply that waits; none where none does.
 abbrev pub due_back : BridgePlan → List BridgeEntry → ℕ → Option BridgeEntry
@@ -57,14 +57,14 @@ abbrev pub FitsBridge : BridgePlan → List BridgeEntry → BridgeEntry → Type
 FitsBridge plan past (Accept side id route request) = Unit {0}
 FitsBridge plan past (Forward side old id route request) =
     due_forward plan past side ≡ Some (Forward side old id route request)
-FitsBridge plan past (Finish side id result) = is_out plan past side id ≡ true
+FitsBridge plan past (Finish side id result) = is_call_out plan past side id ≡ true
 FitsBridge plan past (Back side id reply) = due_back plan past side ≡ Some (Back side id reply)
 FitsBridge plan past (Gone side) = none_out (near_end plan (relay_after plan past) side) ≡ true
 
 -- An entry is a step after a history: it is one of an end that has not left, and fits.
 pub record IsBridgeStep (plan : BridgePlan) (past : List BridgeEntry) (entry : BridgeEntry)
     : Type 0 where
-  pub side : IsOpenEnd plan past (maker entry)
+  pub side : IsOpenEnd plan past (side_of entry)
   pub fits : FitsBridge plan past entry
 
 -- A legal history: each entry is a step after those before it.

@@ -96,13 +96,13 @@ abbrev pub is_out_on : RelayPath → CallId → Bool
 is_out_on path id = is_some path.out && (path.last == id.seq)
 
 -- A path of an end is free: no call is out on it, and it can give a number.
-abbrev pub is_free : EndIs → ℕ → Bool
-is_free end path =
+abbrev pub is_free_relay_path : EndIs → ℕ → Bool
+is_free_relay_path end path =
     not (is_some (relay_path end path).out) && nat_lt (relay_path end path).last last_call_number
 
 -- The least free path.
-abbrev pub free_path : EndIs → Option ℕ
-free_path end = find (is_free end) network_paths
+abbrev pub free_relay_path : EndIs → Option ℕ
+free_relay_path end = find (is_free_relay_path end) network_paths
 
 -- No call of an end is out.
 abbrev pub none_out : EndIs → Bool
@@ -148,8 +148,8 @@ reply_for request (Bad word) = exception_to request (code_of_word word)
 -- ---- What each entry makes of the ends.
 
 -- An end with one more request to send, or replies to give back.
-abbrev pub waits_for : EndIs → Waiting → EndIs
-waits_for end item = record end { to_send = end.to_send ++ item ∷ [] }
+abbrev pub queues : EndIs → Waiting → EndIs
+queues end item = record end { to_send = end.to_send ++ item ∷ [] }
 
 abbrev pub gives : EndIs → List Returned → EndIs
 gives end more = record end { to_give = end.to_give ++ more }
@@ -157,7 +157,7 @@ gives end more = record end { to_give = end.to_give ++ more }
 -- Accept: the request waits at the other end, or its reply waits at this one.
 abbrev pub accepted : BridgePlan → RelayIs → ℕ → Waiting → Option ℕ → RelayIs
 accepted plan relay side item None =
-    with_ends plan side (near_end plan relay side) (waits_for (far_end plan relay side) item)
+    with_ends plan side (near_end plan relay side) (queues (far_end plan relay side) item)
 accepted plan relay side item (Some code) =
     let refused : Returned = record { id = item.id; reply = exception_to item.request code } in
     with_ends plan side (gives (near_end plan relay side) (refused ∷ [])) (far_end plan relay side)
@@ -177,8 +177,8 @@ returned None result = []
 returned (Some call) result =
     record { id = call.old; reply = reply_for call.request result } ∷ []
 
-abbrev pub finished : BridgePlan → RelayIs → ℕ → CallId → RelayResult → RelayIs
-finished plan relay side id result =
+abbrev pub relay_finished : BridgePlan → RelayIs → ℕ → CallId → RelayResult → RelayIs
+relay_finished plan relay side id result =
     let near = near_end plan relay side in
     with_ends plan side (freed near id.path)
     (gives (far_end plan relay side) (returned (relay_path near id.path).out result))
@@ -195,29 +195,29 @@ abbrev pub left_for_good : EndIs → EndIs
 left_for_good end = record end { to_send = []; gone = true }
 
 -- The side that makes an entry.
-abbrev pub maker : BridgeEntry → ℕ
-maker (Accept side id route request) = side
-maker (Forward side old id route request) = side
-maker (Finish side id result) = side
-maker (Back side id reply) = side
-maker (Gone side) = side
+abbrev pub side_of : BridgeEntry → ℕ
+side_of (Accept side id route request) = side
+side_of (Forward side old id route request) = side
+side_of (Finish side id result) = side
+side_of (Back side id reply) = side
+side_of (Gone side) = side
 
 -- What an entry makes of both ends.
-abbrev pub step : BridgePlan → RelayIs → BridgeEntry → RelayIs
-step plan relay (Accept side id route request) =
+abbrev pub relay_step : BridgePlan → RelayIs → BridgeEntry → RelayIs
+relay_step plan relay (Accept side id route request) =
     accepted plan relay side (record { id = id; route = route; request = request })
     (code_at_once plan relay side route)
-step plan relay (Forward side old id route request) =
+relay_step plan relay (Forward side old id route request) =
     with_ends plan side
     (sent_on (near_end plan relay side) id (record { old = old; request = request }))
     (far_end plan relay side)
-step plan relay (Finish side id result) = finished plan relay side id result
-step plan relay (Back side id reply) =
+relay_step plan relay (Finish side id result) = relay_finished plan relay side id result
+relay_step plan relay (Back side id reply) =
     with_ends plan side (given_back (near_end plan relay side)) (far_end plan relay side)
-step plan relay (Gone side) =
+relay_step plan relay (Gone side) =
     with_ends plan side (left_for_good (near_end plan relay side))
     (gives (far_end plan relay side) (map unsent (near_end plan relay side).to_send))
 
 -- Both ends after entries.
 abbrev pub relay_after : BridgePlan → List BridgeEntry → RelayIs
-relay_after plan history = fold (step plan) new_relay history
+relay_after plan history = fold (relay_step plan) new_relay history

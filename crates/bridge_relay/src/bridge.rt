@@ -4,7 +4,7 @@ ghost use Rattle.std.specs.Prelude.{OnOk, OnErr, MatchOption, vec_len, vec_capac
 ghost use Rattle.std.specs.Option.{option_and_then};
 ghost use Rattle.plant_types.specs.Plans.{IsBridgePlan};
 ghost use Rattle.bridge_relay.specs.Machine.{near_end, relay_after, is_idle_end, none_out};
-ghost use Rattle.bridge_relay.specs.Legal.{IsEnd, IsOpenEnd, is_out, due_forward, due_back};
+ghost use Rattle.bridge_relay.specs.Legal.{IsEnd, IsOpenEnd, is_call_out, due_forward, due_back};
 ghost use Rattle.bridge_relay.specs.Legal.{IsBridgeStep, IsBridgeHistory};
 ghost use Rattle.bridge_relay.specs.Bridge.{frame_made, entry_made, entry_due, BridgeWentOn};
 ghost use Rattle.bridge_relay.specs.Bridge.{IsForwarded, IsGivenBack};
@@ -67,6 +67,7 @@ impl Bridge {
         })
     }
 
+    /// What it takes memory from.
     pub(crate) fn alloc(&self) -> Global {
         self.alloc
     }
@@ -111,7 +112,7 @@ impl Bridge {
     /// Whether the call of this name is out at an end.
     pub fn is_out(&self, side: u8, id: CallId) -> bool
         requires { IsEnd self.now.plan side }
-        ensures { result ≡ is_out self.now.plan self.now.history side id }
+        ensures { result ≡ is_call_out self.now.plan self.now.history side id }
     {
         if id.node != side || !is_path(id.path) {
             return false;
@@ -225,7 +226,7 @@ impl Bridge {
     /// The call of this name came to this: its path is free, and its reply waits at the end across.
     pub fn finish(&mut self, side: u8, id: CallId, outcome: RelayResult) -> Result<(), AllocError>
         requires open { IsOpenEnd self.old.plan self.old.history side }
-        requires out { is_out self.old.plan self.old.history side id ≡ true }
+        requires out { is_call_out self.old.plan self.old.history side id ≡ true }
         ensures err { OnErr result (self.new ≡ self.old) }
         ensures went_on { BridgeWentOn
             (entry_made (BridgeEntry.Finish side id outcome) result) self.old self.new }

@@ -2,21 +2,19 @@
 ghost use Rattle.std.specs.Prelude.{◌≡◌, ◌↔◌, ◌∷◌, [], true, Some, is_some, IfOk, IfSome, OnOk};
 ghost use Rattle.std.specs.Prelude.{OnErr, slice_get, option_copied, option_map, length};
 ghost use Rattle.ring_core.specs.Legal.{IsPath};
-ghost use Rattle.bridge_relay.specs.Machine.{new_end, unused_path, relay_path, is_free, free_path};
-ghost use Rattle.bridge_relay.specs.Machine.{is_out_on, none_out, is_idle_end, waits_for, gives};
+ghost use Rattle.bridge_relay.specs.Machine.{new_end, unused_path, relay_path, is_out_on, none_out};
+ghost use Rattle.bridge_relay.specs.Machine.{is_free_relay_path, free_relay_path, is_idle_end};
+ghost use Rattle.bridge_relay.specs.Machine.{queues, gives};
 ghost use Rattle.bridge_relay.specs.Machine.{sent_on, freed, given_back, left_for_good};
-ghost use Rattle.bridge_relay.specs.Legal.{next_call, forward_by};
+ghost use Rattle.bridge_relay.specs.Legal.{forward_id, forward_by};
 ghost use Rattle.bridge_relay.specs.Kept.{IsFreePath, returned_by};
 
 use crate::entry::BridgeEntry;
 use mstr_block::CallId;
-use plant_types::{Copied, NETWORK_PATHS, PATH_PLACES, Pdu, Route};
+use plant_types::{Copied, NETWORK_PATH_COUNT, NETWORK_PATHS, Pdu, Route};
 use std::alloc::{AllocError, Global};
 use std::collections::VecDeque;
 use std::marker::Model;
-
-/// How many paths by the network an end has.
-const PATHS: usize = PATH_PLACES - 1;
 
 /// A request that an end has to send, under the name with which it came, and the way that is left.
 #[derive(Drop)]
@@ -52,7 +50,7 @@ pub(crate) struct RelayPath {
 pub(crate) struct End {
     to_send: VecDeque<Waiting>,
     to_give: VecDeque<Returned>,
-    paths: [RelayPath; PATHS],
+    paths: [RelayPath; NETWORK_PATH_COUNT],
     gone: bool,
 }
 
@@ -77,6 +75,7 @@ fn unused_path() -> RelayPath
 }
 
 impl RelayPath {
+    /// A call is out on it.
     fn is_taken(&self) -> bool
         ensures { result ≡ is_some self.now.out }
     {
@@ -85,6 +84,7 @@ impl RelayPath {
 }
 
 impl Waiting {
+    /// This request, with memory of its own.
     pub fn of(alloc: Global, id: CallId, route: Route, request: &Pdu) -> Result<Waiting, AllocError>
         ensures { IfOk result
             (λ item. item ≡ record { id = id; route = route; request = request.now }) }
@@ -93,6 +93,7 @@ impl Waiting {
         Ok(Waiting { id, route, request })
     }
 
+    /// Whether it is this request, under this name and by this route.
     fn is(&self, id: CallId, route: Route, request: &Pdu) -> bool
         ensures { (result ≡ true)
             ↔ (self.now ≡ record { id = id; route = route; request = request.now }) }
@@ -104,6 +105,7 @@ impl Waiting {
 }
 
 impl OutCall {
+    /// The call that sends this request on, with memory of its own.
     pub fn of(alloc: Global, old: CallId, request: &Pdu) -> Result<OutCall, AllocError>
         ensures { IfOk result (λ call. call ≡ record { old = old; request = request.now }) }
     {
@@ -113,6 +115,7 @@ impl OutCall {
 }
 
 impl Returned {
+    /// Whether it is this reply, under this name.
     fn is(&self, id: CallId, reply: &Pdu) -> bool
         ensures { (result ≡ true) ↔ (self.now ≡ record { id = id; reply = reply.now }) }
     {
@@ -133,6 +136,7 @@ impl End {
         }
     }
 
+    /// It has left for good.
     pub fn is_gone(&self) -> bool
         ensures { result ≡ self.now.gone }
     {
@@ -168,6 +172,7 @@ impl End {
         self.paths[usize::from(path) - 1].last
     }
 
+    /// A call is out on a path.
     fn is_taken(&self, path: u8) -> bool
         requires { IsPath path }
         ensures { result ≡ is_some (relay_path self.now path).out }
@@ -186,14 +191,14 @@ impl End {
     /// No call is out on a path, and it can give a number.
     fn is_free(&self, path: u8) -> bool
         requires { IsPath path }
-        ensures { result ≡ is_free self.now path }
+        ensures { result ≡ is_free_relay_path self.now path }
     {
         !self.is_taken(path) && self.last(path) < u32::MAX
     }
 
     /// The least free path.
     fn free_path(&self) -> Option<u8>
-        ensures free { result ≡ free_path self.now }
+        ensures free { result ≡ free_relay_path self.now }
         ensures path { IfSome result (IsFreePath self.now) }
     {
         for path in NETWORK_PATHS {
@@ -205,9 +210,9 @@ impl End {
     }
 
     /// The name of the next call on a free path.
-    fn next_call(&self, side: u8, path: u8) -> CallId
+    fn forward_id(&self, side: u8, path: u8) -> CallId
         requires { IsFreePath self.now path }
-        ensures { result ≡ next_call side self.now path }
+        ensures { result ≡ forward_id side self.now path }
     {
         CallId {
             node: side,
@@ -218,8 +223,8 @@ impl End {
 
     /// The Forward that is due, the end having this address.
     pub fn due_forward(&self, alloc: Global, side: u8) -> Result<Option<BridgeEntry>, AllocError>
-        ensures { IfOk result (λ due.
-            due ≡ forward_by side self.now (slice_get self.now.to_send 0) (free_path self.now)) }
+        ensures { IfOk result (λ due. due ≡ forward_by side self.now
+            (slice_get self.now.to_send 0) (free_relay_path self.now)) }
     {
         let (Some(item), Some(path)) = (self.to_send.front(), self.free_path()) else {
             return Ok(None);
@@ -227,7 +232,7 @@ impl End {
         Ok(Some(BridgeEntry::Forward {
             side,
             old: item.id,
-            id: self.next_call(side, path),
+            id: self.forward_id(side, path),
             route: item.route,
             request: item.request.copied(alloc)?,
         }))
@@ -258,12 +263,12 @@ impl End {
         request: &Pdu,
     ) -> bool
         ensures { (result ≡ true) ↔ (forward_by side self.now (slice_get self.now.to_send 0)
-            (free_path self.now) ≡ Some (BridgeEntry.Forward side old id route request.now)) }
+            (free_relay_path self.now) ≡ Some (BridgeEntry.Forward side old id route request.now)) }
     {
         let (Some(item), Some(path)) = (self.to_send.front(), self.free_path()) else {
             return false;
         };
-        item.is(old, route, request) && self.next_call(side, path) == id
+        item.is(old, route, request) && self.forward_id(side, path) == id
     }
 
     /// Whether a Back is due, whatever the address of the end.
@@ -279,7 +284,7 @@ impl End {
 
     /// One more request to send.
     pub fn wait_for(&mut self, item: Waiting) -> Result<(), AllocError>
-        ensures ok { OnOk result (self.new ≡ waits_for self.old item) }
+        ensures ok { OnOk result (self.new ≡ queues self.old item) }
         ensures err { OnErr result (self.new ≡ self.old) }
     {
         self.to_send.push_back(item)?;

@@ -1,6 +1,6 @@
 //! The entries of a bridge's history. This project's own.
 ghost use Rattle.std.specs.Prelude.{◌≡◌, IfOk};
-ghost use Rattle.bridge_relay.specs.Machine.{maker};
+ghost use Rattle.bridge_relay.specs.Machine.{side_of};
 ghost use Rattle.bridge_relay.specs.Bridge.{frame_made};
 
 use mstr_block::CallId;
@@ -55,7 +55,7 @@ pub enum BridgeEntry {
 impl BridgeEntry {
     /// The side that makes it.
     pub fn side(&self) -> u8
-        ensures { result ≡ maker self.now }
+        ensures { result ≡ side_of self.now }
     {
         match self {
             BridgeEntry::Accept { side, .. } => *side,

@@ -1,6 +1,6 @@
 //! Following a history entry by entry.
 ghost use Rattle.std.specs.Prelude.{◌≡◌, ◌↔◌, true, IfOk, OnErr};
-ghost use Rattle.bridge_relay.specs.Machine.{maker};
+ghost use Rattle.bridge_relay.specs.Machine.{side_of};
 ghost use Rattle.bridge_relay.specs.Legal.{FitsBridge, IsEnd, IsBridgeStep};
 ghost use Rattle.bridge_relay.specs.Following.{bridge_followed, BridgeMayFollow};
 
@@ -12,7 +12,7 @@ use std::alloc::AllocError;
 impl Bridge {
     /// Whether an entry of one of the two ends fits those before it.
     fn fits(&self, entry: &BridgeEntry) -> bool
-        requires { IsEnd self.now.plan (maker entry.now) }
+        requires { IsEnd self.now.plan (side_of entry.now) }
         ensures { (result ≡ true) ↔ FitsBridge self.now.plan self.now.history entry.now }
     {
         match entry {

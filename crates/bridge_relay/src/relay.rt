@@ -1,11 +1,11 @@
 //! Both ends of a bridge, and what each entry makes of them.
-ghost use Rattle.std.specs.Prelude.{◌≡◌, ◌∷◌, [], map, IfOk, OnOk, OnErr, option_copied};
+ghost use Rattle.std.specs.Prelude.{◌≡◌, map, IfOk, OnOk, OnErr, option_copied};
 ghost use Rattle.std.specs.Prelude.{option_to_list};
 ghost use Rattle.ring_core.specs.Legal.{IsPath};
-ghost use Rattle.bridge_relay.specs.Machine.{new_relay, near_end, step};
+ghost use Rattle.bridge_relay.specs.Machine.{new_relay, near_end, relay_step};
 ghost use Rattle.bridge_relay.specs.Machine.{exception_to, code_of_word, reply_for, returned};
 ghost use Rattle.bridge_relay.specs.Machine.{relay_path, freed, gives, left_for_good, unsent};
-ghost use Rattle.bridge_relay.specs.Kept.{HasPath, code_between, near_accepted, far_accepted};
+ghost use Rattle.bridge_relay.specs.Kept.{HasRelayPath, code_between, near_accepted, far_accepted};
 ghost use Rattle.bridge_relay.specs.Kept.{near_after, far_after};
 
 use crate::end::{End, OutCall, Returned, Waiting};
@@ -188,7 +188,7 @@ fn take_step(
     far: &mut End,
     entry: &BridgeEntry,
 ) -> Result<(), AllocError>
-    requires { HasPath entry.now }
+    requires { HasRelayPath entry.now }
     ensures near { OnOk result (near.new ≡ near_after across near.old far.old entry.now) }
     ensures far { OnOk result (far.new ≡ far_after across near.old far.old entry.now) }
     ensures near_err { OnErr result (near.new ≡ near.old) }
@@ -251,8 +251,8 @@ impl Relay {
         plan: &BridgePlan,
         entry: &BridgeEntry,
     ) -> Result<(), AllocError>
-        requires { HasPath entry.now }
-        ensures ok { OnOk result (self.new ≡ step plan.now self.old entry.now) }
+        requires { HasRelayPath entry.now }
+        ensures ok { OnOk result (self.new ≡ relay_step plan.now self.old entry.now) }
         ensures err { OnErr result (self.new ≡ self.old) }
     {
         if entry.side() == plan.left {

@@ -1,6 +1,7 @@
 -- Names stand in order.
 use Rattle.std.proofs.Common.{◌≡◌, ℕ, ◌+◌, ◌≤◌, ◌==◌, ◌⊎◌, Bool, true, false, cond, List, [], ◌∷◌}
-use Rattle.std.proofs.Common.{◌++◌, length, map, Some, None, refl, sym, ap, subst, ◌∙◌, ⊎_elim, inl, inr}
+use Rattle.std.proofs.Common.{◌++◌, length, map, Some, None, refl, sym, ap, subst, ◌∙◌, ⊎_elim, inl}
+use Rattle.std.proofs.Common.{inr}
 use Rattle.std.proofs.Common.{arith, append_assoc}
 use Rattle.std.specs.List.{cons_option, flat_map, Contains, AllByRecursion as Each}
 use Rattle.std.proofs.lemmas.Grind.{flat_map-append}
@@ -25,6 +26,7 @@ use Rattle.tied_lists.specs.Items.{replied_in, replied_of, replied_by, due_repli
 use Rattle.tied_lists.specs.Items.{answered_of, answered_for, request_of, reply_of}
 use Rattle.joint_history.specs.declared.joint.Joint.{Joint}
 use Rattle.joint_history.specs.JointLaws.{IsJoint}
+use Rattle.joint_history.specs.Nets.{noted_on_rings}
 use Rattle.one_order.specs.Merges.{tally}
 use Rattle.one_order.specs.Orders.{AtRing, Log, on_ring, if_on_ring, at_station}
 use Rattle.one_order.specs.Orders.{if_at_station, own_of}
@@ -429,27 +431,31 @@ reply-takes-follow law net ring order h p before after n f is k =
     (by.0, not-itself (on_ring before) n by.0 f f by.2)
 
 pub in-order : OnlyItsTarget → ReplyToItsCaller → (net : NetPlan) (joint : Joint)
-    → IsRingHistory net joint.ring → IsJoint joint → (one : IsInOneOrder joint)
+    → IsRingHistory net (noted_on_rings joint) → IsJoint joint → (one : IsInOneOrder joint)
     → NamesStandInOrder joint one.order
 in-order target caller net joint h tied one = record {
   posts =
-      each PostsFollowAsks posts-follow joint.ring one.order (logs_of joint) one.ring_is
+      each PostsFollowAsks posts-follow (noted_on_rings joint) one.order (logs_of joint) one.ring_is
       (all-tie joint tied) one.stations one.caused;
   answers =
-      each AnswersFollowTakes answers-follow joint.ring one.order (logs_of joint) one.ring_is
+      each AnswersFollowTakes answers-follow (noted_on_rings joint) one.order (logs_of joint)
+      one.ring_is
       (all-tie joint tied) one.stations one.caused;
   port_answers =
-      each PortAnswersFollowTakes port-answers-follow joint.ring one.order (logs_of joint)
+      each PortAnswersFollowTakes port-answers-follow (noted_on_rings joint) one.order
+      (logs_of joint)
       one.ring_is (all-tie joint tied) one.stations one.caused;
   reply_posts =
-      each ReplyPostsFollowAnswers reply-posts-follow joint.ring one.order (logs_of joint)
+      each ReplyPostsFollowAnswers reply-posts-follow (noted_on_rings joint) one.order
+      (logs_of joint)
       one.ring_is (all-tie joint tied) one.stations one.caused;
   reply_requests =
-      each ReplyPostsFollowTakes reply-requests-follow joint.ring one.order (logs_of joint)
+      each ReplyPostsFollowTakes reply-requests-follow (noted_on_rings joint) one.order
+      (logs_of joint)
       one.ring_is (all-tie joint tied) one.stations one.caused;
   ends =
-      each EndsFollowOvers ends-follow joint.ring one.order (logs_of joint) one.ring_is
+      each EndsFollowOvers ends-follow (noted_on_rings joint) one.order (logs_of joint) one.ring_is
       (all-tie joint tied) one.stations one.caused;
-  takes = takes-follow target net joint.ring one.order h one.ring_is;
-  reply_takes = reply-takes-follow caller net joint.ring one.order h one.ring_is;
+  takes = takes-follow target net (noted_on_rings joint) one.order h one.ring_is;
+  reply_takes = reply-takes-follow caller net (noted_on_rings joint) one.order h one.ring_is;
 }

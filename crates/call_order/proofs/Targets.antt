@@ -11,9 +11,11 @@ use Rattle.ring_core.specs.declared.entry.RingEntry.TheVariants.{Post, Take}
 use Rattle.ring_laws.specs.Once.{OnlyItsTarget, ReplyToItsCaller, ReplyByTaker, AnswersWhatItTook}
 use Rattle.ring_laws.specs.Once.{TookCall}
 use Rattle.plant_types.specs.declared.plan.Plant.{Plant}
+use Rattle.plant_types.specs.Plans.{first_net}
 use Rattle.joint_history.specs.declared.joint.ControllerLog.{ControllerLog}
 use Rattle.joint_history.specs.declared.joint.HostLog.{HostLog}
 use Rattle.joint_history.specs.declared.joint.Joint.{Joint}
+use Rattle.joint_history.specs.Nets.{noted_on_rings}
 use Rattle.one_order.specs.Orders.{AtStation, AtRing, Log, on_ring, if_on_ring}
 use Rattle.entry_causes.specs.Causes.{StationEntry}
 use Rattle.entry_causes.specs.Joint.{controller_log, host_log, logs_of, IsInOneOrder}
@@ -71,7 +73,7 @@ module _ (plant : Plant) (scans : ℕ) (joint : Joint) (j : JointOf plant scans 
   Follows log = ReplyPostsFollowTakes log.node one.order
 
   -- each node that posted is a station's
-  follows-at : (k : ℕ) (g : Frame) → Contains joint.ring (Post k g)
+  follows-at : (k : ℕ) (g : Frame) → Contains (noted_on_rings joint) (Post k g)
       → ReplyPostsFollowTakes k one.order
   follows-at k g there = ⊎_elim
       (λ (log : (l : ControllerLog) × Contains joint.controllers l × (l.node ≡ k)).
@@ -90,7 +92,7 @@ module _ (plant : Plant) (scans : ℕ) (joint : Joint) (j : JointOf plant scans 
   took-before : (before after : Order) (k : ℕ) (g : Frame) → one.order ≡ before ++ after
       → Contains (on_ring before) (Post k g) → g.kind ≡ Reply → TookCall (on_ring before) k g.id
   took-before before after k g is there kind =
-      let whole : joint.ring ≡ on_ring before ++ on_ring after = sym one.ring_is
+      let whole : (noted_on_rings joint) ≡ on_ring before ++ on_ring after = sym one.ring_is
       ∙ (ap on_ring is ∙ filter_map-append if_on_ring before after) in
       let s = stands before (Post k g) there in
       let t = follows-at k g (subst (λ (l : List RingEntry). Contains l (Post k g)) (sym whole)
@@ -131,9 +133,10 @@ module _ (plant : Plant) (scans : ℕ) (joint : Joint) (j : JointOf plant scans 
 
   reply-takes-from : ReplyByTaker → ReplyTakesFollowTargets one.order
   reply-takes-from law before after n f is k =
-      let h = front-history plant.net joint.ring one.order before after (Take n f)
+      let h = front-history (first_net plant) (noted_on_rings joint) one.order before after
+      (Take n f)
       (ring-history plant scans joint j) one.ring_is is in
-      let a = (law plant.net (on_ring before ++ Take n f ∷ []) n f h
+      let a = (law (first_net plant) (on_ring before ++ Take n f ∷ []) n f h
       (front-answers before (AtRing (Take n f) ∷ after) n f is)
       (inr (Contains-push (on_ring before) (Take n f))) k).1 in
       record {
@@ -152,5 +155,5 @@ pub from-targets : OnlyItsTarget → ReplyToItsCaller → ReplyByTaker → Repli
 from-targets target caller taker plant scans joint is legal tied one =
     let j : JointOf plant scans joint = record { is = is; legal = legal; tied = tied } in
     reply-takes-from plant scans joint j one
-    (in-order target caller plant.net joint (ring-history plant scans joint j) tied
+    (in-order target caller (first_net plant) joint (ring-history plant scans joint j) tied
     one).reply_requests taker

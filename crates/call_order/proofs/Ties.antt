@@ -11,6 +11,7 @@ use Rattle.joint_history.specs.declared.joint.ControllerLog.{ControllerLog}
 use Rattle.joint_history.specs.declared.joint.HostLog.{HostLog}
 use Rattle.joint_history.specs.declared.joint.Joint.{Joint}
 use Rattle.joint_history.specs.JointLaws.{IsJoint, IsTiedController, IsTiedHost}
+use Rattle.joint_history.specs.Nets.{noted_on_rings}
 use Rattle.one_order.specs.Orders.{Log, own_of}
 use Rattle.entry_causes.specs.Causes.{StationEntry}
 use Rattle.entry_causes.specs.Joint.{controller_log, host_log, logs_of}
@@ -74,10 +75,11 @@ each-append : {X : Type 0} (P : X → Type 0) (a b : List X) → Each P a → Ea
 each-append P [] b x y = y
 each-append P (c ∷ a) b x y = (x.0, each-append P a b x.1 y)
 
-pub all-tie : (joint : Joint) → IsJoint joint → Each (Ties joint.ring) (logs_of joint)
+pub all-tie : (joint : Joint) → IsJoint joint → Each (Ties (noted_on_rings joint)) (logs_of joint)
 all-tie joint x =
-    each-append (Ties joint.ring) (map controller_log joint.controllers) (map host_log joint.hosts)
-    (controllers-tie joint.ring joint.controllers
-    (recursion_from_All (IsTiedController joint.ring) joint.controllers x.controllers))
-    (hosts-tie joint.ring joint.hosts
-    (recursion_from_All (IsTiedHost joint.ring) joint.hosts x.hosts))
+    each-append (Ties (noted_on_rings joint)) (map controller_log joint.controllers)
+    (map host_log joint.hosts)
+    (controllers-tie (noted_on_rings joint) joint.controllers
+    (recursion_from_All (IsTiedController (noted_on_rings joint)) joint.controllers x.controllers))
+    (hosts-tie (noted_on_rings joint) joint.hosts
+    (recursion_from_All (IsTiedHost (noted_on_rings joint)) joint.hosts x.hosts))

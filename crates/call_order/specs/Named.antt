@@ -22,6 +22,7 @@ use Rattle.tied_lists.specs.Items.{ended_of}
 use Rattle.joint_history.specs.declared.joint.Joint.{Joint}
 use Rattle.joint_history.specs.JointLaws.{IsJoint, IsLegalJoint}
 use Rattle.joint_history.specs.Reading.{called_of, answered_here}
+use Rattle.joint_history.specs.Nets.{noted_on_rings}
 use Rattle.one_order.specs.Orders.{Event, AtStation, AtRing, Log, on_ring, at_station, own_of}
 use Rattle.entry_causes.specs.Causes.{StationEntry, ByController, ByHost}
 use Rattle.entry_causes.specs.Joint.{logs_of, IsInOneOrder}
@@ -176,7 +177,7 @@ ReplyTakesFollowTargets order = (before after : Order) (n : ℕ) (f : Frame)
 -- They do on the one order of each joint history.
 abbrev pub CallsStandInOrder : Type 0
 CallsStandInOrder = (net : NetPlan) (joint : Joint)
-    → IsRingHistory net joint.ring → IsJoint joint
+    → IsRingHistory net (noted_on_rings joint) → IsJoint joint
     → (one : IsInOneOrder joint) → NamesStandInOrder joint one.order
 
 -- And the Replies of a plant's joint history come from the targets of their calls.

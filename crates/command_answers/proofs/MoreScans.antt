@@ -116,5 +116,6 @@ pub joint_more : (plant : Plant) (n m : ℕ) (joint : Joint) → n ≤ m
 joint_more plant n m joint few legal = record {
   controllers = logs-more plant n m plant.controllers joint.controllers few legal.controllers;
   hosts = legal.hosts;
-  ring = legal.ring;
+  bridges = legal.bridges;
+  rings = legal.rings;
 }

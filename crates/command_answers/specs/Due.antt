@@ -37,6 +37,7 @@ use Rattle.command_words.specs.declared.words.Task.{Task}
 use Rattle.command_words.specs.declared.words.Task.TheVariants.{Run, Trace, Check, Replay}
 use Rattle.command_answers.specs.Cut.{IsCut, IsCutAtPort}
 use Rattle.command_answers.specs.Judged.{IsIllegalAt, IsRunRead}
+use Rattle.joint_history.specs.Nets.{noted_on_rings}
 
 -- A status and the text that goes with it.
 pub record Due : Type 0 where
@@ -203,7 +204,7 @@ pub record IsDue (command : Command) (input : List ℕ) (what : Due) : Type 0 wh
 pub record IsLiveShown (scans : ℕ) (plant : Plant) (what : Due) : Type 0 where
   pub joint : Joint
   pub whole : IsWholeRun plant scans joint
-  pub unspent : NoneSpent joint.ring
+  pub unspent : NoneSpent (noted_on_rings joint)
   pub in_time : IsInOneOrder joint
   pub effects : EffectsAreRight joint
   pub told : IsJournalOf joint (journal joint)

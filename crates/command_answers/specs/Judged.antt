@@ -1,6 +1,6 @@
 -- What a journal comes to: its joint history, or the spot at which it is not that of a complete
 -- run. This project's own.
-use Rattle.std.specs.Prelude.{◌≡◌, ◌⊎◌, ℕ, codes, List, ◌++◌, string_bytes}
+use Rattle.std.specs.Prelude.{◌≡◌, ◌⊎◌, ◌==◌, ℕ, cond, codes, List, [], ◌++◌, string_bytes}
 use Rattle.std.specs.Fmt.{decimal}
 use Rattle.plant_types.specs.declared.plan.Plant.{Plant}
 use Rattle.joint_history.specs.declared.joint.Joint.{Joint}
@@ -25,11 +25,18 @@ law_text law node place =
     codes "J" ++ decimal law ++ codes " " ++ decimal node ++ codes " " ++ decimal place
     ++ codes "\n"
 
+-- A network's number is told where it is not 0.
+abbrev pub ring_text : ℕ → ℕ → List ℕ
+ring_text network entry =
+    codes "R" ++ cond (network == 0) [] (decimal network) ++ codes " " ++ decimal entry
+    ++ codes "\n"
+
 abbrev pub spot_text : Spot → List ℕ
 spot_text spots.Sections = codes "sections\n"
 spot_text (spots.Controller node entry) = spot_place_text (codes "C") node entry
 spot_text (spots.Host node entry) = spot_place_text (codes "H") node entry
-spot_text (spots.Ring entry) = codes "R " ++ decimal entry ++ codes "\n"
+spot_text (spots.Bridge left entry) = spot_place_text (codes "W") left entry
+spot_text (spots.Ring network entry) = ring_text network entry
 spot_text (spots.Law law node place) = law_text law node place
 spot_text (spots.Incomplete node) = codes "D16 " ++ decimal node ++ codes "\n"
 

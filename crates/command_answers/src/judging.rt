@@ -3,8 +3,8 @@ ghost use Rattle.std.specs.Prelude.{◌≡◌, ◌≤◌, IfOk, string_bytes};
 ghost use Rattle.plant_types.specs.Limits.{most_scans};
 ghost use Rattle.journal_text.specs.Fronts.{IsJournalOf};
 ghost use Rattle.joint_history.specs.Runnable.{CanRunPlant};
-ghost use Rattle.command_answers.specs.Judged.{IsJudged, law_text, spot_place_text, spot_text};
-ghost use Rattle.command_answers.specs.Judged.{wrong_line_text};
+ghost use Rattle.command_answers.specs.Judged.{IsJudged, law_text, ring_text, spot_place_text};
+ghost use Rattle.command_answers.specs.Judged.{spot_text, wrong_line_text};
 
 use joint_history::{Joint, Noted};
 use joint_law::{Judgement, Spot, judge_noted};
@@ -44,6 +44,18 @@ fn law_text(alloc: Global, law: u8, node: u8, place: u32) -> Result<String, Allo
     Ok(text)
 }
 
+fn ring_text(alloc: Global, network: u8, entry: u32) -> Result<String, AllocError>
+    ensures { IfOk result (λ text. string_bytes text ≡ ring_text network entry) }
+{
+    let mut text = String::new(alloc);
+    if network == 0 {
+        write!(text, "R {entry}\n")?;
+    } else {
+        write!(text, "R{network} {entry}\n")?;
+    }
+    Ok(text)
+}
+
 fn spot_text(alloc: Global, spot: Spot) -> Result<String, AllocError>
     ensures { IfOk result (λ text. string_bytes text ≡ spot_text spot) }
 {
@@ -51,7 +63,8 @@ fn spot_text(alloc: Global, spot: Spot) -> Result<String, AllocError>
         Spot::Sections => String::from_str(alloc, "sections\n"),
         Spot::Controller { node, entry } => spot_place_text(alloc, "C", node, entry),
         Spot::Host { node, entry } => spot_place_text(alloc, "H", node, entry),
-        Spot::Ring(entry) => format!(in alloc; "R {entry}\n"),
+        Spot::Bridge { left, entry } => spot_place_text(alloc, "W", left, entry),
+        Spot::Ring { network, entry } => ring_text(alloc, network, entry),
         Spot::Law { law, node, place } => law_text(alloc, law, node, place),
         Spot::Incomplete(node) => format!(in alloc; "D16 {node}\n"),
     }

@@ -15,6 +15,8 @@ use Rattle.plant_types.specs.declared.plan.ControllerPlan.{ControllerPlan}
 use Rattle.plant_types.specs.declared.plan.Plant.{Plant}
 use Rattle.plant_types.specs.FirstFault.{tests_behind}
 use Rattle.plant_types.specs.Plans.{IsPlant, IsNetPlan, IsHostPlan, IsAskOf, IsNode, PassesTests}
+use Rattle.plant_types.specs.Plans.{IsBridgeOf, net_numbers}
+use Rattle.plant_types.proofs.OneNet.{IsOnNet, net-of, of-one-net, stations-once}
 use Rattle.mstr_block.specs.declared.call.CallId.{CallId}
 use Rattle.ring_core.specs.declared.frame.FrameKind.{FrameKind}
 use Rattle.ring_core.specs.declared.frame.FrameKind.TheVariants.{Request, Reply}
@@ -41,7 +43,8 @@ use Rattle.host_port.proofs.Keeping.{kept_new}
 use Rattle.joint_history.specs.declared.joint.Joint.{Joint}
 use Rattle.joint_history.specs.Effects.{effects}
 use Rattle.joint_history.specs.JointLaws.{IsJoint, IsLegalJoint, IsTiedController, IsTiedHost}
-use Rattle.joint_history.specs.JointLaws.{fixed_of}
+use Rattle.joint_history.specs.JointLaws.{IsTiedBridge, fixed_of}
+use Rattle.joint_history.proofs.OneRing.{ring_log}
 use Rattle.effect_laws.specs.HostReplies.{IsAnswerTo}
 use Rattle.effect_laws.specs.Success.{ReportsSuccess, is_exception_reply}
 
@@ -103,9 +106,10 @@ plant =
     record {
       scan_time = 10;
       watchdog = 1;
-      net = net;
+      nets = net ∷ [];
       controllers = controller ∷ [];
       hosts = host ∷ [];
+      bridges = [];
     }
 
 all-from : {X : Type 0} (P : X → Type 0) (xs : List X) → Each P xs → All P xs
@@ -165,25 +169,41 @@ is-host = record {
   requests = all-from (IsAskOf host) host.requests (asks-one echo, (asks-one unknown, tt));
 }
 
+on-it : IsOnNet plant net
+on-it = record {
+  only = refl;
+  no_bridges = refl;
+  plan = is-net;
+  alone = refl;
+  no_bridge = refl;
+  controllers_there = all-from (λ (p : ControllerPlan). p.network ≡ 0) plant.controllers
+      (refl, tt);
+  hosts_there = all-from (λ (h : HostPlan). h.network ≡ 0) plant.hosts (refl, tt);
+  members = IsPermutation-refl (1 ∷ 5 ∷ []);
+}
+
 is-plant : IsPlant plant
 unfolding tests_behind
 is-plant = record {
   scan_time = record { from = omega arith; to = omega arith };
   watchdog = record { from = omega arith; to = omega arith };
-  net = is-net;
-  alone = refl;
-  no_bridge = refl;
+  alone = of-one-net plant net on-it;
+  nets = net-of plant net on-it (omega arith);
+  nets_rise = one-rises 0;
   count = record { from = omega arith; to = omega arith };
   controllers = all-from PassesTests plant.controllers (refl, tt);
-  controllers_there = all-from (λ (p : ControllerPlan). p.network ≡ plant.net.number)
-      plant.controllers (refl, tt);
+  controllers_there = all-from (λ (p : ControllerPlan). Contains (net_numbers plant) p.network)
+      plant.controllers ((0, omega arith, refl), tt);
   controllers_rise = one-rises 1;
   few = omega arith;
   hosts = all-from IsHostPlan plant.hosts (is-host, tt);
-  hosts_there = all-from (λ (h : HostPlan). h.network ≡ plant.net.number) plant.hosts
-      (refl, tt);
+  hosts_there = all-from (λ (h : HostPlan). Contains (net_numbers plant) h.network) plant.hosts
+      ((0, omega arith, refl), tt);
   hosts_rise = one-rises 5;
-  members = IsPermutation-refl (1 ∷ 5 ∷ []);
+  few_bridges = omega arith;
+  bridges = all-from (IsBridgeOf plant) [] tt;
+  bridges_rise = λ k within. absurd (omega (arith, within));
+  once = stations-once plant net on-it;
 }
 
 -- ---- its history
@@ -225,7 +245,8 @@ abbrev joint : Joint
 joint = record {
   controllers = record { node = 1; entries = target } ∷ [];
   hosts = record { node = 5; entries = asker } ∷ [];
-  ring = ring;
+  bridges = [];
+  rings = ring_log net ring ∷ [];
 }
 
 target-legal : IsLegal (fixed_of plant 1 controller) target
@@ -396,7 +417,8 @@ is-legal =
     record {
       controllers = ((refl, target-legal), tt);
       hosts = ((refl, asker-legal), tt);
-      ring = ring-legal;
+      bridges = tt;
+      rings = ((refl, ring-legal), tt);
     }
 
 is-joint : IsJoint joint
@@ -423,6 +445,7 @@ is-joint = record {
     },
     tt,
   );
+  bridges = all-from (IsTiedBridge ring) [] tt;
 }
 
 -- ---- its calls

@@ -7,7 +7,8 @@ use Rattle.std.proofs.lemmas.Bool.{eq-eqb}
 use Rattle.std.proofs.lemmas.List.Elements.{All-contains, Contains-append_right}
 use Rattle.std.proofs.lemmas.List.Elements.{Contains-push_cases}
 use Rattle.plant_types.specs.declared.plan.Plant.{Plant}
-use Rattle.plant_types.specs.Plans.{is_routed}
+use Rattle.plant_types.specs.Plans.{first_net, is_routed}
+use Rattle.plant_types.proofs.OneNet.{first-alone}
 use Rattle.mstr_block.specs.declared.call.CallId.{CallId}
 use Rattle.mstr_block.specs.declared.call.MstrResult.{MstrResult}
 use Rattle.ring_core.specs.declared.entry.LocalOp.{LocalOp}
@@ -39,6 +40,7 @@ use Rattle.joint_history.specs.JointLaws.{IsTiedController, IsTiedHost}
 use Rattle.joint_history.specs.Reading.{answered_here, host_item_next, host_items_after}
 use Rattle.joint_history.specs.Reading.{host_items_of, item_next, items_after, items_of}
 use Rattle.joint_history.proofs.Collected.{CallLaws}
+use Rattle.joint_history.specs.Nets.{noted_on_rings}
 use Rattle.effect_laws.specs.Effects.{HostsGetTheirAnswers}
 use Rattle.effect_laws.specs.HostReplies.{ControllerAnswers, HostAnswers, IsAnswerTo, NodeAnswers}
 use Rattle.effect_laws.specs.HostReplies.{PortAnswers}
@@ -233,18 +235,18 @@ some-same : (one other : List ℕ) → Some one ≡ Some other → one ≡ other
 some-same one other is = cc
 
 port-gave : (joint : Joint) (n : ℕ) (answer : Answered) (request reply : List ℕ)
-    → Contains (port_answers (own n joint.ring)) answer
+    → Contains (port_answers (own n (noted_on_rings joint))) answer
     → answer.request ≡ Some request → answer.reply ≡ Some reply
     → PortAnswers joint n answer.id request reply
 port-gave joint n answer request reply there asked told =
-    let found = of-map answered_of (own n joint.ring) answer there in
+    let found = of-map answered_of (own n (noted_on_rings joint)) answer there in
     let p = port-in found.0 answer found.2 in
-    let at = of-own n joint.ring found.0 found.1 in
+    let at = of-own n (noted_on_rings joint) found.0 found.1 in
     let node : p.node ≡ n = ap maker (sym p.is) ∙ at.1 in (
       p.op,
       p.result,
-      subst (λ (k : ℕ). Contains joint.ring (Local k answer.id p.op p.result)) node
-          (subst (λ (e : RingEntry). Contains joint.ring e) p.is at.0),
+      subst (λ (k : ℕ). Contains (noted_on_rings joint) (Local k answer.id p.op p.result)) node
+          (subst (λ (e : RingEntry). Contains (noted_on_rings joint) e) p.is at.0),
       p.asked ∙ asked,
       some-same (reply_of p.result) reply (p.told ∙ told),
     )
@@ -293,10 +295,11 @@ record Given (joint : Joint) (n : ℕ) (f : Frame) : Type 0 where
   request : Frame
   kind : request.kind ≡ Request
   same : request.id ≡ f.id
-  taken : Contains joint.ring (Take n request)
+  taken : Contains (noted_on_rings joint) (Take n request)
   given : NodeAnswers joint n f.id request.pdu f.pdu
 
-given-with : (joint : Joint) (n : ℕ) (f : Frame) (a : Items) (o : Origin a joint.ring n f)
+given-with : (joint : Joint) (n : ℕ) (f : Frame) (a : Items)
+    (o : Origin a (noted_on_rings joint) n f)
     → NodeAnswers joint n o.answer.id o.request.pdu f.pdu → Given joint n f
 given-with joint n f a o gives = record {
   request = o.request;
@@ -307,44 +310,48 @@ given-with joint n f a o gives = record {
 }
 
 by-controller : (joint : Joint) (log : ControllerLog) (f : Frame) → Contains joint.controllers log
-    → IsTiedController joint.ring log
-    → Contains joint.ring (Post log.node f) → f.kind ≡ Reply → Given joint log.node f
+    → IsTiedController (noted_on_rings joint) log
+    → Contains (noted_on_rings joint) (Post log.node f) → f.kind ≡ Reply → Given joint log.node f
 by-controller joint log f there tied posted kind =
-    let o = origin-in joint.ring log.node f AController (items_of log.entries) tied posted kind in
+    let o = origin-in (noted_on_rings joint) log.node f AController (items_of log.entries) tied
+    posted kind in
     given-with joint log.node f (items_of log.entries) o (⊎_elim
     (λ (peer : Contains (items_of log.entries).answers o.answer). inl
     (controller-gave joint log o.answer o.request.pdu f.pdu there peer o.asked o.told))
-    (λ (port : Contains (port_answers (own log.node joint.ring)) o.answer). inr
+    (λ (port : Contains (port_answers (own log.node (noted_on_rings joint))) o.answer). inr
     (inr (port-gave joint log.node o.answer o.request.pdu f.pdu port o.asked o.told)))
     o.among)
 
 by-host : (joint : Joint) (log : HostLog) (f : Frame) → Contains joint.hosts log
-    → IsTiedHost joint.ring log
-    → Contains joint.ring (Post log.node f) → f.kind ≡ Reply → Given joint log.node f
+    → IsTiedHost (noted_on_rings joint) log
+    → Contains (noted_on_rings joint) (Post log.node f) → f.kind ≡ Reply → Given joint log.node f
 by-host joint log f there tied posted kind =
-    let o = origin-in joint.ring log.node f AHost (host_items_of log.entries) tied posted kind in
+    let o = origin-in (noted_on_rings joint) log.node f AHost (host_items_of log.entries) tied
+    posted kind in
     given-with joint log.node f (host_items_of log.entries) o (⊎_elim
     (λ (peer : Contains (host_items_of log.entries).answers o.answer). inr
     (inl (host-gave joint log o.answer o.request.pdu f.pdu there peer o.asked o.told)))
-    (λ (port : Contains (port_answers (own log.node joint.ring)) o.answer). inr
+    (λ (port : Contains (port_answers (own log.node (noted_on_rings joint))) o.answer). inr
     (inr (port-gave joint log.node o.answer o.request.pdu f.pdu port o.asked o.told)))
     o.among)
 
 given-by : (plant : Plant) (scans : ℕ) (joint : Joint) (n : ℕ) (f : Frame)
-    → JointOf plant scans joint → Contains joint.ring (Post n f) → f.kind ≡ Reply
+    → JointOf plant scans joint → Contains (noted_on_rings joint) (Post n f) → f.kind ≡ Reply
     → Given joint n f
 given-by plant scans joint n f j posted kind =
     ⊎_elim
     (λ (c : (log : ControllerLog) × Contains joint.controllers log × (log.node ≡ n)).
     subst (λ (k : ℕ). Given joint k f) c.2
     (by-controller joint c.0 f c.1
-    (All-contains (IsTiedController joint.ring) joint.controllers c.0 j.tied.controllers c.1)
-    (subst (λ (k : ℕ). Contains joint.ring (Post k f)) (sym c.2) posted) kind))
+    (All-contains (IsTiedController (noted_on_rings joint)) joint.controllers c.0 j.tied.controllers
+    c.1)
+    (subst (λ (k : ℕ). Contains (noted_on_rings joint) (Post k f)) (sym c.2) posted) kind))
     (λ (h : (log : HostLog) × Contains joint.hosts log × (log.node ≡ n)).
     subst (λ (k : ℕ). Given joint k f) h.2
-    (by-host joint h.0 f h.1 (All-contains (IsTiedHost joint.ring) joint.hosts h.0 j.tied.hosts
+    (by-host joint h.0 f h.1 (All-contains (IsTiedHost (noted_on_rings joint)) joint.hosts h.0
+    j.tied.hosts
     h.1)
-    (subst (λ (k : ℕ). Contains joint.ring (Post k f)) (sym h.2) posted) kind))
+    (subst (λ (k : ℕ). Contains (noted_on_rings joint) (Post k f)) (sym h.2) posted) kind))
     (log-at plant scans joint n j (member-at plant scans joint (Post n f) j posted))
 
 -- ---- the law
@@ -360,20 +367,21 @@ one-address : (plant : Plant) (scans : ℕ) (joint : Joint) (log : HostLog)
 one-address plant scans joint log j there id route pdu asked =
     let legal = legal-host_log plant scans joint log j there in
     let is = legal.is in
-    let network = legal.network ∙ j.is.alone in
+    let network = legal.network ∙ first-alone plant j.is in
     (ask-planned legal.plan log.entries id route pdu is legal.history asked).alone
     (ap is_routed network)
 
-asked-own : (joint : Joint) (log : HostLog) (m : ℕ) (request : Frame) → IsTiedHost joint.ring log
+asked-own : (joint : Joint) (log : HostLog) (m : ℕ) (request : Frame)
+    → IsTiedHost (noted_on_rings joint) log
     → m ≡ log.node → request.kind ≡ Request
-    → Contains joint.ring (Post m request)
+    → Contains (noted_on_rings joint) (Post m request)
     → Contains log.entries (host_entries.Ask request.id (frame_route request) request.pdu)
 asked-own joint log m request tied node kind posted =
     let n = log.node in
-    let b = own n joint.ring in
+    let b = own n (noted_on_rings joint) in
     let a = host_items_of log.entries in
     let asked : Asked = asked_as request in
-    let mine = in-own n joint.ring (Post m request) (eq-eqb m n node) posted in
+    let mine = in-own n (noted_on_rings joint) (Post m request) (eq-eqb m n node) posted in
     let among = in-map asked_of b (Post m request) asked
     (ap (λ (k : FrameKind). asked_in k request) kind) mine in
     let called = of-map net_ask a.calls asked
@@ -385,11 +393,12 @@ asked-own joint log m request tied node kind posted =
 
 got-answer : CallLaws → (plant : Plant) (scans : ℕ) (joint : Joint) (log : HostLog) (m : ℕ)
     (f : Frame) → JointOf plant scans joint
-    → Contains joint.hosts log → m ≡ log.node → Contains joint.ring (Take m f) → f.kind ≡ Reply
+    → Contains joint.hosts log → m ≡ log.node → Contains (noted_on_rings joint) (Take m f)
+    → f.kind ≡ Reply
     → IsAnswerTo joint log f.id f.pdu
 got-answer laws plant scans joint log m f j there node taken kind =
-    let net = plant.net in
-    let ring = joint.ring in
+    let net = first_net plant in
+    let ring = noted_on_rings joint in
     let history = ring-history plant scans joint j in
     let a = (reply-by-taker net ring m f history (answers-taken laws plant scans joint j)
     (inr taken) kind).1 in
@@ -428,12 +437,12 @@ came-no_reply result pdu is = cc
 pub host-answers : CallLaws → HostsGetTheirAnswers
 host-answers laws plant scans joint is legal tied log id reply there answered =
     let j : JointOf plant scans joint = record { is = is; legal = legal; tied = tied } in
-    let b = own log.node joint.ring in
-    let t = All-contains (IsTiedHost joint.ring) joint.hosts log tied.hosts there in
+    let b = own log.node (noted_on_rings joint) in
+    let t = All-contains (IsTiedHost (noted_on_rings joint)) joint.hosts log tied.hosts there in
     let told = answer-ends log.entries id (results.Reply reply) answered in
     let w = end-at AHost [] b told.end'
     (subst (λ (l : List Ended). Contains l told.end') t.ends told.there) in
-    let at = of-own log.node joint.ring w.entry
+    let at = of-own log.node (noted_on_rings joint) w.entry
     (subst (λ (l : List RingEntry). Contains l w.entry) (sym w.is)
     (Contains-append_right w.before (w.entry ∷ w.after) w.entry (0, omega arith, refl))) in
     subst (λ (i : CallId). IsAnswerTo joint log i reply) told.id_is
@@ -441,11 +450,11 @@ host-answers laws plant scans joint is legal tied log id reply there answered =
     (ended-by AHost ([] ++ asked_by w.before) w.entry told.end' w.ended))
   where
     by : JointOf plant scans joint → (end' : Ended) → end'.outcome ≡ Replied reply
-        → (asked : List Asked) (e : RingEntry) → Contains joint.ring e
+        → (asked : List Asked) (e : RingEntry) → Contains (noted_on_rings joint) e
         → maker e ≡ log.node → EndedBy AHost asked e end' → IsAnswerTo joint log end'.id reply
     by j end' out asked e in' node (by_reply m f entry kind name outcome) =
-        let taken : Contains joint.ring (Take m f) = subst
-        (λ (x : RingEntry). Contains joint.ring x) entry in' in
+        let taken : Contains (noted_on_rings joint) (Take m f) = subst
+        (λ (x : RingEntry). Contains (noted_on_rings joint) x) entry in' in
         let here' : m ≡ log.node = ap maker (sym entry) ∙ node in
         subst (λ (l : List ℕ). IsAnswerTo joint log end'.id l)
         (replied-same f.pdu reply (outcome ∙ out))

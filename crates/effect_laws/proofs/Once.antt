@@ -11,7 +11,8 @@ use Rattle.plant_types.specs.declared.net.NetPlan.{NetPlan}
 use Rattle.plant_types.specs.declared.net.HostPlan.{HostPlan}
 use Rattle.plant_types.specs.declared.plan.ControllerPlan.{ControllerPlan}
 use Rattle.plant_types.specs.declared.plan.Plant.{Plant}
-use Rattle.plant_types.specs.Plans.{IsHostPlan, controller_nodes, host_nodes}
+use Rattle.plant_types.specs.Plans.{IsHostPlan, controller_nodes, first_net, host_nodes}
+use Rattle.plant_types.proofs.OneNet.{on-net}
 use Rattle.mstr_block.specs.Call.{is_same_call}
 use Rattle.mstr_block.specs.declared.call.CallId.{CallId}
 use Rattle.ring_core.specs.declared.entry.RingEntry.{RingEntry}
@@ -38,6 +39,7 @@ use Rattle.joint_history.specs.JointLaws.{IsLegalHostLog, IsLegalLog, IsTiedCont
 use Rattle.joint_history.specs.JointLaws.{fixed_of}
 use Rattle.joint_history.specs.Reading.{host_items_of, items_of}
 use Rattle.joint_history.proofs.Collected.{CallLaws}
+use Rattle.joint_history.specs.Nets.{noted_on_rings}
 use Rattle.effect_laws.specs.Served.{services}
 use Rattle.effect_laws.specs.Effects.{TakesEffectAtMostOnce}
 use Rattle.effect_laws.proofs.Asks.{IsFitAnswer, controller-fits, host-fits}
@@ -73,11 +75,11 @@ legal-log plant scans joint log j there =
 pub record LegalHostLog (plant : Plant) (log : HostLog) : Type 0 where
   pub plan : HostPlan
   pub is : IsHostPlan plan
-  pub network : plan.network ≡ plant.net.number
+  pub network : plan.network ≡ (first_net plant).number
   pub history : IsHostHistory plan log.entries
 
 legal-hosts : (plant : Plant) (ps : List HostPlan) (ls : List HostLog) → All IsHostPlan ps
-    → All (λ (p : HostPlan). p.network ≡ plant.net.number) ps → AllZip IsLegalHostLog ps ls
+    → All (λ (p : HostPlan). p.network ≡ (first_net plant).number) ps → AllZip IsLegalHostLog ps ls
     → Each (LegalHostLog plant) ls
 legal-hosts plant [] [] are there all = tt
 legal-hosts plant [] (l ∷ ls) are there all = absurd all
@@ -86,18 +88,19 @@ legal-hosts plant (p ∷ ps) (l ∷ ls) are there all = (
   record {
     plan = p;
     is = All-head IsHostPlan p ps are;
-    network = All-head (λ (q : HostPlan). q.network ≡ plant.net.number) p ps there;
+    network = All-head (λ (q : HostPlan). q.network ≡ (first_net plant).number) p ps there;
     history = all.0.1;
   },
   legal-hosts plant ps ls (All-tail IsHostPlan p ps are)
-      (All-tail (λ (q : HostPlan). q.network ≡ plant.net.number) p ps there) all.1,
+      (All-tail (λ (q : HostPlan). q.network ≡ (first_net plant).number) p ps there) all.1,
 )
 
 pub legal-host_log : (plant : Plant) (scans : ℕ) (joint : Joint) (log : HostLog)
     → JointOf plant scans joint → Contains joint.hosts log → LegalHostLog plant log
 legal-host_log plant scans joint log j there =
     each-contains (LegalHostLog plant) joint.hosts log
-    (legal-hosts plant plant.hosts joint.hosts j.is.hosts j.is.hosts_there j.legal.hosts) there
+    (legal-hosts plant plant.hosts joint.hosts j.is.hosts
+    (on-net plant j.is).hosts_there j.legal.hosts) there
 
 -- a node's station: its list is tied, its calls at home end once, and its answers fit
 pub record Seat (ring : List RingEntry) (n : ℕ) : Type 0 where
@@ -125,14 +128,15 @@ log-of node n ls some =
 
 controller-seat : CallLaws → (plant : Plant) (scans : ℕ) (joint : Joint) (n : ℕ)
     (log : ControllerLog) → JointOf plant scans joint
-    → Contains joint.controllers log → log.node ≡ n → Seat joint.ring n
+    → Contains joint.controllers log → log.node ≡ n → Seat (noted_on_rings joint) n
 controller-seat laws plant scans joint n log j there is =
     let legal = legal-log plant scans joint log j there in
-    subst (Seat joint.ring) is (record {
+    subst (Seat (noted_on_rings joint)) is (record {
       station = AController;
       items = items_of log.entries;
       tied =
-          All-contains (IsTiedController joint.ring) joint.controllers log j.tied.controllers
+          All-contains (IsTiedController (noted_on_rings joint)) joint.controllers log
+          j.tied.controllers
           there;
       homes =
           controller-homes (items_of log.entries)
@@ -143,20 +147,20 @@ controller-seat laws plant scans joint n log j there is =
 
 host-seat : (plant : Plant) (scans : ℕ) (joint : Joint) (n : ℕ) (log : HostLog)
     → JointOf plant scans joint → Contains joint.hosts log
-    → log.node ≡ n → Seat joint.ring n
+    → log.node ≡ n → Seat (noted_on_rings joint) n
 host-seat plant scans joint n log j there is =
     let legal = legal-host_log plant scans joint log j there in
-    subst (Seat joint.ring) is (record {
+    subst (Seat (noted_on_rings joint)) is (record {
       station = AHost;
       items = host_items_of log.entries;
-      tied = All-contains (IsTiedHost joint.ring) joint.hosts log j.tied.hosts there;
+      tied = All-contains (IsTiedHost (noted_on_rings joint)) joint.hosts log j.tied.hosts there;
       homes = host-homes log.entries;
       answers = host-fits legal.plan log.entries legal.history;
     })
 
 -- each member has the list of a controller or of a host
 pub log-at : (plant : Plant) (scans : ℕ) (joint : Joint) (n : ℕ) → JointOf plant scans joint
-    → IsMember plant.net n
+    → IsMember (first_net plant) n
     → ((log : ControllerLog) × Contains joint.controllers log × (log.node ≡ n))
     ⊎ ((log : HostLog) × Contains joint.hosts log × (log.node ≡ n))
 log-at plant scans joint n j member =
@@ -177,7 +181,7 @@ log-at plant scans joint n j member =
 
 -- so it has one
 pub seat-at : CallLaws → (plant : Plant) (scans : ℕ) (joint : Joint) (n : ℕ)
-    → JointOf plant scans joint → IsMember plant.net n → Seat joint.ring n
+    → JointOf plant scans joint → IsMember (first_net plant) n → Seat (noted_on_rings joint) n
 seat-at laws plant scans joint n j member =
     ⊎_elim
     (λ (log : (l : ControllerLog) × Contains joint.controllers l × (l.node ≡ n)). controller-seat
@@ -267,18 +271,18 @@ home-node : (id : CallId) (e : RingEntry) → acts_at_home id e ≡ true → mak
 home-node id e is = eqb-true (maker e) id.node (at-home-own id e is)
 
 pub effects-are : (joint : Joint) (id : CallId)
-    → effects joint id ≡ services joint id + count_by (acts_at_home id) joint.ring
-effects-are joint id = let both = both-sorts id joint.ring in omega arith
+    → effects joint id ≡ services joint id + count_by (acts_at_home id) (noted_on_rings joint)
+effects-are joint id = let both = both-sorts id (noted_on_rings joint) in omega arith
 
 home-alone : CallLaws → (plant : Plant) (scans : ℕ) (joint : Joint) (id : CallId)
     → JointOf plant scans joint
-    → 1 ≤ count_by (acts_at_home id) joint.ring → effects joint id ≤ 1
+    → 1 ≤ count_by (acts_at_home id) (noted_on_rings joint) → effects joint id ≤ 1
 home-alone laws plant scans joint id j some =
-    let ring = joint.ring in
+    let ring = noted_on_rings joint in
     let found = count-contains (acts_at_home id) ring some in
-    let member = subst (IsMember plant.net) (home-node id found.0 found.2)
-    (All-contains (λ e. IsMember plant.net (maker e)) ring found.0
-    (members plant.net [] ring j.legal.ring) found.1) in
+    let member = subst (IsMember (first_net plant)) (home-node id found.0 found.2)
+    (All-contains (λ e. IsMember (first_net plant) (maker e)) ring found.0
+    (members (first_net plant) [] ring (ring-history plant scans joint j).legal) found.1) in
     let seat = seat-at laws plant scans joint id.node j member in
     let own_homes = homes-own id ring in
     let ended = homes-end seat.station id [] (own id.node ring) in
@@ -288,8 +292,9 @@ home-alone laws plant scans joint id j some =
     let asked = posted-asked id (own id.node ring) ∙ ap (count_by (is_asked id)) seat.tied.asks
     ∙ facts.none in
     let unposted = counted-own (posts id) id.node ring
-    (posted-owns plant.net [] ring id j.legal.ring) ∙ asked in
-    let untaken = unposted-untaken plant.net ring id (ring-history plant scans joint j) unposted in
+    (posted-owns (first_net plant) [] ring id (ring-history plant scans joint j).legal) ∙ asked in
+    let untaken = unposted-untaken (first_net plant) ring id (ring-history plant scans joint j)
+    unposted in
     let served = services-are_taken plant scans joint id j in
     let all = effects-are joint id in
     omega (arith, own_homes, ended, ends_are, once, untaken, served, all)
@@ -298,10 +303,13 @@ pub at-most-once : CallLaws → TakenOnce → TakesEffectAtMostOnce
 at-most-once laws once plant scans joint is legal tied id =
     let j : JointOf plant scans joint = record { is = is; legal = legal; tied = tied } in
     let served = services-are_taken plant scans joint id j in
-    let taken = once plant.net joint.ring id (ring-history plant scans joint j) in
+    let taken = once (first_net plant) (noted_on_rings joint) id (ring-history plant scans joint j)
+    in
     let all = effects-are joint id in
     ⊎_elim
-    (λ (none : count_by (acts_at_home id) joint.ring < 1). omega (arith, none, served, taken, all))
-    (λ (some : 1 ≤ count_by (acts_at_home id) joint.ring). home-alone laws plant scans joint id j
+    (λ (none : count_by (acts_at_home id) (noted_on_rings joint) < 1). omega
+    (arith, none, served, taken, all))
+    (λ (some : 1 ≤ count_by (acts_at_home id) (noted_on_rings joint)). home-alone laws plant scans
+    joint id j
     some)
-    (cases_lt (count_by (acts_at_home id) joint.ring) 1)
+    (cases_lt (count_by (acts_at_home id) (noted_on_rings joint)) 1)

@@ -8,6 +8,7 @@ use Rattle.std.proofs.lemmas.Bool.{and_from, eq-eqb}
 use Rattle.std.proofs.lemmas.List.Elements.{All-contains, Contains-append_left}
 use Rattle.std.proofs.lemmas.List.Elements.{Contains-append_right, Contains-push}
 use Rattle.plant_types.specs.declared.plan.Plant.{Plant}
+use Rattle.plant_types.specs.Plans.{first_net}
 use Rattle.mstr_block.specs.declared.call.CallId.{CallId}
 use Rattle.mstr_block.specs.declared.call.MstrResult.{MstrResult}
 use Rattle.mstr_block.specs.declared.call.MstrResult.TheVariants.{Good}
@@ -45,6 +46,7 @@ use Rattle.joint_history.specs.JointLaws.{IsTiedController, IsTiedHost}
 use Rattle.joint_history.specs.Reading.{host_item_next, host_items_after, host_items_of, item_next}
 use Rattle.joint_history.specs.Reading.{items_after, items_of, outcome_of}
 use Rattle.joint_history.proofs.Collected.{CallLaws}
+use Rattle.joint_history.specs.Nets.{noted_on_rings}
 use Rattle.effect_laws.specs.Effects.{SuccessTakesEffectOnce}
 use Rattle.effect_laws.proofs.Homes.{acts_at_home}
 use Rattle.effect_laws.proofs.Once.{Seat, at-most-once, effects-are, log-at, seat-at}
@@ -193,16 +195,18 @@ pub origin : (ring : List RingEntry) (n : ℕ) (f : Frame) (seat : Seat ring n)
 origin ring n f seat there kind = origin-in ring n f seat.station seat.items seat.tied there kind
 
 pub member-at : (plant : Plant) (scans : ℕ) (joint : Joint) (e : RingEntry)
-    → JointOf plant scans joint → Contains joint.ring e → IsMember plant.net (maker e)
+    → JointOf plant scans joint → Contains (noted_on_rings joint) e
+    → IsMember (first_net plant) (maker e)
 member-at plant scans joint e j there =
-    All-contains (λ x. IsMember plant.net (maker x)) joint.ring e
-    (members plant.net [] joint.ring j.legal.ring) there
+    All-contains (λ x. IsMember (first_net plant) (maker x)) (noted_on_rings joint) e
+    (members (first_net plant) [] (noted_on_rings joint) (ring-history plant scans joint j).legal)
+    there
 
 -- no node answers what it did not take
 pub answers-taken : CallLaws → (plant : Plant) (scans : ℕ) (joint : Joint)
-    → JointOf plant scans joint → AnswersWhatItTook joint.ring
+    → JointOf plant scans joint → AnswersWhatItTook (noted_on_rings joint)
 answers-taken laws plant scans joint j k f there kind =
-    let o = origin joint.ring k f
+    let o = origin (noted_on_rings joint) k f
     (seat-at laws plant scans joint k j (member-at plant scans joint (Post k f) j there)) there
     kind in
     record { request = o.request; taken = o.taken; kind = o.kind; same = o.same }
@@ -229,78 +233,84 @@ station-served items answer id pdu there named told =
     (ap has_reply told)) there
 
 port-served : (joint : Joint) (n : ℕ) (answer : Answered) (id : CallId)
-    → Contains (port_answers (own n joint.ring)) answer
+    → Contains (port_answers (own n (noted_on_rings joint))) answer
     → answer.id ≡ id → 1 ≤ effects joint id
 port-served joint n answer id there named =
-    let some = contains-count (is_answer id) (port_answers (own n joint.ring)) answer
+    let some = contains-count (is_answer id) (port_answers (own n (noted_on_rings joint))) answer
     (ap (λ (i : CallId). is_same_call i id) named ∙ same-refl id) there in
-    let own_served = for_others id (own n joint.ring) in
-    let most = count-filter (serves_another id) (is_of n) joint.ring in
+    let own_served = for_others id (own n (noted_on_rings joint)) in
+    let most = count-filter (serves_another id) (is_of n) (noted_on_rings joint) in
     let all = effects-are joint id in
     omega (arith, some, own_served, most, all)
 
 reply-effect : CallLaws → (plant : Plant) (scans : ℕ) (joint : Joint) (n : ℕ) (f : Frame)
-    → JointOf plant scans joint → Contains joint.ring (Take n f)
+    → JointOf plant scans joint → Contains (noted_on_rings joint) (Take n f)
     → f.kind ≡ Reply → 1 ≤ effects joint f.id
 reply-effect laws plant scans joint n f j there kind =
-    let a = (reply-by-taker plant.net joint.ring n f (ring-history plant scans joint j)
+    let a = (reply-by-taker (first_net plant) (noted_on_rings joint) n f
+    (ring-history plant scans joint j)
     (answers-taken laws plant scans joint j) (inr there) kind).1 in
     ⊎_elim
     (λ (c : (log : ControllerLog) × Contains joint.controllers log × (log.node ≡ a.by)).
-    by-controller c.0 c.1 (subst (λ (k : ℕ). Contains joint.ring (Post k f)) (sym c.2) a.posted))
+    by-controller c.0 c.1 (subst (λ (k : ℕ). Contains (noted_on_rings joint) (Post k f)) (sym c.2)
+    a.posted))
     (λ (h : (log : HostLog) × Contains joint.hosts log × (log.node ≡ a.by)).
-    by-host h.0 h.1 (subst (λ (k : ℕ). Contains joint.ring (Post k f)) (sym h.2) a.posted))
+    by-host h.0 h.1 (subst (λ (k : ℕ). Contains (noted_on_rings joint) (Post k f)) (sym h.2)
+    a.posted))
     (log-at plant scans joint a.by j (member-at plant scans joint (Post a.by f) j a.posted))
   where
     by-controller : (log : ControllerLog) → Contains joint.controllers log
-        → Contains joint.ring (Post log.node f) → 1 ≤ effects joint f.id
+        → Contains (noted_on_rings joint) (Post log.node f) → 1 ≤ effects joint f.id
     by-controller log log_there posted =
         let served = λ (l : ControllerLog). answers_to f.id (items_of l.entries) in
-        let o = origin-in joint.ring log.node f AController (items_of log.entries)
-        (All-contains (IsTiedController joint.ring) joint.controllers log j.tied.controllers
+        let o = origin-in (noted_on_rings joint) log.node f AController (items_of log.entries)
+        (All-contains (IsTiedController (noted_on_rings joint)) joint.controllers log
+        j.tied.controllers
         log_there) posted kind in
         ⊎_elim
         (λ (peer : Contains (items_of log.entries).answers o.answer).
         let some = station-served (items_of log.entries) o.answer f.id f.pdu peer o.named o.told in
         let most = part-most served joint.controllers log log_there in
         omega (arith, some, most))
-        (λ (port : Contains (port_answers (own log.node joint.ring)) o.answer).
+        (λ (port : Contains (port_answers (own log.node (noted_on_rings joint))) o.answer).
         port-served joint log.node o.answer f.id port o.named)
         o.among
 
     by-host : (log : HostLog) → Contains joint.hosts log
-        → Contains joint.ring (Post log.node f) → 1 ≤ effects joint f.id
+        → Contains (noted_on_rings joint) (Post log.node f) → 1 ≤ effects joint f.id
     by-host log log_there posted =
         let served = λ (l : HostLog). answers_to f.id (host_items_of l.entries) in
-        let o = origin-in joint.ring log.node f AHost (host_items_of log.entries)
-        (All-contains (IsTiedHost joint.ring) joint.hosts log j.tied.hosts log_there) posted kind in
+        let o = origin-in (noted_on_rings joint) log.node f AHost (host_items_of log.entries)
+        (All-contains (IsTiedHost (noted_on_rings joint)) joint.hosts log j.tied.hosts log_there)
+        posted kind in
         ⊎_elim
         (λ (peer : Contains (host_items_of log.entries).answers o.answer).
         let some = station-served (host_items_of log.entries) o.answer f.id f.pdu peer o.named
         o.told in
         let most = part-most served joint.hosts log log_there in
         omega (arith, some, most))
-        (λ (port : Contains (port_answers (own log.node joint.ring)) o.answer).
+        (λ (port : Contains (port_answers (own log.node (noted_on_rings joint))) o.answer).
         port-served joint log.node o.answer f.id port o.named)
         o.among
 
-home-effect : (joint : Joint) (n : ℕ) (e : RingEntry) (id : CallId) → Contains joint.ring e
+home-effect : (joint : Joint) (n : ℕ) (e : RingEntry) (id : CallId)
+    → Contains (noted_on_rings joint) e
     → acts_at_home id e ≡ true → 1 ≤ effects joint id
 home-effect joint n e id there is =
-    let some = contains-count (acts_at_home id) joint.ring e is there in
+    let some = contains-count (acts_at_home id) (noted_on_rings joint) e is there in
     let all = effects-are joint id in
     omega (arith, some, all)
 
 -- an end is that of a word, or there is an effect
 pub end-effect : CallLaws → (plant : Plant) (scans : ℕ) (joint : Joint) (n : ℕ) (station : Station)
     (ends : List Ended) (end' : Ended)
-    → JointOf plant scans joint → ends ≡ ended_by station [] (own n joint.ring)
+    → JointOf plant scans joint → ends ≡ ended_by station [] (own n (noted_on_rings joint))
     → Contains ends end'
     → ((word : ℕ) × (outcome_of_word station word ≡ end'.outcome)) ⊎ (1 ≤ effects joint end'.id)
 end-effect laws plant scans joint n station ends end' j tied there =
-    let b = own n joint.ring in
+    let b = own n (noted_on_rings joint) in
     let w = end-at station [] b end' (subst (λ (l : List Ended). Contains l end') tied there) in
-    let entry = (of-own n joint.ring w.entry
+    let entry = (of-own n (noted_on_rings joint) w.entry
     (subst (λ (l : List RingEntry). Contains l w.entry) (sym w.is)
     (middle w.before w.entry w.after))).0 in
     by ([] ++ asked_by w.before) w.entry entry
@@ -310,18 +320,18 @@ end-effect laws plant scans joint n station ends end' j tied there =
         → Contains (xs ++ x ∷ ys) x
     middle xs x ys = Contains-append_right xs (x ∷ ys) x (0, omega arith, refl)
 
-    by : (asked : List Asked) (e : RingEntry) → Contains joint.ring e
+    by : (asked : List Asked) (e : RingEntry) → Contains (noted_on_rings joint) e
         → EndedBy station asked e end'
         → ((word : ℕ) × (outcome_of_word station word ≡ end'.outcome))
         ⊎ (1 ≤ effects joint end'.id)
     by asked e in' (by_reply m f is kind id outcome) =
         inr (subst (λ (i : CallId). 1 ≤ effects joint i) id
         (reply-effect laws plant scans joint m f j
-        (subst (λ (x : RingEntry). Contains joint.ring x) is in') kind))
+        (subst (λ (x : RingEntry). Contains (noted_on_rings joint) x) is in') kind))
     by asked e in' (by_word word is outcome) = inl (word, outcome)
     by asked e in' (by_port m op result is mine outcome) =
         inr (home-effect joint m (Local m end'.id op result) end'.id
-        (subst (λ (x : RingEntry). Contains joint.ring x) is in')
+        (subst (λ (x : RingEntry). Contains (noted_on_rings joint) x) is in')
         (and_from _ _ (same-refl end'.id) mine))
 
 came-good : (word : ℕ) (words : List ℕ) → outcome_of_word AController word ≢ Came (Good words)
@@ -336,7 +346,8 @@ one k most some = omega (arith, most, some)
 pub success-once : CallLaws → TakenOnce → SuccessTakesEffectOnce
 success-once laws once plant scans joint is legal tied id (inl (log, there, (words, finished))) =
     let j : JointOf plant scans joint = record { is = is; legal = legal; tied = tied } in
-    let t = All-contains (IsTiedController joint.ring) joint.controllers log tied.controllers
+    let t = All-contains (IsTiedController (noted_on_rings joint)) joint.controllers log
+    tied.controllers
     there in
     let told = finish-ends log.entries id (Good words) finished in
     one (effects joint id) (at-most-once laws once plant scans joint is legal tied id) (⊎_elim
@@ -348,7 +359,7 @@ success-once laws once plant scans joint is legal tied id (inl (log, there, (wor
 success-once laws once plant scans joint is legal tied id
     (inr (log, there, (pdu, answered, plain))) =
     let j : JointOf plant scans joint = record { is = is; legal = legal; tied = tied } in
-    let t = All-contains (IsTiedHost joint.ring) joint.hosts log tied.hosts there in
+    let t = All-contains (IsTiedHost (noted_on_rings joint)) joint.hosts log tied.hosts there in
     let told = answer-ends log.entries id (results.Reply pdu) answered in
     one (effects joint id) (at-most-once laws once plant scans joint is legal tied id) (⊎_elim
     (λ (word : (w : ℕ) × (outcome_of_word AHost w ≡ told.end'.outcome)). absurd

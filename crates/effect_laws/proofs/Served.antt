@@ -9,7 +9,8 @@ use Rattle.std.proofs.lemmas.List.Sorted.{sum_by-IsPermutation}
 use Rattle.std.proofs.lemmas.List.Kept.{AllPairs-from_increasing}
 use Rattle.plant_types.specs.declared.net.NetPlan.{NetPlan}
 use Rattle.plant_types.specs.declared.plan.Plant.{Plant}
-use Rattle.plant_types.specs.Plans.{IsPlant, controller_nodes, host_nodes}
+use Rattle.plant_types.specs.Plans.{IsPlant, controller_nodes, first_net, host_nodes}
+use Rattle.plant_types.proofs.OneNet.{on-net}
 use Rattle.mstr_block.specs.Call.{is_same_call}
 use Rattle.mstr_block.specs.declared.call.CallId.{CallId}
 use Rattle.ring_core.specs.declared.frame.Frame.{Frame}
@@ -23,7 +24,8 @@ use Rattle.ring_core.specs.Words.{maker}
 use Rattle.ring_core.specs.Legal.{IsLawful, IsMember, IsRun}
 use Rattle.ring_laws.specs.Once.{takes, IsRingHistory, TakenOnce}
 use Rattle.tied_lists.specs.Own.{own}
-use Rattle.tied_lists.specs.Items.{Answered, Items, RequestItem, Station, Taken, Plain, ForStats, item_of}
+use Rattle.tied_lists.specs.Items.{Answered, Items, RequestItem, Station, Taken, Plain, ForStats}
+use Rattle.tied_lists.specs.Items.{item_of}
 use Rattle.tied_lists.specs.Items.{plain_items, stats_items, taken_by}
 use Rattle.tied_lists.specs.Items.{port_answers, request_of, reply_of, AController, AHost}
 use Rattle.tied_lists.specs.Tied.{Tied}
@@ -33,6 +35,8 @@ use Rattle.joint_history.specs.declared.joint.ControllerLog.{ControllerLog}
 use Rattle.joint_history.specs.declared.joint.HostLog.{HostLog}
 use Rattle.joint_history.specs.declared.joint.Joint.{Joint}
 use Rattle.joint_history.specs.JointLaws.{IsJoint, IsLegalJoint, IsLegalLog, IsLegalHostLog}
+use Rattle.joint_history.specs.Nets.{noted_on_rings}
+use Rattle.joint_history.proofs.OneRing.{legal-ring}
 use Rattle.joint_history.specs.Reading.{items_of, host_items_of}
 use Rattle.joint_history.specs.Effects.{answers, answers_to, has_reply}
 use Rattle.effect_laws.specs.Served.{ServedAtMostOnce, serves_another, services}
@@ -229,26 +233,27 @@ pub record JointOf (plant : Plant) (scans : ℕ) (joint : Joint) : Type 0 where
   pub tied : IsJoint joint
 
 pub ring-history : (plant : Plant) (scans : ℕ) (joint : Joint) → JointOf plant scans joint
-    → IsRingHistory plant.net joint.ring
+    → IsRingHistory (first_net plant) (noted_on_rings joint)
 ring-history plant scans joint j = record {
   members = λ k d within.
-      (let node = j.is.net.members.each k d within in let most = node.to in omega arith);
-  legal = j.legal.ring;
+      (let node = (on-net plant j.is).plan.members.each k d within in let most = node.to in omega
+      arith);
+  legal = legal-ring plant scans joint j.is j.legal;
 }
 
 -- the nodes of the stations are the members of the ring
 pub counted-member : (plant : Plant) (m : ℕ) → IsPlant plant
-    → count_by (λ n. m == n) plant.net.members
+    → count_by (λ n. m == n) (first_net plant).members
     ≡ count_by (λ n. m == n) (controller_nodes plant ++ host_nodes plant)
 counted-member plant m is =
     sum_by-IsPermutation (λ n. cond (m == n) 1 0) (controller_nodes plant ++ host_nodes plant)
-    plant.net.members is.members
+    (first_net plant).members (on-net plant is).members
 
-pub member-station : (plant : Plant) (m : ℕ) → IsPlant plant → IsMember plant.net m
+pub member-station : (plant : Plant) (m : ℕ) → IsPlant plant → IsMember (first_net plant) m
     → 1 ≤ count_by (λ n. m == n) (controller_nodes plant ++ host_nodes plant)
 member-station plant m is at =
     subst (λ (c : ℕ). 1 ≤ c) (counted-member plant m is)
-    (some_there m plant.net.members at.0 at.1 at.2)
+    (some_there m (first_net plant).members at.0 at.1 at.2)
 
 pub controller-nodes : (plant : Plant) (scans : ℕ) (joint : Joint) → IsLegalJoint plant scans joint
     → map (λ (log : ControllerLog). log.node) joint.controllers ≡ controller_nodes plant
@@ -267,19 +272,19 @@ host-nodes plant scans joint legal =
 -- a call was served at most as often as its Request was taken
 pub services-are_taken : (plant : Plant) (scans : ℕ) (joint : Joint) (id : CallId)
     → JointOf plant scans joint
-    → services joint id ≤ count_by (takes id) joint.ring
+    → services joint id ≤ count_by (takes id) (noted_on_rings joint)
 services-are_taken plant scans joint id j =
-    let ring = joint.ring in
+    let ring = noted_on_rings joint in
     let p = takes id in
     let q = serves_another id in
     let ns = controller_nodes plant ++ host_nodes plant in
     let apart : (m : ℕ) → count_by (λ n. m == n) ns ≤ 1 =
     λ m. subst (λ (k : ℕ). k ≤ 1) (counted-member plant m j.is)
-    (once_rising m plant.net.members
-    (AllPairs-from_increasing plant.net.members j.is.net.members.rise)) in
+    (once_rising m (first_net plant).members
+    (AllPairs-from_increasing (first_net plant).members (on-net plant j.is).plan.members.rise)) in
     let there : All (λ e. 1 ≤ count_by (λ n. maker e == n) ns) ring =
     λ k d within. member-station plant (maker (slice_index_or ring k d)) j.is
-    (members plant.net [] ring j.legal.ring k d within) in
+    (members (first_net plant) [] ring (ring-history plant scans joint j).legal k d within) in
     let controllers = subst (λ (nodes : List ℕ). sum_by
     (λ (log : ControllerLog). answers_to id (items_of log.entries)) joint.controllers
     + sum_by (λ n. count_by q (own n ring)) nodes ≤ sum_by (λ n. count_by p (own n ring)) nodes)
@@ -308,5 +313,5 @@ pub served-at_most_once : TakenOnce → ServedAtMostOnce
 served-at_most_once once plant scans joint id is legal tied =
     let j : JointOf plant scans joint = record { is = is; legal = legal; tied = tied } in
     let most = services-are_taken plant scans joint id j in
-    let one = once plant.net joint.ring id (ring-history plant scans joint j) in
+    let one = once (first_net plant) (noted_on_rings joint) id (ring-history plant scans joint j) in
     omega (arith, most, one)

@@ -7,6 +7,7 @@ use Rattle.std.proofs.lemmas.Bool.{and_from, cases_eq, cases_lt, eq-eqb, ne_eqb}
 use Rattle.std.proofs.lemmas.Bool.{true≢false}
 use Rattle.std.proofs.lemmas.List.Elements.{All-contains}
 use Rattle.plant_types.specs.declared.plan.Plant.{Plant}
+use Rattle.plant_types.specs.Plans.{first_net}
 use Rattle.mstr_block.specs.declared.call.CallId.{CallId}
 use Rattle.mstr_block.specs.declared.call.MstrResult.{MstrResult}
 use Rattle.ring_core.specs.declared.entry.LocalOp.{LocalOp}
@@ -28,6 +29,7 @@ use Rattle.joint_history.specs.Effects.{answers_to, does_locally, effects}
 use Rattle.joint_history.specs.JointLaws.{IsTiedController, IsTiedHost}
 use Rattle.joint_history.specs.Reading.{host_items_of, items_of}
 use Rattle.joint_history.proofs.Collected.{CallLaws}
+use Rattle.joint_history.specs.Nets.{noted_on_rings}
 use Rattle.effect_laws.specs.Effects.{AllEffectsAreAtTheirTarget, SuccessTakesEffectOnce}
 use Rattle.effect_laws.specs.Served.{serves_another}
 use Rattle.effect_laws.specs.Targets.{ControllerServes, HostServes}
@@ -45,15 +47,15 @@ use Rattle.effect_laws.proofs.Sources.{behind, in-own, of-own}
 -- a node took the Request of a call, so it was posted to it
 asked-taken : (plant : Plant) (scans : ℕ) (joint : Joint) (id : CallId) (n : ℕ)
     → JointOf plant scans joint
-    → 1 ≤ count_by (takes id) (own n joint.ring) → IsAsked joint.ring id n
+    → 1 ≤ count_by (takes id) (own n (noted_on_rings joint)) → IsAsked (noted_on_rings joint) id n
 asked-taken plant scans joint id n j some =
-    let ring = joint.ring in
+    let ring = noted_on_rings joint in
     let found = count-contains (takes id) (own n ring) some in
     let taken = taken-as id found.0 found.2 in
     let at = of-own n ring found.0 found.1 in
     let there : Contains ring (Take taken.node taken.frame) = subst
     (λ (e : RingEntry). Contains ring e) taken.is at.0 in
-    let target = only-its-target plant.net ring taken.node taken.frame
+    let target = only-its-target (first_net plant) ring taken.node taken.frame
     (ring-history plant scans joint j) (inr there) taken.kind in
     let here : taken.node ≡ n = ap maker (sym taken.is) ∙ at.1 in
     record {
@@ -67,51 +69,55 @@ asked-taken plant scans joint id n j some =
 -- a station that answered did so at the target
 served-asked : (plant : Plant) (scans : ℕ) (joint : Joint) (id : CallId) (n : ℕ)
     (station : Station) (a : Items) → JointOf plant scans joint
-    → Tied station a (own n joint.ring) → 1 ≤ answers_to id a → IsAsked joint.ring id n
+    → Tied station a (own n (noted_on_rings joint)) → 1 ≤ answers_to id a
+    → IsAsked (noted_on_rings joint) id n
 served-asked plant scans joint id n station a j tied some =
-    let all = answers_are_taken id station a (own n joint.ring) tied in
+    let all = answers_are_taken id station a (own n (noted_on_rings joint)) tied in
     asked-taken plant scans joint id n j (omega (arith, all, some))
 
 controller-asked : (plant : Plant) (scans : ℕ) (joint : Joint) (id : CallId) (n : ℕ)
     → JointOf plant scans joint → ControllerServes joint id n
-    → IsAsked joint.ring id n
+    → IsAsked (noted_on_rings joint) id n
 controller-asked plant scans joint id n j (log, there, is, some) =
-    subst (IsAsked joint.ring id) is
+    subst (IsAsked (noted_on_rings joint) id) is
     (served-asked plant scans joint id log.node AController (items_of log.entries) j
-    (All-contains (IsTiedController joint.ring) joint.controllers log j.tied.controllers there)
+    (All-contains (IsTiedController (noted_on_rings joint)) joint.controllers log j.tied.controllers
+    there)
     some)
 
 host-asked : (plant : Plant) (scans : ℕ) (joint : Joint) (id : CallId) (n : ℕ)
     → JointOf plant scans joint → HostServes joint id n
-    → IsAsked joint.ring id n
+    → IsAsked (noted_on_rings joint) id n
 host-asked plant scans joint id n j (log, there, is, some) =
-    subst (IsAsked joint.ring id) is
+    subst (IsAsked (noted_on_rings joint) id) is
     (served-asked plant scans joint id log.node AHost (host_items_of log.entries) j
-    (All-contains (IsTiedHost joint.ring) joint.hosts log j.tied.hosts there) some)
+    (All-contains (IsTiedHost (noted_on_rings joint)) joint.hosts log j.tied.hosts there) some)
 
 -- so did a port that answered for another node
 port-asked : CallLaws → (plant : Plant) (scans : ℕ) (joint : Joint) (id : CallId) (n : ℕ)
     (op : LocalOp) (result : MstrResult)
-    → JointOf plant scans joint → Contains joint.ring (Local n id op result) → id.node ≢ n
-    → IsAsked joint.ring id n
+    → JointOf plant scans joint → Contains (noted_on_rings joint) (Local n id op result)
+    → id.node ≢ n
+    → IsAsked (noted_on_rings joint) id n
 port-asked laws plant scans joint id n op result j there other =
     let e = Local n id op result in
     let seat = seat-at laws plant scans joint n j (member-at plant scans joint e j there) in
-    let mine = in-own n joint.ring e (eq-eqb n n refl) there in
+    let mine = in-own n (noted_on_rings joint) e (eq-eqb n n refl) there in
     let serves : serves_another id e
     ≡ true = and_from _ _ (same-refl id) (ap not (ne_eqb id.node n other)) in
-    let some = contains-count (serves_another id) (own n joint.ring) e serves mine in
-    let all = answers_are_taken id seat.station seat.items (own n joint.ring) seat.tied in
+    let some = contains-count (serves_another id) (own n (noted_on_rings joint)) e serves mine in
+    let all = answers_are_taken id seat.station seat.items (own n (noted_on_rings joint)) seat.tied
+    in
     asked-taken plant scans joint id n j (omega (arith, all, some))
 
 -- ---- what a call does at home it asks of nobody
 
 home-unasked : CallLaws → (plant : Plant) (scans : ℕ) (joint : Joint) (id : CallId) (op : LocalOp)
     (result : MstrResult)
-    → JointOf plant scans joint → Contains joint.ring (Local id.node id op result)
-    → count_by (posts id) joint.ring ≡ 0
+    → JointOf plant scans joint → Contains (noted_on_rings joint) (Local id.node id op result)
+    → count_by (posts id) (noted_on_rings joint) ≡ 0
 home-unasked laws plant scans joint id op result j there =
-    let ring = joint.ring in
+    let ring = noted_on_rings joint in
     let e = Local id.node id op result in
     let seat = seat-at laws plant scans joint id.node j (member-at plant scans joint e j there) in
     let acts : acts_at_home id e ≡ true = and_from _ _ (same-refl id)
@@ -123,24 +129,26 @@ home-unasked laws plant scans joint id op result j there =
     let facts = seat.homes id (omega (arith, some, own_homes, ended, ends_are)) in
     let asked = posted-asked id (own id.node ring) ∙ ap (count_by (is_asked id)) seat.tied.asks
     ∙ facts.none in
-    counted-own (posts id) id.node ring (posted-owns plant.net [] ring id j.legal.ring) ∙ asked
+    counted-own (posts id) id.node ring (posted-owns (first_net plant) [] ring id
+    (ring-history plant scans joint j).legal) ∙ asked
 
 port-target : CallLaws → (plant : Plant) (scans : ℕ) (joint : Joint) (id : CallId) (n : ℕ)
     → JointOf plant scans joint → PortActs joint id n
-    → IsTarget joint.ring id n
+    → IsTarget (noted_on_rings joint) id n
 port-target laws plant scans joint id n j (op, result, there) =
     ⊎_elim
     (λ (home : id.node ≡ n).
     inr (
       home-unasked laws plant scans joint id op result j
-          (subst (λ (k : ℕ). Contains joint.ring (Local k id op result)) (sym home) there),
+          (subst (λ (k : ℕ). Contains (noted_on_rings joint) (Local k id op result)) (sym home)
+          there),
       sym home,
     ))
     (λ (other : id.node ≢ n). inl (port-asked laws plant scans joint id n op result j there other))
     (cases_eq id.node n)
 
 effect-target : CallLaws → (plant : Plant) (scans : ℕ) (joint : Joint) → JointOf plant scans joint
-    → (id : CallId) (n : ℕ) → TakesEffectAt joint id n → IsTarget joint.ring id n
+    → (id : CallId) (n : ℕ) → TakesEffectAt joint id n → IsTarget (noted_on_rings joint) id n
 effect-target laws plant scans joint j id n (inl controller) =
     inl (controller-asked plant scans joint id n j controller)
 effect-target laws plant scans joint j id n (inr (inl host)) =
@@ -155,22 +163,24 @@ posted-frame n m f g is = cc
 
 one-target : (plant : Plant) (scans : ℕ) (joint : Joint) → JointOf plant scans joint
     → (id : CallId) (n other : ℕ)
-    → IsTarget joint.ring id n → IsTarget joint.ring id other → n ≡ other
+    → IsTarget (noted_on_rings joint) id n → IsTarget (noted_on_rings joint) id other → n ≡ other
 one-target plant scans joint j id n other (inl one) (inl two) =
-    let once = posted-once plant.net joint.ring id (ring-history plant scans joint j) in
-    let same = only-one (posts id) joint.ring (Post id.node one.request) (Post id.node two.request)
+    let once = posted-once (first_net plant) (noted_on_rings joint) id
+    (ring-history plant scans joint j) in
+    let same = only-one (posts id) (noted_on_rings joint) (Post id.node one.request)
+    (Post id.node two.request)
     once
     (asks-this id one.request one.kind one.same) (asks-this id two.request two.kind two.same)
     one.posted two.posted in
     sym one.to ∙ ap (λ (f : Frame). f.to)
     (posted-frame id.node id.node one.request two.request same) ∙ two.to
 one-target plant scans joint j id n other (inl one) (inr two) =
-    let some = contains-count (posts id) joint.ring (Post id.node one.request)
+    let some = contains-count (posts id) (noted_on_rings joint) (Post id.node one.request)
     (asks-this id one.request one.kind one.same) one.posted in
     let none = two.0 in
     absurd (omega (arith, some, none))
 one-target plant scans joint j id n other (inr one) (inl two) =
-    let some = contains-count (posts id) joint.ring (Post id.node two.request)
+    let some = contains-count (posts id) (noted_on_rings joint) (Post id.node two.request)
     (asks-this id two.request two.kind two.same) two.posted in
     let none = one.0 in
     absurd (omega (arith, some, none))
@@ -229,16 +239,16 @@ at-host joint id some =
     some in
     (found.0.node, inr (inl (found.0, found.1, refl, found.2)))
 
-at-port : (joint : Joint) (id : CallId) → 1 ≤ count_by (does_locally id) joint.ring
+at-port : (joint : Joint) (id : CallId) → 1 ≤ count_by (does_locally id) (noted_on_rings joint)
     → (n : ℕ) × TakesEffectAt joint id n
 at-port joint id some =
-    let found = count-contains (does_locally id) joint.ring some in
+    let found = count-contains (does_locally id) (noted_on_rings joint) some in
     let a = acts id found.0 found.2 in (
       a.node,
       inr (inr (
         a.op,
         a.result,
-        subst (λ (e : RingEntry). Contains joint.ring e) a.is
+        subst (λ (e : RingEntry). Contains (noted_on_rings joint) e) a.is
             found.1,
       )),
     )

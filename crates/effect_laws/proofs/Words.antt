@@ -11,6 +11,7 @@ use Rattle.std.proofs.lemmas.List.Elements.{Contains-append_right, Contains-push
 use Rattle.std.proofs.lemmas.List.Elements.{Contains-push_cases}
 use Rattle.plant_types.specs.declared.net.NetPlan.{NetPlan}
 use Rattle.plant_types.specs.declared.plan.Plant.{Plant}
+use Rattle.plant_types.specs.Plans.{first_net}
 use Rattle.mstr_block.specs.Call.{is_same_call}
 use Rattle.mstr_block.specs.declared.call.CallId.{CallId}
 use Rattle.mstr_block.specs.declared.call.MstrResult.{MstrResult}
@@ -41,6 +42,7 @@ use Rattle.joint_history.specs.declared.joint.Joint.{Joint}
 use Rattle.joint_history.specs.JointLaws.{IsTiedController, fixed_of}
 use Rattle.joint_history.specs.Reading.{items_of}
 use Rattle.joint_history.proofs.Collected.{CallLaws}
+use Rattle.joint_history.specs.Nets.{noted_on_rings}
 use Rattle.effect_laws.specs.Effects.{NoFinishHas3000}
 use Rattle.effect_laws.proofs.Asks.{IsAskOf, IsFitAnswer, controller-fits}
 use Rattle.effect_laws.proofs.Fits.{Fitting, NetAsk, port-fits, port-good}
@@ -250,11 +252,11 @@ record FitsLast (id : CallId) (before : List RingEntry) (reply : List ℕ) : Typ
 reply-fits : CallLaws → (plant : Plant) (scans : ℕ) (joint : Joint) (log : ControllerLog)
     (before after : List RingEntry) (m : ℕ) (f : Frame)
     → JointOf plant scans joint → Contains joint.controllers log
-    → own log.node joint.ring ≡ before ++ Take m f ∷ after → f.kind ≡ Reply
+    → own log.node (noted_on_rings joint) ≡ before ++ Take m f ∷ after → f.kind ≡ Reply
     → FitsLast f.id before f.pdu
 reply-fits laws plant scans joint log before after m f j there is kind =
-    let net = plant.net in
-    let ring = joint.ring in
+    let net = first_net plant in
+    let ring = noted_on_rings joint in
     let n = log.node in
     let b = own n ring in
     let history = ring-history plant scans joint j in
@@ -308,7 +310,7 @@ reply-fits laws plant scans joint log before after m f j there is kind =
     (λ (port : Contains (port_answers (own a.by ring)) o.answer).
     let local = of-map answered_of (own a.by ring) o.answer port in
     port-of net local.0 o.answer w.last.pdu
-    (each-contains (TellsTruly net) ring local.0 (truly net [] ring j.legal.ring)
+    (each-contains (TellsTruly net) ring local.0 (truly net [] ring history.legal)
     (of-own a.by ring local.0 local.1).0) local.2 asked f.pdu o.told)
     o.among in
     record {
@@ -333,7 +335,7 @@ bad-same word is = cc
 pub no-3000 : CallLaws → NoFinishHas3000
 no-3000 laws plant scans joint is legal tied log id result there finished bad =
     let j : JointOf plant scans joint = record { is = is; legal = legal; tied = tied } in
-    let ring = joint.ring in
+    let ring = noted_on_rings joint in
     let b = own log.node ring in
     let t = All-contains (IsTiedController ring) joint.controllers log tied.controllers there in
     let told = finish-ends log.entries id result finished in
@@ -348,21 +350,25 @@ no-3000 laws plant scans joint is legal tied log id result there finished bad =
   where
     by : JointOf plant scans joint → (end' : Ended) → end'.outcome ≡ Came (Bad 0x3000)
         → (before after : List RingEntry) (e : RingEntry)
-        → own log.node joint.ring ≡ before ++ e ∷ after → Contains joint.ring e
+        → own log.node (noted_on_rings joint) ≡ before ++ e ∷ after
+        → Contains (noted_on_rings joint) e
         → EndedBy AController (asked_by before) e end' → ⊥
     by j end' out before after e b_is in' (by_reply m f entry kind name outcome) =
         let fit = reply-fits laws plant scans joint log before after m f j there
-        (subst (λ (x : RingEntry). own log.node joint.ring ≡ before ++ x ∷ after) entry b_is)
+        (subst (λ (x : RingEntry). own log.node (noted_on_rings joint) ≡ before ++ x ∷ after) entry
+        b_is)
         kind in
         fit.fits (sym (ap (λ o. result_for o f.pdu) fit.last) ∙ came-same _ _ (outcome ∙ out))
     by j end' out before after e b_is in' (by_word word entry outcome) =
         let word_is = bad-same word (came-same (Bad word) (Bad 0x3000) (outcome ∙ out)) in
         fail-word (subst IsFailWord word_is
-        (given-up-word plant.net joint.ring end'.id word (ring-history plant scans joint j)
-        (subst (λ (x : RingEntry). Contains joint.ring x) entry in')))
+        (given-up-word (first_net plant) (noted_on_rings joint) end'.id word
+        (ring-history plant scans joint j)
+        (subst (λ (x : RingEntry). Contains (noted_on_rings joint) x) entry in')))
     by j end' out before after e b_is in' (by_port m op told entry mine outcome) =
-        let true' = each-contains (TellsTruly plant.net) joint.ring (Local m end'.id op told)
-        (truly plant.net [] joint.ring j.legal.ring)
-        (subst (λ (x : RingEntry). Contains joint.ring x) entry in') in
-        port-good plant.net true'.0 m op
+        let true' = each-contains (TellsTruly (first_net plant)) (noted_on_rings joint)
+        (Local m end'.id op told)
+        (truly (first_net plant) [] (noted_on_rings joint) (ring-history plant scans joint j).legal)
+        (subst (λ (x : RingEntry). Contains (noted_on_rings joint) x) entry in') in
+        port-good (first_net plant) true'.0 m op
         (sym true'.1 ∙ came-same told (Bad 0x3000) (outcome ∙ out))

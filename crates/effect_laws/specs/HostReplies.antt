@@ -11,6 +11,7 @@ use Rattle.tied_lists.specs.Items.{request_of, reply_of}
 use Rattle.joint_history.specs.declared.joint.ControllerLog.{ControllerLog}
 use Rattle.joint_history.specs.declared.joint.HostLog.{HostLog}
 use Rattle.joint_history.specs.declared.joint.Joint.{Joint}
+use Rattle.joint_history.specs.Nets.{noted_on_rings}
 
 -- A node answered the request of a call with this reply: its controller or its host did, or its own
 -- port, which was asked for statistics or to clear them.
@@ -26,7 +27,7 @@ HostAnswers joint n id request reply =
 
 abbrev pub PortAnswers : Joint → ℕ → CallId → List ℕ → List ℕ → Type 0
 PortAnswers joint n id request reply =
-    (op : LocalOp) × (result : MstrResult) × Contains joint.ring (Local n id op result)
+    (op : LocalOp) × (result : MstrResult) × Contains (noted_on_rings joint) (Local n id op result)
     × (request_of op ≡ Some request) × (reply_of result ≡ reply)
 
 abbrev pub NodeAnswers : Joint → ℕ → CallId → List ℕ → List ℕ → Type 0

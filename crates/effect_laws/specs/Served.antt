@@ -13,6 +13,7 @@ use Rattle.joint_history.specs.declared.joint.Joint.{Joint}
 use Rattle.joint_history.specs.Effects.{answers_to}
 use Rattle.joint_history.specs.JointLaws.{IsJoint, IsLegalJoint}
 use Rattle.joint_history.specs.Reading.{items_of, host_items_of}
+use Rattle.joint_history.specs.Nets.{noted_on_rings}
 
 -- A node's own port did what a call of another node asks.
 abbrev pub serves_another : CallId → RingEntry → Bool
@@ -24,7 +25,7 @@ abbrev pub services : Joint → CallId → ℕ
 services joint id =
     (sum_by (λ (log : ControllerLog). answers_to id (items_of log.entries)) joint.controllers
     + sum_by (λ (log : HostLog). answers_to id (host_items_of log.entries)) joint.hosts)
-    + count_by (serves_another id) joint.ring
+    + count_by (serves_another id) (noted_on_rings joint)
 
 -- In a legal joint history whose lists keep the laws between them, at most once.
 abbrev pub ServedAtMostOnce : Type 0

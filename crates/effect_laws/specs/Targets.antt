@@ -13,6 +13,7 @@ use Rattle.joint_history.specs.declared.joint.HostLog.{HostLog}
 use Rattle.joint_history.specs.declared.joint.Joint.{Joint}
 use Rattle.joint_history.specs.Effects.{answers_to}
 use Rattle.joint_history.specs.Reading.{items_of, host_items_of}
+use Rattle.joint_history.specs.Nets.{noted_on_rings}
 use Rattle.effect_laws.specs.Success.{ReportsSuccess}
 
 -- The caller posted the Request of a call to this node.
@@ -42,7 +43,7 @@ HostServes joint id n =
 
 abbrev pub PortActs : Joint → CallId → ℕ → Type 0
 PortActs joint id n =
-    (op : LocalOp) × (result : MstrResult) × Contains joint.ring (Local n id op result)
+    (op : LocalOp) × (result : MstrResult) × Contains (noted_on_rings joint) (Local n id op result)
 
 abbrev pub TakesEffectAt : Joint → CallId → ℕ → Type 0
 TakesEffectAt joint id n =
@@ -51,8 +52,9 @@ TakesEffectAt joint id n =
 -- A call has one target at most, all its effects are there, and one that reports success has an
 -- effect there.
 pub record EffectsAreAtTarget (joint : Joint) : Type 0 where
-  pub one : (id : CallId) (n other : ℕ) → IsTarget joint.ring id n
-      → IsTarget joint.ring id other → n ≡ other
-  pub effects : (id : CallId) (n : ℕ) → TakesEffectAt joint id n → IsTarget joint.ring id n
+  pub one : (id : CallId) (n other : ℕ) → IsTarget (noted_on_rings joint) id n
+      → IsTarget (noted_on_rings joint) id other → n ≡ other
+  pub effects : (id : CallId) (n : ℕ) → TakesEffectAt joint id n
+      → IsTarget (noted_on_rings joint) id n
   pub success : (id : CallId) → ReportsSuccess joint id
-      → (n : ℕ) × IsTarget joint.ring id n × TakesEffectAt joint id n
+      → (n : ℕ) × IsTarget (noted_on_rings joint) id n × TakesEffectAt joint id n

@@ -16,6 +16,7 @@ use Rattle.entry_causes.specs.Joint.{IsHostInTime, JointIsInOneOrder}
 use Rattle.one_order.proofs.Merges.{nothing-due, noted-first, done-first}
 use Rattle.entry_causes.proofs.Nodes.{joint-apart}
 use Rattle.entry_causes.proofs.Stations.{one-order}
+use Rattle.joint_history.specs.Nets.{noted_on_rings}
 
 -- entries of one sort among those of both
 module _ {X : Type 0} (f : X → StationEntry) where
@@ -68,7 +69,8 @@ hosts-timely ring (log ∷ logs) all = (
 
 pub joint-order : JointIsInOneOrder
 joint-order plant scans joint sound legal x =
-    one-order joint.ring (logs_of joint) (joint-apart plant scans joint sound legal)
-    (both-timely joint.ring (map controller_log joint.controllers) (map host_log joint.hosts)
-    (controllers-timely joint.ring joint.controllers x.controllers)
-    (hosts-timely joint.ring joint.hosts x.hosts))
+    one-order (noted_on_rings joint) (logs_of joint) (joint-apart plant scans joint sound legal)
+    (both-timely (noted_on_rings joint) (map controller_log joint.controllers)
+    (map host_log joint.hosts)
+    (controllers-timely (noted_on_rings joint) joint.controllers x.controllers)
+    (hosts-timely (noted_on_rings joint) joint.hosts x.hosts))

@@ -1,16 +1,11 @@
 -- No two stations of a plant's joint history have one node.
-use Rattle.std.proofs.Common.{◌≡◌, ◌≢◌, ℕ, false, List, [], ◌∷◌, ◌++◌, map, get_or, refl}
-use Rattle.std.proofs.Common.{sym, ap, subst, ◌∙◌, arith, ⊎_elim}
+use Rattle.std.proofs.Common.{◌≡◌, ℕ, false, List, [], ◌∷◌, ◌++◌, map, refl, sym, ap, subst, ◌∙◌}
 use Rattle.std.specs.List.{AllByRecursion as Each, AllZip, IsDistinct}
-use Rattle.std.specs.List.Sorted.{IsStrictlyIncreasing}
 use Rattle.std.proofs.Math.Dec.{eqb}
-use Rattle.std.proofs.lemmas.Bool.{cases_eq, eq-eqb, ne_eqb}
-use Rattle.std.proofs.lemmas.List.Kept.{AllPairs-from_increasing}
-use Rattle.std.proofs.lemmas.List.Sorted.{IsPermutation-sym}
-use Rattle.std.proofs.lemmas.Map.Keys.{IsDistinct-IsPermutation, IsDistinct-from_apart}
+use Rattle.std.proofs.lemmas.Bool.{eq-eqb}
 use Rattle.std.proofs.lemmas.Map.Keys.{IsDistinct-head, IsDistinct-tail}
 use Rattle.plant_types.specs.declared.plan.Plant.{Plant}
-use Rattle.plant_types.specs.Plans.{IsPlant, controller_nodes, host_nodes}
+use Rattle.plant_types.specs.Plans.{IsPlant, controller_nodes, host_nodes, end_nodes}
 use Rattle.joint_history.specs.declared.joint.Joint.{Joint}
 use Rattle.joint_history.specs.JointLaws.{IsLegalHostLog, IsLegalJoint, IsLegalLog}
 use Rattle.one_order.specs.Orders.{Log, HaveNodesApart, NotAmong}
@@ -35,14 +30,17 @@ apart {E} (log ∷ logs) distinct = (
   apart logs (IsDistinct-tail eqb log.node (map (λ (l : Log E). l.node) logs) distinct),
 )
 
-flips : (x y : ℕ) → eqb x y ≡ eqb y x
-flips x y = ⊎_elim (λ (same : x ≡ y). eq-eqb x y same ∙ sym (eq-eqb y x (sym same)))
-    (λ (other : x ≢ y). ne_eqb x y other ∙ sym (ne_eqb y x (λ e. other (sym e)))) (cases_eq x y)
+each-front : {X : Type 0} (P : X → Type 0) (xs ys : List X) → Each P (xs ++ ys) → Each P xs
+each-front P [] ys all = tt
+each-front P (x ∷ xs) ys all = (all.0, each-front P xs ys all.1)
 
-rising-distinct : (xs : List ℕ) → IsStrictlyIncreasing xs → IsDistinct eqb xs
-rising-distinct xs rising = IsDistinct-from_apart eqb xs (λ i j d less low.
-    let l = AllPairs-from_increasing xs rising i j d less low in
-    ne_eqb (get_or xs i d) (get_or xs j d) (omega (arith, l)))
+distinct-front : (xs ys : List ℕ) → IsDistinct eqb (xs ++ ys) → IsDistinct eqb xs
+unfolding IsDistinct
+distinct-front [] ys distinct = tt
+distinct-front (x ∷ xs) ys distinct = (
+  each-front (λ y. eqb x y ≡ false) xs ys distinct.0,
+  distinct-front xs ys distinct.1,
+)
 
 nodes-are : {P L E : Type 0} (R : P → L → Type 0) (plan_node : P → ℕ) (log_of : L → Log E)
     → ((p : P) (l : L) → R p l → (log_of l).node ≡ plan_node p)
@@ -69,7 +67,4 @@ joint-apart plant scans joint sound legal =
     apart (logs_of joint) (subst (IsDistinct eqb)
     (sym (map-both (λ log. log.node) (map controller_log joint.controllers)
     (map host_log joint.hosts) ∙ (λ i. one i ++ two i)))
-    (IsDistinct-IsPermutation eqb flips plant.net.members
-    (controller_nodes plant ++ host_nodes plant)
-    (IsPermutation-sym (controller_nodes plant ++ host_nodes plant) plant.net.members
-    sound.members) (rising-distinct plant.net.members sound.net.members.rise)))
+    (distinct-front (controller_nodes plant ++ host_nodes plant) (end_nodes plant) sound.once))

@@ -14,6 +14,7 @@ use Rattle.one_order.specs.Orders.{Log, HasOneOrder}
 use Rattle.entry_causes.specs.Causes.{StationEntry, ByController, ByHost, no_notes, no_deeds}
 use Rattle.entry_causes.specs.Causes.{note, deed, AreCaused}
 use Rattle.entry_causes.specs.InTime.{InTime, HostInTime}
+use Rattle.joint_history.specs.Nets.{noted_on_rings}
 
 -- The list of a controller, under its node.
 abbrev pub controller_log : ControllerLog → Log StationEntry
@@ -30,7 +31,7 @@ logs_of joint = map controller_log joint.controllers ++ map host_log joint.hosts
 -- There is one order of all entries of a joint history, in which each stands behind its cause.
 abbrev pub IsInOneOrder : Joint → Type 0
 IsInOneOrder joint =
-    HasOneOrder maker note deed AreCaused no_notes no_deeds joint.ring (logs_of joint)
+    HasOneOrder maker note deed AreCaused no_notes no_deeds (noted_on_rings joint) (logs_of joint)
 
 -- A controller is in time with its node on the ring, and a host is.
 abbrev pub IsControllerInTime : List RingEntry → ControllerLog → Type 0
@@ -41,8 +42,8 @@ IsHostInTime ring log = HostInTime log.entries (own log.node ring)
 
 -- Each station of a joint history is.
 pub record StationsAreInTime (joint : Joint) : Type 0 where
-  pub controllers : All (IsControllerInTime joint.ring) joint.controllers
-  pub hosts : All (IsHostInTime joint.ring) joint.hosts
+  pub controllers : All (IsControllerInTime (noted_on_rings joint)) joint.controllers
+  pub hosts : All (IsHostInTime (noted_on_rings joint)) joint.hosts
 
 -- Then there is one order, where it is a plant's, whose nodes are apart.
 abbrev pub JointIsInOneOrder : Type 0

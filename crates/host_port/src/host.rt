@@ -17,14 +17,13 @@ use crate::entry::{HostEntry, HostResult};
 use modbus_pdu::{ILLEGAL_FUNCTION, Reply, encode_reply};
 use mstr_block::CallId;
 use plant_types::{
-    Copied, HostAsk, HostPlan, List, NETWORK_PATHS, NetPlan, PATH_PLACES, Pdu, Route,
+    Copied, HostAsk, HostPlan, List, NETWORK_PATH_COUNT, NETWORK_PATHS, NetPlan, Pdu, Route,
 };
 use ring_core::{Frame, is_path};
 use std::alloc::{AllocError, Global};
 use std::marker::Model;
 
 /// How many paths by the network a host has.
-const PATHS: usize = PATH_PLACES - 1;
 
 /// One of the paths, as far as it was used.
 #[derive(Clone, Copy, Drop)]
@@ -41,7 +40,7 @@ pub struct Host {
     alloc: Global,
     plan: HostPlan,
     made: usize,
-    paths: [Path; PATHS],
+    paths: [Path; NETWORK_PATH_COUNT],
     history: Vec<HostEntry>,
 }
 
@@ -74,7 +73,10 @@ fn are_free(paths: &[Path]) -> bool
 }
 
 /// The paths behind an entry.
-fn paths_after(mut paths: [Path; PATHS], entry: &HostEntry) -> [Path; PATHS]
+fn paths_after(
+    mut paths: [Path; NETWORK_PATH_COUNT],
+    entry: &HostEntry,
+) -> [Path; NETWORK_PATH_COUNT]
     requires { HasPath entry.now }
     ensures { result ≡ paths_after paths entry.now }
 {
@@ -110,7 +112,7 @@ impl Host {
             alloc,
             plan: plan.copied(alloc)?,
             made: 0,
-            paths: [unused; PATHS],
+            paths: [unused; NETWORK_PATH_COUNT],
             history: Vec::new(alloc),
         })
     }

@@ -4,3 +4,5 @@ pub mod Items
 pub mod Fails
 pub mod Read2
 pub mod PowerFails
+pub mod OneRing
+mod BridgeRead

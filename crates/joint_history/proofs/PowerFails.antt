@@ -17,12 +17,13 @@ use Rattle.controller_core.specs.declared.entry.Entry.{Entry}
 use Rattle.controller_core.specs.declared.entry.Entry.TheVariants.{Begin, Solve, End, Fail, Off}
 use Rattle.controller_core.specs.declared.entry.Entry.TheVariants.{Collect, Peer, Finish}
 use Rattle.tied_lists.specs.Own.{own}
-use Rattle.tied_lists.specs.Items.{AController, Items, latest_down}
+use Rattle.tied_lists.specs.Items.{AController}
 use Rattle.tied_lists.specs.Tied.{Tied}
 use Rattle.joint_history.specs.declared.joint.ControllerLog.{ControllerLog}
 use Rattle.joint_history.specs.Complete.{NoticesFailures, replies_due}
 use Rattle.joint_history.specs.Effects.{effects}
 use Rattle.joint_history.specs.Reading.{items_of}
+use Rattle.joint_history.proofs.OneRing.{on_one_ring}
 
 abbrev id-of : ℕ → CallId
 id-of seq = record { node = 2; path = 1; seq = seq }
@@ -81,7 +82,7 @@ failing-tied = record {
 abbrev both : List ControllerLog
 both = record { node = 2; entries = reader } ∷ record { node = 5; entries = failing } ∷ []
 
-none : effects (record { controllers = both; hosts = []; ring = ring }) (id-of 1) ≡ 0
+none : effects (on_one_ring both ring) (id-of 1) ≡ 0
 none = refl
 
 failing-noticed : NoticesFailures (items_of failing) (own 5 ring)
@@ -118,10 +119,10 @@ serves-tied = record {
 abbrev one : List ControllerLog
 one = record { node = 5; entries = serves } ∷ []
 
-no-effect : effects (record { controllers = one; hosts = []; ring = served }) (id-of 1) ≡ 0
+no-effect : effects (on_one_ring one served) (id-of 1) ≡ 0
 no-effect = refl
 
-one-effect : effects (record { controllers = one; hosts = []; ring = served }) (id-of 2) ≡ 1
+one-effect : effects (on_one_ring one served) (id-of 2) ≡ 1
 one-effect = refl
 
 one-due : replies_due (items_of serves) served served ≡ 1

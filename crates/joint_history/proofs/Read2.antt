@@ -20,6 +20,7 @@ use Rattle.tied_lists.specs.Tied.{Tied}
 use Rattle.joint_history.specs.declared.joint.ControllerLog.{ControllerLog}
 use Rattle.joint_history.specs.Effects.{effects}
 use Rattle.joint_history.specs.Reading.{items_of}
+use Rattle.joint_history.proofs.OneRing.{on_one_ring}
 
 abbrev id : CallId
 id = record { node = 2; path = 1; seq = 1 }
@@ -72,5 +73,5 @@ target-tied = record {
 abbrev both : List ControllerLog
 both = record { node = 2; entries = reader } ∷ record { node = 5; entries = target } ∷ []
 
-once : effects (record { controllers = both; hosts = []; ring = ring }) id ≡ 1
+once : effects (on_one_ring both ring) id ≡ 1
 once = refl

@@ -6,6 +6,7 @@ use Rattle.mstr_block.specs.Call.{is_same_call}
 use Rattle.plant_types.specs.declared.net.NetPlan.{NetPlan}
 use Rattle.plant_types.specs.declared.net.HostAsk.{HostAsk}
 use Rattle.plant_types.specs.declared.net.HostPlan.{HostPlan}
+use Rattle.plant_types.specs.declared.net.BridgePlan.{BridgePlan}
 use Rattle.plant_types.specs.declared.plan.ControllerPlan.{ControllerPlan}
 use Rattle.plant_types.specs.declared.plan.Plant.{Plant}
 use Rattle.ring_core.specs.declared.frame.FrameKind.TheVariants.{Request, Reply}
@@ -22,11 +23,15 @@ use Rattle.controller_core.specs.declared.fixed.Fixed.{Fixed}
 use Rattle.controller_core.specs.declared.entry.Entry.{Entry}
 use Rattle.controller_core.specs.declared.entry.Entry.TheVariants.{End, Fail, Dark}
 use Rattle.controller_core.specs.Replay.{replay}
+use Rattle.bridge_relay.specs.declared.entry.BridgeEntry.{BridgeEntry}
+use Rattle.bridge_relay.specs.declared.entry.BridgeEntry.TheVariants as entries
 use Rattle.joint_history.specs.declared.joint.ControllerLog.{ControllerLog}
 use Rattle.joint_history.specs.declared.joint.HostLog.{HostLog}
+use Rattle.joint_history.specs.declared.joint.BridgeLog.{BridgeLog}
 use Rattle.joint_history.specs.declared.joint.Joint.{Joint}
 use Rattle.joint_history.specs.JointLaws.{fixed_of}
-use Rattle.joint_history.specs.Nets.{net_of}
+use Rattle.joint_history.specs.Nets.{net_of, noted_on_rings}
+use Rattle.joint_history.specs.Bridges.{side_items}
 use Rattle.joint_history.specs.Reading.{items_of, host_items_of, has_started_at}
 
 -- Each call that a station made has ended, once.
@@ -142,8 +147,44 @@ IsCompleteHostLog plant ring plan log =
     × (status_at (net_of plant log.node) ring log.node ≡ Gone)
     × NodeIsComplete (host_items_of log.entries) (own log.node ring)
 
--- A run is complete: all stations are.
+-- An end of a bridge asks nothing and gives nothing up.
+abbrev pub IsQuiet : RingEntry → Type 0
+IsQuiet (Post n frame) = frame.kind ≡ Reply
+IsQuiet (GiveUp id word) = ⊥
+IsQuiet (Local n id op result) = id.node ≢ n
+IsQuiet _ = Unit {0}
+
+-- A Pass, if it is one, says done.
+abbrev pub SaysDone : RingEntry → Type 0
+SaysDone (Pass n done words) = done ≡ true
+SaysDone _ = Unit {0}
+
+-- Where an end left as all was done it was quiet from the first of the done Passes on that stand in
+-- an unbroken row before.
+abbrev pub LeavesQuietly : List RingEntry → Type 0
+LeavesQuietly ring = (before between after : List RingEntry) (n m : ℕ) (words : List ℕ)
+    → StandsIn ring (before ++ Pass m true words ∷ between) (Leave n AllDone) after
+    → All SaysDone between → All IsQuiet between
+
+-- An end of a bridge is complete: each call that it sent on has ended, once, it has left for good, in
+-- its bridge's list and on the ring, and it was quiet before.
+pub record EndIsComplete (net : NetPlan) (ring : List RingEntry) (list : List BridgeEntry) (side : ℕ)
+    : Type 0 where
+  pub finished : EndsEachCall (side_items side list)
+  pub gone : Contains list (entries.Gone side)
+  pub left : status_at net ring side ≡ Gone
+  pub quiet : LeavesQuietly (own side ring)
+
+-- Both ends of a bridge are complete.
+abbrev pub IsCompleteBridgeLog : Plant → List RingEntry → BridgePlan → BridgeLog → Type 0
+IsCompleteBridgeLog plant ring plan log =
+    EndIsComplete (net_of plant log.left) ring log.entries log.left
+    × EndIsComplete (net_of plant log.right) ring log.entries log.right
+
+-- A run is complete: all stations and all bridges are.
 pub record IsComplete (plant : Plant) (scans : ℕ) (joint : Joint) : Type 0 where
-  pub controllers : AllZip (IsCompleteLog plant scans joint.ring) plant.controllers
+  pub controllers : AllZip (IsCompleteLog plant scans (noted_on_rings joint)) plant.controllers
       joint.controllers
-  pub hosts : AllZip (IsCompleteHostLog plant joint.ring) plant.hosts joint.hosts
+  pub hosts : AllZip (IsCompleteHostLog plant (noted_on_rings joint)) plant.hosts joint.hosts
+  pub bridges : AllZip (IsCompleteBridgeLog plant (noted_on_rings joint)) plant.bridges
+      joint.bridges

@@ -9,6 +9,7 @@ use Rattle.tied_lists.specs.Items.{Answered, Items}
 use Rattle.joint_history.specs.declared.joint.ControllerLog.{ControllerLog}
 use Rattle.joint_history.specs.declared.joint.HostLog.{HostLog}
 use Rattle.joint_history.specs.declared.joint.Joint.{Joint}
+use Rattle.joint_history.specs.Nets.{noted_on_rings}
 use Rattle.joint_history.specs.Reading.{items_of, host_items_of}
 
 -- What was answered with a reply; a request that came without power was not, and had no effect.
@@ -34,4 +35,4 @@ abbrev pub effects : Joint → CallId → ℕ
 effects joint id =
     sum_by (λ (log : ControllerLog). answers_to id (items_of log.entries)) joint.controllers
     + sum_by (λ (log : HostLog). answers_to id (host_items_of log.entries)) joint.hosts
-    + count_by (does_locally id) joint.ring
+    + count_by (does_locally id) (noted_on_rings joint)

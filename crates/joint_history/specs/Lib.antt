@@ -1,5 +1,6 @@
 pub mod Nets
 pub mod Reading
+pub mod Bridges
 pub mod JointLaws
 pub mod Complete
 pub mod Effects

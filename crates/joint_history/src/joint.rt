@@ -1,4 +1,7 @@
-//! What all stations of a plant and their ring noted.
+//! What all stations of a plant, its bridges and its rings noted.
+ghost use Rattle.std.specs.Prelude.{◌≡◌, ◌∷◌, [], IfOk};
+
+use bridge_relay::BridgeEntry;
 use controller_core::Entry;
 use host_port::HostEntry;
 use plant_types::{Copied, List};
@@ -19,12 +22,28 @@ pub struct HostLog {
     pub entries: List<HostEntry>,
 }
 
-/// The joint history of a plant: one list per station and one of the ring. This project's own.
+/// The history of a bridge, under the addresses of its two ends.
+#[derive(Drop)]
+pub struct BridgeLog {
+    pub left: u8,
+    pub right: u8,
+    pub entries: List<BridgeEntry>,
+}
+
+/// The history of a ring, under the number of its network.
+#[derive(Drop)]
+pub struct RingLog {
+    pub network: u8,
+    pub entries: List<RingEntry>,
+}
+
+/// The joint history of a plant: one list per station, per bridge and per ring. This project's own.
 #[derive(Drop)]
 pub struct Joint {
     pub controllers: List<ControllerLog>,
     pub hosts: List<HostLog>,
-    pub ring: List<RingEntry>,
+    pub bridges: List<BridgeLog>,
+    pub rings: List<RingLog>,
 }
 
 impl Copied for ControllerLog {
@@ -45,12 +64,46 @@ impl Copied for HostLog {
     }
 }
 
+impl Copied for BridgeLog {
+    fn copied(&self, alloc: Global) -> Result<Self, AllocError> {
+        Ok(BridgeLog {
+            left: self.left,
+            right: self.right,
+            entries: self.entries.copied(alloc)?,
+        })
+    }
+}
+
+impl Copied for RingLog {
+    fn copied(&self, alloc: Global) -> Result<Self, AllocError> {
+        Ok(RingLog {
+            network: self.network,
+            entries: self.entries.copied(alloc)?,
+        })
+    }
+}
+
 impl Copied for Joint {
     fn copied(&self, alloc: Global) -> Result<Self, AllocError> {
         Ok(Joint {
             controllers: self.controllers.copied(alloc)?,
             hosts: self.hosts.copied(alloc)?,
-            ring: self.ring.copied(alloc)?,
+            bridges: self.bridges.copied(alloc)?,
+            rings: self.rings.copied(alloc)?,
         })
     }
+}
+
+/// The history of a plant's one ring, as a list.
+pub fn one_ring(
+    alloc: Global,
+    network: u8,
+    entries: List<RingEntry>,
+) -> Result<List<RingLog>, AllocError>
+    ensures { IfOk result
+        (λ rings. rings ≡ record { network = network; entries = entries } ∷ []) }
+{
+    let mut rings = List::new(alloc);
+    rings.push(RingLog { network, entries })?;
+    Ok(rings)
 }

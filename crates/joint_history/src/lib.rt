@@ -4,5 +4,5 @@
 mod joint;
 mod noted;
 
-pub use joint::{ControllerLog, HostLog, Joint};
+pub use joint::{BridgeLog, ControllerLog, HostLog, Joint, RingLog, one_ring};
 pub use noted::Noted;

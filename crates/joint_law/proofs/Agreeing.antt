@@ -4,38 +4,42 @@ use Rattle.std.proofs.Common.{length, get_or, map, take, drop, eqb}
 use Rattle.std.proofs.Common.{refl, sym, ap, subst, ◌∙◌, ⊎_elim, arith}
 use Rattle.std.specs.Prelude.{◌==◌, if◌then◌else◌}
 use Rattle.std.specs.List.{All, Any, IsDistinct, zip}
-use Rattle.std.specs.List.Sorted.{IsStrictlyIncreasing}
 use Rattle.std.proofs.Math.ListN.{get_or-map}
-use Rattle.std.proofs.lemmas.Bool.{cases_eq, cases_lt, eq-eqb, ne_eqb}
-use Rattle.std.proofs.lemmas.List.{get_or_default, length-map, map-append, take-append-drop}
-use Rattle.std.proofs.lemmas.List.{take-take}
-use Rattle.std.proofs.lemmas.List.Kept.{AllPairs-from_increasing}
-use Rattle.std.proofs.lemmas.List.Sorted.{IsPermutation-sym}
-use Rattle.std.proofs.lemmas.Map.Keys.{IsDistinct-IsPermutation, IsDistinct-from_apart}
-use Rattle.std.proofs.lemmas.Map.Keys.{apart_from_distinct}
+use Rattle.std.proofs.lemmas.Bool.{cases_eq, cases_lt, eq-eqb}
+use Rattle.std.proofs.lemmas.List.{get_or_append_left, get_or_default, length-append, length-map}
+use Rattle.std.proofs.lemmas.List.{map-append, take-append-drop, take-take}
+use Rattle.std.proofs.lemmas.Map.Keys.{IsDistinct-from_apart, apart_from_distinct}
+use Rattle.plant_types.specs.declared.net.BridgePlan.{BridgePlan}
 use Rattle.plant_types.specs.declared.net.HostPlan.{HostPlan}
+use Rattle.plant_types.specs.declared.net.NetPlan.{NetPlan}
 use Rattle.plant_types.specs.declared.plan.ControllerPlan.{ControllerPlan}
 use Rattle.plant_types.specs.declared.plan.Plant.{Plant}
-use Rattle.plant_types.specs.Plans.{IsPlant, controller_nodes, host_nodes}
+use Rattle.plant_types.specs.Plans.{IsPlant, controller_nodes, end_nodes, host_nodes, net_numbers}
+use Rattle.plant_types.proofs.OneNet.{rising-distinct}
 use Rattle.ring_core.specs.declared.entry.RingEntry.{RingEntry}
 use Rattle.ring_core.specs.Legal.{IsLegalRing}
 use Rattle.tied_lists.specs.Items.{downs_by}
 use Rattle.controller_core.specs.Controller.{IsLegal}
 use Rattle.controller_core.specs.Laws.{FrontsAreLegal}
 use Rattle.host_port.specs.Legal.{IsHostHistory}
+use Rattle.bridge_relay.specs.Legal.{IsBridgeHistory}
+use Rattle.joint_history.specs.declared.joint.BridgeLog.{BridgeLog}
 use Rattle.joint_history.specs.declared.joint.ControllerLog.{ControllerLog}
 use Rattle.joint_history.specs.declared.joint.HostLog.{HostLog}
+use Rattle.joint_history.specs.declared.joint.RingLog.{RingLog}
 use Rattle.joint_history.specs.declared.joint.Joint.{Joint}
 use Rattle.joint_history.specs.Complete.{IsComplete}
-use Rattle.joint_history.specs.JointLaws.{IsJoint, IsLegalHostLog, IsLegalLog, fixed_of}
+use Rattle.joint_history.specs.JointLaws.{IsJoint, IsLegalBridgeLog, IsLegalHostLog, IsLegalLog}
+use Rattle.joint_history.specs.JointLaws.{IsLegalRingLog, fixed_of}
+use Rattle.joint_history.specs.Nets.{noted_on_rings}
 use Rattle.joint_law.specs.Bound.{Bound, BreaksLaw, KeepsLaw, bounds_of, controller_bound}
 use Rattle.joint_law.specs.Bound.{host_bound}
 use Rattle.joint_law.specs.Bound.{number_of}
 use Rattle.joint_law.specs.Differing.{BreaksAt, DifferAt}
 use Rattle.joint_law.specs.Failing.{AreFounded}
-use Rattle.joint_law.specs.Spots.{AreLegalHostLogs, AreLegalLogs, ControllerSpot, HasSections}
-use Rattle.joint_law.specs.Spots.{HostSpot, IncompleteSpot}
-use Rattle.joint_law.specs.Spots.{IsSpot, IsVerdict, LawSpot}
+use Rattle.joint_law.specs.Spots.{AreLegalBridgeLogs, AreLegalHostLogs, AreLegalLogs}
+use Rattle.joint_law.specs.Spots.{AreLegalRingLogs, BridgeSpot, ControllerSpot, HasSections}
+use Rattle.joint_law.specs.Spots.{HostSpot, IncompleteSpot, IsSpot, IsVerdict, LawSpot, RingSpot}
 use Rattle.joint_law.specs.declared.law.Law.{Law}
 use Rattle.joint_law.specs.declared.law.Law.TheVariants.{Asks, Answers, Replies, Ends, Downs}
 use Rattle.joint_law.specs.declared.verdict.Spot.{Spot}
@@ -44,8 +48,9 @@ use Rattle.joint_law.specs.declared.verdict.Verdict.{Verdict}
 use Rattle.joint_law.specs.declared.verdict.Verdict.TheVariants.{Legal, Illegal}
 use Rattle.joint_law.proofs.CourseSteps.{same-size}
 use Rattle.joint_law.proofs.Founded.{founded-front}
-use Rattle.joint_law.proofs.Verdicts.{complete-at, host-front, joint-keeps, kept-unbroken}
-use Rattle.joint_law.proofs.Verdicts.{legal-sections, no-break, ring-front, some-pair}
+use Rattle.joint_law.proofs.Verdicts.{bridge-front, complete-at, host-front, joint-keeps}
+use Rattle.joint_law.proofs.Verdicts.{kept-unbroken, legal-sections, no-break, ring-front}
+use Rattle.joint_law.proofs.Verdicts.{some-pair}
 
 -- ---- places
 
@@ -90,15 +95,13 @@ law-once Downs s p q d e =
 
 -- ---- addresses
 
-flips : (x y : ℕ) → eqb x y ≡ eqb y x
-flips x y =
-    ⊎_elim (λ (same : x ≡ y). eq-eqb x y same ∙ sym (eq-eqb y x (sym same)))
-    (λ (apart : x ≢ y). ne_eqb x y apart ∙ sym (ne_eqb y x (λ e. apart (sym e)))) (cases_eq x y)
-
-rising-distinct : (xs : List ℕ) → IsStrictlyIncreasing xs → IsDistinct eqb xs
-rising-distinct xs rising =
-    IsDistinct-from_apart eqb xs (λ i j d less low. let l = AllPairs-from_increasing xs rising i j
-    d less low in ne_eqb (get_or xs i d) (get_or xs j d) (omega (arith, l)))
+distinct-first : (xs ys : List ℕ) → IsDistinct eqb (xs ++ ys) → IsDistinct eqb xs
+distinct-first xs ys distinct =
+    let n = length-append xs ys in
+    IsDistinct-from_apart eqb xs (λ i j d less low.
+    sym (λ k. eqb (get_or_append_left xs ys d i (omega (arith, less, low)) k)
+    (get_or_append_left xs ys d j low k))
+    ∙ apart_from_distinct eqb (xs ++ ys) i j d distinct less (omega (arith, low, n)))
 
 same-place : (xs : List ℕ) → IsDistinct eqb xs → (i j d : ℕ) → i < length xs → j < length xs
     → get_or xs i d ≡ get_or xs j d → i ≡ j
@@ -174,15 +177,13 @@ bounds-distinct : (plant : Plant) (joint : Joint) → IsPlant plant → HasSecti
 bounds-distinct plant joint sound sections =
     let nodes : map (λ (s : Bound). s.node) (bounds_of joint) ≡ controller_nodes plant
     ++ host_nodes plant =
-    map-append (λ (s : Bound). s.node) (map (controller_bound joint.ring) joint.controllers)
-    (map (host_bound joint.ring) joint.hosts)
-    ∙ (λ i. (bound-nodes joint.ring joint.controllers ∙ sections.controllers) i
-    ++ (host-bound-nodes joint.ring joint.hosts ∙ sections.hosts) i) in
+    map-append (λ (s : Bound). s.node)
+    (map (controller_bound (noted_on_rings joint)) joint.controllers)
+    (map (host_bound (noted_on_rings joint)) joint.hosts)
+    ∙ (λ i. (bound-nodes (noted_on_rings joint) joint.controllers ∙ sections.controllers) i
+    ++ (host-bound-nodes (noted_on_rings joint) joint.hosts ∙ sections.hosts) i) in
     subst (IsDistinct eqb) (sym nodes)
-    (IsDistinct-IsPermutation eqb flips plant.net.members
-    (controller_nodes plant ++ host_nodes plant)
-    (IsPermutation-sym (controller_nodes plant ++ host_nodes plant) plant.net.members
-    sound.members) (rising-distinct plant.net.members sound.net.members.rise))
+    (distinct-first (controller_nodes plant ++ host_nodes plant) (end_nodes plant) sound.once)
 
 -- ---- how far a joint history is in order
 
@@ -190,27 +191,28 @@ abbrev level_of : Spot → ℕ
 level_of spots.Sections = 1
 level_of (spots.Controller node entry) = 2
 level_of (spots.Host node entry) = 3
-level_of (spots.Ring entry) = 4
-level_of (spots.Law law node place) = 5
-level_of (spots.Incomplete node) = 6
+level_of (spots.Bridge left entry) = 4
+level_of (spots.Ring network entry) = 5
+level_of (spots.Law law node place) = 6
+level_of (spots.Incomplete node) = 7
 
 abbrev level : Verdict → ℕ
-level Legal = 7
+level Legal = 8
 level (Illegal spot) = level_of spot
 
 sections-from : (plant : Plant) (scans : ℕ) (joint : Joint) (v : Verdict)
     → IsVerdict plant scans joint v → 1 < level v → HasSections plant joint
 sections-from plant scans joint Legal v more =
-    legal-sections plant scans joint v.legal.controllers v.legal.hosts
+    legal-sections plant scans joint v.legal
 sections-from plant scans joint (Illegal spots.Sections) v more = absurd (omega arith)
 sections-from plant scans joint (Illegal (spots.Controller node entry)) v more = v.sections
 sections-from plant scans joint (Illegal (spots.Host node entry)) v more = v.sections
-sections-from plant scans joint (Illegal (spots.Ring entry)) v more =
-    legal-sections plant scans joint v.controllers v.hosts
+sections-from plant scans joint (Illegal (spots.Bridge left entry)) v more = v.sections
+sections-from plant scans joint (Illegal (spots.Ring network entry)) v more = v.sections
 sections-from plant scans joint (Illegal (spots.Law law node place)) v more =
-    legal-sections plant scans joint v.2.legal.controllers v.2.legal.hosts
+    legal-sections plant scans joint v.2.legal
 sections-from plant scans joint (Illegal (spots.Incomplete node)) v more =
-    legal-sections plant scans joint v.legal.controllers v.legal.hosts
+    legal-sections plant scans joint v.legal
 
 logs-from : (plant : Plant) (scans : ℕ) (joint : Joint) (v : Verdict)
     → IsVerdict plant scans joint v → 2 < level v → AreLegalLogs plant scans joint
@@ -218,7 +220,8 @@ logs-from plant scans joint Legal v more = v.legal.controllers
 logs-from plant scans joint (Illegal spots.Sections) v more = absurd (omega arith)
 logs-from plant scans joint (Illegal (spots.Controller node entry)) v more = absurd (omega arith)
 logs-from plant scans joint (Illegal (spots.Host node entry)) v more = v.controllers
-logs-from plant scans joint (Illegal (spots.Ring entry)) v more = v.controllers
+logs-from plant scans joint (Illegal (spots.Bridge left entry)) v more = v.controllers
+logs-from plant scans joint (Illegal (spots.Ring network entry)) v more = v.controllers
 logs-from plant scans joint (Illegal (spots.Law law node place)) v more = v.2.legal.controllers
 logs-from plant scans joint (Illegal (spots.Incomplete node)) v more = v.legal.controllers
 
@@ -228,38 +231,54 @@ hosts-from plant scans joint Legal v more = v.legal.hosts
 hosts-from plant scans joint (Illegal spots.Sections) v more = absurd (omega arith)
 hosts-from plant scans joint (Illegal (spots.Controller node entry)) v more = absurd (omega arith)
 hosts-from plant scans joint (Illegal (spots.Host node entry)) v more = absurd (omega arith)
-hosts-from plant scans joint (Illegal (spots.Ring entry)) v more = v.hosts
+hosts-from plant scans joint (Illegal (spots.Bridge left entry)) v more = v.hosts
+hosts-from plant scans joint (Illegal (spots.Ring network entry)) v more = v.hosts
 hosts-from plant scans joint (Illegal (spots.Law law node place)) v more = v.2.legal.hosts
 hosts-from plant scans joint (Illegal (spots.Incomplete node)) v more = v.legal.hosts
 
-ring-from : (plant : Plant) (scans : ℕ) (joint : Joint) (v : Verdict)
-    → IsVerdict plant scans joint v → 4 < level v → IsLegalRing plant.net joint.ring
-ring-from plant scans joint Legal v more = v.legal.ring
-ring-from plant scans joint (Illegal spots.Sections) v more = absurd (omega arith)
-ring-from plant scans joint (Illegal (spots.Controller node entry)) v more = absurd (omega arith)
-ring-from plant scans joint (Illegal (spots.Host node entry)) v more = absurd (omega arith)
-ring-from plant scans joint (Illegal (spots.Ring entry)) v more = absurd (omega arith)
-ring-from plant scans joint (Illegal (spots.Law law node place)) v more = v.2.legal.ring
-ring-from plant scans joint (Illegal (spots.Incomplete node)) v more = v.legal.ring
+bridges-from : (plant : Plant) (scans : ℕ) (joint : Joint) (v : Verdict)
+    → IsVerdict plant scans joint v → 4 < level v → AreLegalBridgeLogs plant joint
+bridges-from plant scans joint Legal v more = v.legal.bridges
+bridges-from plant scans joint (Illegal spots.Sections) v more = absurd (omega arith)
+bridges-from plant scans joint (Illegal (spots.Controller node entry)) v more =
+    absurd (omega arith)
+bridges-from plant scans joint (Illegal (spots.Host node entry)) v more = absurd (omega arith)
+bridges-from plant scans joint (Illegal (spots.Bridge left entry)) v more = absurd (omega arith)
+bridges-from plant scans joint (Illegal (spots.Ring network entry)) v more = v.bridges
+bridges-from plant scans joint (Illegal (spots.Law law node place)) v more = v.2.legal.bridges
+bridges-from plant scans joint (Illegal (spots.Incomplete node)) v more = v.legal.bridges
+
+rings-from : (plant : Plant) (scans : ℕ) (joint : Joint) (v : Verdict)
+    → IsVerdict plant scans joint v → 5 < level v → AreLegalRingLogs plant joint
+rings-from plant scans joint Legal v more = v.legal.rings
+rings-from plant scans joint (Illegal spots.Sections) v more = absurd (omega arith)
+rings-from plant scans joint (Illegal (spots.Controller node entry)) v more = absurd (omega arith)
+rings-from plant scans joint (Illegal (spots.Host node entry)) v more = absurd (omega arith)
+rings-from plant scans joint (Illegal (spots.Bridge left entry)) v more = absurd (omega arith)
+rings-from plant scans joint (Illegal (spots.Ring network entry)) v more = absurd (omega arith)
+rings-from plant scans joint (Illegal (spots.Law law node place)) v more = v.2.legal.rings
+rings-from plant scans joint (Illegal (spots.Incomplete node)) v more = v.legal.rings
 
 joint-from : (plant : Plant) (scans : ℕ) (joint : Joint) (v : Verdict)
-    → IsVerdict plant scans joint v → 5 < level v → IsJoint joint
+    → IsVerdict plant scans joint v → 6 < level v → IsJoint joint
 joint-from plant scans joint Legal v more = v.tied
 joint-from plant scans joint (Illegal spots.Sections) v more = absurd (omega arith)
 joint-from plant scans joint (Illegal (spots.Controller node entry)) v more = absurd (omega arith)
 joint-from plant scans joint (Illegal (spots.Host node entry)) v more = absurd (omega arith)
-joint-from plant scans joint (Illegal (spots.Ring entry)) v more = absurd (omega arith)
+joint-from plant scans joint (Illegal (spots.Bridge left entry)) v more = absurd (omega arith)
+joint-from plant scans joint (Illegal (spots.Ring network entry)) v more = absurd (omega arith)
 joint-from plant scans joint (Illegal (spots.Law law node place)) v more = absurd (omega arith)
 joint-from plant scans joint (Illegal (spots.Incomplete node)) v more = v.tied
 
 complete-from : (plant : Plant) (scans : ℕ) (joint : Joint) (v : Verdict)
-    → IsVerdict plant scans joint v → 6 < level v → IsComplete plant scans joint
+    → IsVerdict plant scans joint v → 7 < level v → IsComplete plant scans joint
 complete-from plant scans joint Legal v more = v.complete
 complete-from plant scans joint (Illegal spots.Sections) v more = absurd (omega arith)
 complete-from plant scans joint (Illegal (spots.Controller node entry)) v more =
     absurd (omega arith)
 complete-from plant scans joint (Illegal (spots.Host node entry)) v more = absurd (omega arith)
-complete-from plant scans joint (Illegal (spots.Ring entry)) v more = absurd (omega arith)
+complete-from plant scans joint (Illegal (spots.Bridge left entry)) v more = absurd (omega arith)
+complete-from plant scans joint (Illegal (spots.Ring network entry)) v more = absurd (omega arith)
 complete-from plant scans joint (Illegal (spots.Law law node place)) v more = absurd (omega arith)
 complete-from plant scans joint (Illegal (spots.Incomplete node)) v more = absurd (omega arith)
 
@@ -282,17 +301,27 @@ later fronts plant scans joint (spots.Host node entry) w v is less =
     (hosts-from plant scans joint w is less) v.here in
     no-break (IsHostHistory pair.0.0) (host-front pair.0.0) pair.0.1.entries entry pair.1.1
     pair.2.1
-later fronts plant scans joint (spots.Ring entry) w v is less =
-    no-break (IsLegalRing plant.net) (ring-front plant.net []) joint.ring entry
-    (ring-from plant scans joint w is less) v.here
+later fronts plant scans joint (spots.Bridge left entry) w v is less =
+    let size = same-size (λ (p : BridgePlan). p.left) (λ (g : BridgeLog). g.left) plant.bridges
+    joint.bridges v.sections.lefts in
+    let pair = some-pair IsLegalBridgeLog _ plant.bridges joint.bridges size
+    (bridges-from plant scans joint w is less) v.here in
+    no-break (IsBridgeHistory pair.0.0) (bridge-front pair.0.0) pair.0.1.entries entry pair.1.2
+    pair.2.1
+later fronts plant scans joint (spots.Ring network entry) w v is less =
+    let size = same-size (λ (p : NetPlan). p.number) (λ (g : RingLog). g.network) plant.nets
+    joint.rings v.sections.rings in
+    let pair = some-pair IsLegalRingLog _ plant.nets joint.rings size
+    (rings-from plant scans joint w is less) v.here in
+    no-break (IsLegalRing pair.0.0) (ring-front pair.0.0 []) pair.0.1.entries entry pair.1.1
+    pair.2.1
 later fronts plant scans joint (spots.Law number node place) w v is less =
     let any = v.2.here in
     kept-unbroken v.0 any.1 place
     (subst (KeepsLaw v.0) any.3 (joint-keeps joint v.0 (joint-from plant scans joint w is less)
     any.0 any.1 any.2)) any.4.1
 later fronts plant scans joint (spots.Incomplete node) w v is less =
-    v.here (complete-at plant scans joint node
-    (legal-sections plant scans joint v.legal.controllers v.legal.hosts)
+    v.here (complete-at plant scans joint node (legal-sections plant scans joint v.legal)
     (complete-from plant scans joint w is less))
 
 -- ---- spots of one sort
@@ -340,8 +369,7 @@ law-spots : (plant : Plant) (scans : ℕ) (joint : Joint) (law : Law) (n e m f :
     → LawSpot plant scans joint law n e → LawSpot plant scans joint law m f → (n ≡ m) × (e ≡ f)
 law-spots plant scans joint law n e m f sound a b =
     unique (λ (s : Bound). s.node) (bounds_of joint)
-    (bounds-distinct plant joint sound
-    (legal-sections plant scans joint a.legal.controllers a.legal.hosts)) (KeepsLaw law)
+    (bounds-distinct plant joint sound (legal-sections plant scans joint a.legal)) (KeepsLaw law)
     (BreaksLaw law)
     (λ s p. kept-unbroken law s p) (λ s p q. law-once law s p q) n e m f a.earlier a.here b.earlier
     b.here
@@ -380,6 +408,36 @@ host-spots plant scans joint n e m f sound a b =
     (λ of p q. break-once (IsHostHistory of.0) (host-front of.0) of.1.entries p q) n e m f
     a.earlier a.here b.earlier b.here
 
+bridge-spots : (plant : Plant) (scans : ℕ) (joint : Joint) (n e m f : ℕ) → IsPlant plant
+    → BridgeSpot plant scans joint n e → BridgeSpot plant scans joint m f → (n ≡ m) × (e ≡ f)
+bridge-spots plant scans joint n e m f sound a b =
+    let size = same-size (λ (p : BridgePlan). p.left) (λ (g : BridgeLog). g.left) plant.bridges
+    joint.bridges a.sections.lefts in
+    let nodes = zip-nodes (λ (g : BridgeLog). g.left) plant.bridges joint.bridges size
+    ∙ a.sections.lefts in
+    unique (λ (of : BridgePlan × BridgeLog). of.1.left) (zip plant.bridges joint.bridges)
+    (subst (IsDistinct eqb) (sym nodes)
+    (rising-distinct (map (λ (p : BridgePlan). p.left) plant.bridges) sound.bridges_rise))
+    (λ of. IsBridgeHistory of.0 of.1.entries)
+    (λ of p. BreaksAt (IsBridgeHistory of.0) of.1.entries p)
+    (λ of p. no-break (IsBridgeHistory of.0) (bridge-front of.0) of.1.entries p)
+    (λ of p q. break-once (IsBridgeHistory of.0) (bridge-front of.0) of.1.entries p q) n e m f
+    a.earlier a.here b.earlier b.here
+
+ring-spots : (plant : Plant) (scans : ℕ) (joint : Joint) (n e m f : ℕ) → IsPlant plant
+    → RingSpot plant scans joint n e → RingSpot plant scans joint m f → (n ≡ m) × (e ≡ f)
+ring-spots plant scans joint n e m f sound a b =
+    let size = same-size (λ (p : NetPlan). p.number) (λ (g : RingLog). g.network) plant.nets
+    joint.rings a.sections.rings in
+    let nodes = zip-nodes (λ (g : RingLog). g.network) plant.nets joint.rings size
+    ∙ a.sections.rings in
+    unique (λ (of : NetPlan × RingLog). of.1.network) (zip plant.nets joint.rings)
+    (subst (IsDistinct eqb) (sym nodes) (rising-distinct (net_numbers plant) sound.nets_rise))
+    (λ of. IsLegalRing of.0 of.1.entries) (λ of p. BreaksAt (IsLegalRing of.0) of.1.entries p)
+    (λ of p. no-break (IsLegalRing of.0) (ring-front of.0 []) of.1.entries p)
+    (λ of p q. break-once (IsLegalRing of.0) (ring-front of.0 []) of.1.entries p q) n e m f
+    a.earlier a.here b.earlier b.here
+
 incomplete-spots : (plant : Plant) (scans : ℕ) (joint : Joint) (n m : ℕ)
     → IncompleteSpot plant scans joint n → IncompleteSpot plant scans joint m → n ≡ m
 incomplete-spots plant scans joint n m a b =
@@ -397,9 +455,10 @@ same-level fronts plant scans joint (spots.Controller n p) (spots.Controller m q
     λ i. spots.Controller (s.0 i) (s.1 i)
 same-level fronts plant scans joint (spots.Host n p) (spots.Host m q) sound a b e =
     let s = host-spots plant scans joint n p m q sound a b in λ i. spots.Host (s.0 i) (s.1 i)
-same-level fronts plant scans joint (spots.Ring p) (spots.Ring q) sound a b e =
-    ap spots.Ring (break-once (IsLegalRing plant.net) (ring-front plant.net []) joint.ring p q
-    a.here b.here)
+same-level fronts plant scans joint (spots.Bridge n p) (spots.Bridge m q) sound a b e =
+    let s = bridge-spots plant scans joint n p m q sound a b in λ i. spots.Bridge (s.0 i) (s.1 i)
+same-level fronts plant scans joint (spots.Ring n p) (spots.Ring m q) sound a b e =
+    let s = ring-spots plant scans joint n p m q sound a b in λ i. spots.Ring (s.0 i) (s.1 i)
 same-level fronts plant scans joint (spots.Law x n p) (spots.Law y m q) sound a b e =
     let number = one-law plant scans joint a.0 b.0 n p m q a.2 b.2 in
     let s = law-spots plant scans joint a.0 n p m q sound a.2
@@ -410,11 +469,12 @@ same-level fronts plant scans joint (spots.Incomplete n) (spots.Incomplete m) so
     ap spots.Incomplete (incomplete-spots plant scans joint n m a b)
 same-level fronts plant scans joint one other sound a b e = absurd (omega arith)
 
-low-level : (s : Spot) → level_of s < 7
+low-level : (s : Spot) → level_of s < 8
 low-level spots.Sections = omega arith
 low-level (spots.Controller node entry) = omega arith
 low-level (spots.Host node entry) = omega arith
-low-level (spots.Ring entry) = omega arith
+low-level (spots.Bridge left entry) = omega arith
+low-level (spots.Ring network entry) = omega arith
 low-level (spots.Law law node place) = omega arith
 low-level (spots.Incomplete node) = omega arith
 

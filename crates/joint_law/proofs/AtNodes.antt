@@ -3,7 +3,7 @@ use Rattle.std.proofs.Common.{◌≡◌, ℕ, ◌+◌, ◌<◌, ◌≤◌, Bool,
 use Rattle.std.proofs.Common.{length}
 use Rattle.std.proofs.Common.{get_or, map}
 use Rattle.std.proofs.Common.{refl, sym, ap, subst, ◌∙◌, ◌⊎◌, ⊎_elim, arith}
-use Rattle.std.specs.List.{All, Contains, zip}
+use Rattle.std.specs.List.{All, AllZip, Contains, zip}
 use Rattle.std.proofs.Math.ListN.{get_or-map}
 use Rattle.std.proofs.lemmas.Bool.{cases_lt}
 use Rattle.std.proofs.lemmas.List.{get_or_default, length-map, length-append, get_or_append_left}
@@ -16,6 +16,8 @@ use Rattle.plant_types.specs.declared.net.NetPlan.{NetPlan}
 use Rattle.plant_types.specs.declared.plan.ControllerPlan.{ControllerPlan}
 use Rattle.plant_types.specs.declared.plan.Plant.{Plant}
 use Rattle.plant_types.specs.Plans.{IsPlant, controller_nodes, host_nodes}
+use Rattle.plant_types.specs.Plans.{first_net}
+use Rattle.plant_types.proofs.OneNet.{on-net}
 use Rattle.ring_core.specs.Machine.{addresses}
 use Rattle.ring_core.specs.declared.entry.RingEntry.{RingEntry}
 use Rattle.joint_history.specs.declared.joint.ControllerLog.{ControllerLog}
@@ -24,7 +26,9 @@ use Rattle.joint_history.specs.declared.joint.Joint.{Joint}
 use Rattle.joint_history.specs.Complete.{ControllerIsComplete, EndsEachCall, IsComplete, StaysOff}
 use Rattle.joint_history.specs.JointLaws.{fixed_of}
 use Rattle.joint_history.specs.Reading.{host_items_of, items_of}
-use Rattle.joint_history.specs.Complete.{IsCompleteHostLog, IsCompleteLog, NodeIsComplete}
+use Rattle.joint_history.specs.Complete.{IsCompleteBridgeLog, IsCompleteHostLog, IsCompleteLog}
+use Rattle.joint_history.specs.Complete.{NodeIsComplete}
+use Rattle.joint_history.proofs.OneRing.{bridges-zip}
 use Rattle.ring_core.specs.declared.status.NodeStatus.{NodeStatus}
 use Rattle.ring_core.specs.declared.status.NodeStatus.TheVariants.{Away, Gone}
 use Rattle.tied_lists.specs.Items.{Items, no_items, replies_in}
@@ -47,6 +51,7 @@ use Rattle.joint_law.proofs.Fitting.{all-from, done-from, holds-from, host-each,
 use Rattle.joint_law.proofs.Fitting.{noticed-from, notices-ended, replies-from}
 use Rattle.joint_law.proofs.Founded.{fails-of, host-fails}
 use Rattle.joint_law.proofs.Outside.{out-by, out-from}
+use Rattle.joint_history.specs.Nets.{noted_on_rings}
 
 -- ---- addresses
 
@@ -63,12 +68,12 @@ abbrev host_plan_node : HostPlan → ℕ
 host_plan_node plan = plan.node
 
 -- all addresses are those of members, and low
-nodes-all : (plant : Plant) → IsPlant plant → (P : ℕ → Type 0) → All P plant.net.members
+nodes-all : (plant : Plant) → IsPlant plant → (P : ℕ → Type 0) → All P (first_net plant).members
     → All P (controller_nodes plant ++ host_nodes plant)
 nodes-all plant sound P all =
-    All-permutation P plant.net.members (controller_nodes plant ++ host_nodes plant)
-    (IsPermutation-sym (controller_nodes plant ++ host_nodes plant) plant.net.members
-    sound.members) all
+    All-permutation P (first_net plant).members (controller_nodes plant ++ host_nodes plant)
+    (IsPermutation-sym (controller_nodes plant ++ host_nodes plant) (first_net plant).members
+    (on-net plant sound).members) all
 
 first-part : {X : Type 0} (P : X → Type 0) (xs ys : List X) → All P (xs ++ ys) → All P xs
 first-part P xs ys all k d low =
@@ -86,7 +91,7 @@ from-map P f xs all k d low =
     let n = length-map xs f in subst P (get_or-map f xs k d) (all k (f d) (omega (arith, n)))
 
 pub controllers-all : (plant : Plant) (joint : Joint) → IsPlant plant → HasSections plant joint
-    → (P : ℕ → Type 0) → All P plant.net.members
+    → (P : ℕ → Type 0) → All P (first_net plant).members
     → (k : ℕ) (d : ControllerLog) → k < length joint.controllers
     → P (get_or joint.controllers k d).node
 controllers-all plant joint sound sections P all =
@@ -95,16 +100,17 @@ controllers-all plant joint sound sections P all =
     (first-part P (controller_nodes plant) (host_nodes plant) (nodes-all plant sound P all)))
 
 pub hosts-all : (plant : Plant) (joint : Joint) → IsPlant plant → HasSections plant joint
-    → (P : ℕ → Type 0) → All P plant.net.members
+    → (P : ℕ → Type 0) → All P (first_net plant).members
     → (k : ℕ) (d : HostLog) → k < length joint.hosts → P (get_or joint.hosts k d).node
 hosts-all plant joint sound sections P all =
     from-map P host_log_node joint.hosts
     (subst (All P) (sym sections.hosts)
     (second-part P (controller_nodes plant) (host_nodes plant) (nodes-all plant sound P all)))
 
-pub members-low : (plant : Plant) → IsPlant plant → All (λ m. m < addresses) plant.net.members
+pub members-low : (plant : Plant) → IsPlant plant
+    → All (λ m. m < addresses) (first_net plant).members
 members-low plant sound k d low =
-    let n = sound.net.members.each k d low in let t = n.to in omega (arith, t)
+    let n = (on-net plant sound).plan.members.each k d low in let t = n.to in omega (arith, t)
 
 members-in : (xs : List ℕ) → All (Contains xs) xs
 members-in xs k d low = (k, low, get_or_default xs k (get_or xs k d) d low)
@@ -113,30 +119,31 @@ pub bounds-low : (plant : Plant) (joint : Joint) → IsPlant plant → HasSectio
     → All (λ (s : Bound). s.node < addresses) (bounds_of joint)
 bounds-low plant joint sound sections =
     All-append (λ (s : Bound). s.node < addresses)
-    (map (controller_bound joint.ring) joint.controllers)
-    (map (host_bound joint.ring) joint.hosts)
-    (All-map (λ (s : Bound). s.node < addresses) (controller_bound joint.ring) joint.controllers
+    (map (controller_bound (noted_on_rings joint)) joint.controllers)
+    (map (host_bound (noted_on_rings joint)) joint.hosts)
+    (All-map (λ (s : Bound). s.node < addresses) (controller_bound (noted_on_rings joint))
+    joint.controllers
     (controllers-all plant joint sound sections (λ m. m < addresses)
     (members-low plant sound)))
-    (All-map (λ (s : Bound). s.node < addresses) (host_bound joint.ring) joint.hosts
+    (All-map (λ (s : Bound). s.node < addresses) (host_bound (noted_on_rings joint)) joint.hosts
     (hosts-all plant joint sound sections (λ m. m < addresses) (members-low plant sound)))
 
 -- ---- one node
 
 -- a node's entries behind the whole list
-stands-own : (joint : Joint) (net : NetPlan) (node : ℕ) (on : Standing)
-    → IsStandingOf joint net node on → entries_on on ≡ own on.node joint.ring
-stands-own joint net node on stands =
+stands-own : (ring : List RingEntry) (net : NetPlan) (node : ℕ) (on : Standing)
+    → IsStandingOf ring net node on → entries_on on ≡ own on.node ring
+stands-own ring net node on stands =
     stands.places.own_is ∙ (λ i. own ((sym stands.node_is) i) (stands.ring_is i))
 
 -- and where it stands, at the address of a log
-stands-at : (joint : Joint) (net : NetPlan) (node at : ℕ) (on : Standing)
-    → IsStandingOf joint net node on → Contains net.members at → at ≡ on.node
-    → on.status ≡ status_at net joint.ring at
-stands-at joint net node at on stands member same =
+stands-at : (ring : List RingEntry) (net : NetPlan) (node at : ℕ) (on : Standing)
+    → IsStandingOf ring net node on → Contains net.members at → at ≡ on.node
+    → on.status ≡ status_at net ring at
+stands-at ring net node at on stands member same =
     let here : at ≡ node = same ∙ stands.node_is in
     stands.status (subst (Contains net.members) here member)
-    ∙ ap (status_at net joint.ring) (sym here)
+    ∙ ap (status_at net ring) (sym here)
 
 node-complete : (items : Items) (fails : ℕ) (b : List RingEntry) → items.fails ≡ fails
     → IsNodeDone (replies_in items.answers) fails b → NodeIsComplete items b
@@ -156,7 +163,7 @@ complete-node items fails b count c = record {
 -- a controller and its node are complete where they were done, and the other way
 log-complete : (plant : Plant) (scans : ℕ) (ring : List RingEntry) (plan : ControllerPlan)
     (log : ControllerLog) (status : NodeStatus) (is_done : Bool)
-    → status ≡ status_at plant.net ring log.node
+    → status ≡ status_at (first_net plant) ring log.node
     → (is_done ≡ true → ControllerIsComplete (fixed_of plant scans plan) log.entries)
     → IsControllerDone scans status log is_done (own log.node ring)
     → IsCompleteLog plant scans ring plan log
@@ -170,7 +177,7 @@ log-complete plant scans ring plan log status is_done at whole d = (
 
 complete-log : (plant : Plant) (scans : ℕ) (ring : List RingEntry) (plan : ControllerPlan)
     (log : ControllerLog) (status : NodeStatus) (is_done : Bool)
-    → status ≡ status_at plant.net ring log.node
+    → status ≡ status_at (first_net plant) ring log.node
     → (ControllerIsComplete (fixed_of plant scans plan) log.entries → is_done ≡ true)
     → IsCompleteLog plant scans ring plan log
     → IsControllerDone scans status log is_done (own log.node ring)
@@ -185,7 +192,7 @@ complete-log plant scans ring plan log status is_done at whole c = record {
 
 -- so it is with a host
 host-complete : (plant : Plant) (ring : List RingEntry) (plan : HostPlan) (log : HostLog)
-    (status : NodeStatus) (is_done : Bool) → status ≡ status_at plant.net ring log.node
+    (status : NodeStatus) (is_done : Bool) → status ≡ status_at (first_net plant) ring log.node
     → (is_done ≡ true → EndsEachCall (host_items_of log.entries))
     → IsHostNodeDone plan status log is_done (own log.node ring)
     → IsCompleteHostLog plant ring plan log
@@ -201,7 +208,7 @@ host-complete plant ring plan log status is_done at whole d = (
 )
 
 complete-host : (plant : Plant) (ring : List RingEntry) (plan : HostPlan) (log : HostLog)
-    (status : NodeStatus) (is_done : Bool) → status ≡ status_at plant.net ring log.node
+    (status : NodeStatus) (is_done : Bool) → status ≡ status_at (first_net plant) ring log.node
     → (EndsEachCall (host_items_of log.entries) → is_done ≡ true)
     → IsCompleteHostLog plant ring plan log
     → IsHostNodeDone plan status log is_done (own log.node ring)
@@ -217,53 +224,56 @@ complete-host plant ring plan log status is_done at whole c = record {
 -- all stations of an address are complete where they were done
 pub at-complete : (plant : Plant) (scans : ℕ) (joint : Joint) (followed : Followed) (node : ℕ)
     (on : Standing) → IsPlant plant → HasSections plant joint
-    → IsFollowed plant scans joint followed → IsStandingOf joint plant.net node on
+    → IsFollowed plant scans joint followed
+    → IsStandingOf (noted_on_rings joint) (first_net plant) node on
     → AreControllersDone scans joint.controllers followed.done.now on.node on.status
     (entries_on on)
     → AreHostNodesDone plant.hosts joint.hosts followed.hosts_done.now on.node on.status
     (entries_on on)
     → IsCompleteAt plant scans joint node
 at-complete plant scans joint followed node on sound sections is stands controllers hosts =
-    let own-is = stands-own joint plant.net node on stands in
+    let own-is = stands-own (noted_on_rings joint) (first_net plant) node on stands in
     subst (IsCompleteAt plant scans joint) stands.node_is (record {
       controllers = λ k d low.
           let size = same-size plan_node log_node plant.controllers joint.controllers
           sections.controllers in
           let n = length-zip plant.controllers joint.controllers in
           subst (λ (of : ControllerPlan × ControllerLog). of.1.node ≡ on.node
-          → IsCompleteLog plant scans joint.ring of.0 of.1)
+          → IsCompleteLog plant scans (noted_on_rings joint) of.0 of.1)
           (sym (get_or-zip plant.controllers joint.controllers k d (omega (arith, size, n))
           (omega (arith, size, n))))
           (λ same.
           let log = get_or joint.controllers k d.1 in
-          let member = controllers-all plant joint sound sections (Contains plant.net.members)
-          (members-in plant.net.members) k d.1 (omega (arith, size, n)) in
-          log-complete plant scans joint.ring (get_or plant.controllers k d.0) log on.status
+          let member = controllers-all plant joint sound sections
+          (Contains (first_net plant).members)
+          (members-in (first_net plant).members) k d.1 (omega (arith, size, n)) in
+          log-complete plant scans (noted_on_rings joint) (get_or plant.controllers k d.0) log
+          on.status
           (get_or followed.done.now k false)
-          (stands-at joint plant.net node log.node on stands member same)
+          (stands-at (noted_on_rings joint) (first_net plant) node log.node on stands member same)
           (is.done.each k d.0 d.1 (omega (arith, size, n))).0
           (subst (IsControllerDone scans on.status log (get_or followed.done.now k false))
-          (own-is ∙ ap (λ (m : ℕ). own m joint.ring) (sym same))
+          (own-is ∙ ap (λ (m : ℕ). own m (noted_on_rings joint)) (sym same))
           (controllers k d.1 (omega (arith, size, n)) same)));
       hosts = λ k d low.
           let size = same-size host_plan_node host_log_node plant.hosts joint.hosts
           sections.hosts in
           let n = length-zip plant.hosts joint.hosts in
           subst (λ (of : HostPlan × HostLog). of.1.node ≡ on.node
-          → IsCompleteHostLog plant joint.ring of.0 of.1)
+          → IsCompleteHostLog plant (noted_on_rings joint) of.0 of.1)
           (sym (get_or-zip plant.hosts joint.hosts k d (omega (arith, size, n))
           (omega (arith, size, n))))
           (λ same.
           let log = get_or joint.hosts k d.1 in
-          let member = hosts-all plant joint sound sections (Contains plant.net.members)
-          (members-in plant.net.members) k d.1 (omega (arith, size, n)) in
-          host-complete plant joint.ring (get_or plant.hosts k d.0) log on.status
+          let member = hosts-all plant joint sound sections (Contains (first_net plant).members)
+          (members-in (first_net plant).members) k d.1 (omega (arith, size, n)) in
+          host-complete plant (noted_on_rings joint) (get_or plant.hosts k d.0) log on.status
           (get_or followed.hosts_done.now k false)
-          (stands-at joint plant.net node log.node on stands member same)
+          (stands-at (noted_on_rings joint) (first_net plant) node log.node on stands member same)
           (is.hosts.each k d.1 (omega (arith, size, n))).0
           (subst (IsHostNodeDone (get_or plant.hosts k d.0) on.status log
           (get_or followed.hosts_done.now k false))
-          (own-is ∙ ap (λ (m : ℕ). own m joint.ring) (sym same))
+          (own-is ∙ ap (λ (m : ℕ). own m (noted_on_rings joint)) (sym same))
           (hosts k d.0 d.1 (omega (arith, size, n)) same)));
     })
 
@@ -373,7 +383,8 @@ controllers-more scans logs done node status b i g before low is here k d below 
 -- and they were done where they are complete
 pub controllers-done : (plant : Plant) (scans : ℕ) (joint : Joint) (followed : Followed)
     (node : ℕ) (on : Standing) → IsPlant plant → HasSections plant joint
-    → IsFollowed plant scans joint followed → IsStandingOf joint plant.net node on
+    → IsFollowed plant scans joint followed
+    → IsStandingOf (noted_on_rings joint) (first_net plant) node on
     → IsCompleteAt plant scans joint node
     → AreControllersDone scans joint.controllers followed.done.now on.node on.status
     (entries_on on)
@@ -383,63 +394,74 @@ controllers-done plant scans joint followed node on sound sections is stands com
     sections.controllers in
     let plan = item-of plant.controllers k (omega (arith, size)) in
     let log = get_or joint.controllers k d in
-    let pair = pair-at (λ of. of.1.node ≡ node → IsCompleteLog plant scans joint.ring of.0 of.1)
+    let pair = pair-at (λ of. of.1.node ≡ node
+    → IsCompleteLog plant scans (noted_on_rings joint) of.0 of.1)
     plant.controllers joint.controllers size complete.controllers k plan d
     (omega (arith, size)) (same ∙ stands.node_is) in
-    let member = controllers-all plant joint sound sections (Contains plant.net.members)
-    (members-in plant.net.members) k d low in
+    let member = controllers-all plant joint sound sections (Contains (first_net plant).members)
+    (members-in (first_net plant).members) k d low in
     subst (IsControllerDone scans on.status log (get_or followed.done.now k false))
-    (ap (λ (m : ℕ). own m joint.ring) same ∙ sym (stands-own joint plant.net node on stands))
-    (complete-log plant scans joint.ring (get_or plant.controllers k plan) log on.status
+    (ap (λ (m : ℕ). own m (noted_on_rings joint)) same
+    ∙ sym (stands-own (noted_on_rings joint) (first_net plant) node on stands))
+    (complete-log plant scans (noted_on_rings joint) (get_or plant.controllers k plan) log
+    on.status
     (get_or followed.done.now k false)
-    (stands-at joint plant.net node log.node on stands member same)
+    (stands-at (noted_on_rings joint) (first_net plant) node log.node on stands member same)
     (is.done.each k plan d (omega (arith, size))).1 pair)
 
 pub hosts-done : (plant : Plant) (scans : ℕ) (joint : Joint) (followed : Followed) (node : ℕ)
     (on : Standing) → IsPlant plant → HasSections plant joint
-    → IsFollowed plant scans joint followed → IsStandingOf joint plant.net node on
+    → IsFollowed plant scans joint followed
+    → IsStandingOf (noted_on_rings joint) (first_net plant) node on
     → IsCompleteAt plant scans joint node
     → AreHostNodesDone plant.hosts joint.hosts followed.hosts_done.now on.node on.status
     (entries_on on)
 hosts-done plant scans joint followed node on sound sections is stands complete k p d low same =
     let size = same-size host_plan_node host_log_node plant.hosts joint.hosts sections.hosts in
     let log = get_or joint.hosts k d in
-    let pair = pair-at (λ of. of.1.node ≡ node → IsCompleteHostLog plant joint.ring of.0 of.1)
+    let pair = pair-at (λ of. of.1.node ≡ node
+    → IsCompleteHostLog plant (noted_on_rings joint) of.0 of.1)
     plant.hosts joint.hosts size complete.hosts k p d (omega (arith, size))
     (same ∙ stands.node_is) in
-    let member = hosts-all plant joint sound sections (Contains plant.net.members)
-    (members-in plant.net.members) k d low in
+    let member = hosts-all plant joint sound sections (Contains (first_net plant).members)
+    (members-in (first_net plant).members) k d low in
     subst (IsHostNodeDone (get_or plant.hosts k p) on.status log
     (get_or followed.hosts_done.now k false))
-    (ap (λ (m : ℕ). own m joint.ring) same ∙ sym (stands-own joint plant.net node on stands))
-    (complete-host plant joint.ring (get_or plant.hosts k p) log on.status
+    (ap (λ (m : ℕ). own m (noted_on_rings joint)) same
+    ∙ sym (stands-own (noted_on_rings joint) (first_net plant) node on stands))
+    (complete-host plant (noted_on_rings joint) (get_or plant.hosts k p) log on.status
     (get_or followed.hosts_done.now k false)
-    (stands-at joint plant.net node log.node on stands member same)
+    (stands-at (noted_on_rings joint) (first_net plant) node log.node on stands member same)
     (is.hosts.each k d (omega (arith, size))).1 pair)
 
 -- ---- all
 
 pub all-complete : (plant : Plant) (scans : ℕ) (joint : Joint) → IsPlant plant
-    → HasSections plant joint → ((n : ℕ) → n < addresses → IsCompleteAt plant scans joint n)
+    → HasSections plant joint → joint.bridges ≡ []
+    → ((n : ℕ) → n < addresses → IsCompleteAt plant scans joint n)
     → IsComplete plant scans joint
-all-complete plant scans joint sound sections each = record {
+all-complete plant scans joint sound sections none each = record {
   controllers =
       let size = same-size plan_node log_node plant.controllers joint.controllers
       sections.controllers in
-      zip-all (IsCompleteLog plant scans joint.ring) plant.controllers joint.controllers size
+      zip-all (IsCompleteLog plant scans (noted_on_rings joint)) plant.controllers
+      joint.controllers size
       (λ k p g low.
       let node = (get_or joint.controllers k g).node in
       let at = each node (controllers-all plant joint sound sections (λ m. m < addresses)
       (members-low plant sound) k g (omega (arith, size))) in
-      pair-at (λ of. of.1.node ≡ node → IsCompleteLog plant scans joint.ring of.0 of.1)
+      pair-at (λ of. of.1.node ≡ node → IsCompleteLog plant scans (noted_on_rings joint) of.0 of.1)
       plant.controllers joint.controllers size at.controllers k p g low refl);
   hosts =
       let size = same-size host_plan_node host_log_node plant.hosts joint.hosts sections.hosts in
-      zip-all (IsCompleteHostLog plant joint.ring) plant.hosts joint.hosts size
+      zip-all (IsCompleteHostLog plant (noted_on_rings joint)) plant.hosts joint.hosts size
       (λ k p g low.
       let node = (get_or joint.hosts k g).node in
       let at = each node (hosts-all plant joint sound sections (λ m. m < addresses)
       (members-low plant sound) k g (omega (arith, size))) in
-      pair-at (λ of. of.1.node ≡ node → IsCompleteHostLog plant joint.ring of.0 of.1) plant.hosts
+      pair-at (λ of. of.1.node ≡ node → IsCompleteHostLog plant (noted_on_rings joint) of.0 of.1)
+      plant.hosts
       joint.hosts size at.hosts k p g low refl);
+  bridges = subst (AllZip (IsCompleteBridgeLog plant (noted_on_rings joint)) plant.bridges)
+      (sym none) (bridges-zip (IsCompleteBridgeLog plant (noted_on_rings joint)) plant sound);
 }

@@ -1,4 +1,4 @@
--- How the lists of stations go, one after another.
+-- How the lists of stations, of bridges and of rings go, one after another.
 use Rattle.std.proofs.Common.{◌≡◌, ℕ, ◌+◌, ◌<◌, ◌≤◌, Bool, false, List, [], ◌∷◌, ◌++◌, length}
 use Rattle.std.proofs.Common.{get_or, map, take}
 use Rattle.std.proofs.Common.{refl, sym, ap, subst, ◌∙◌, ⊎_elim, arith}
@@ -8,24 +8,34 @@ use Rattle.std.proofs.lemmas.Bool.{cases_lt}
 use Rattle.std.proofs.lemmas.List.{get_or_append_left, get_or_default, get_or_push, length_push}
 use Rattle.std.proofs.lemmas.List.{map-append, take_all}
 use Rattle.std.proofs.lemmas.Slice.Zip.{get_or-zip, length-zip}
+use Rattle.plant_types.specs.declared.net.BridgePlan.{BridgePlan}
 use Rattle.plant_types.specs.declared.net.HostPlan.{HostPlan}
+use Rattle.plant_types.specs.declared.net.NetPlan.{NetPlan}
 use Rattle.plant_types.specs.declared.plan.ControllerPlan.{ControllerPlan}
 use Rattle.plant_types.specs.declared.plan.Plant.{Plant}
 use Rattle.plant_types.specs.Plans.{IsPlant}
+use Rattle.ring_core.specs.declared.bare.BareRing.{BareRing}
+use Rattle.ring_core.specs.Legal.{IsLegalRing}
 use Rattle.controller_core.specs.declared.notes.Notes.{Notes}
 use Rattle.controller_core.specs.Controller.{IsLegal}
 use Rattle.host_port.specs.Legal.{IsHostHistory}
+use Rattle.bridge_relay.specs.Legal.{IsBridgeHistory}
+use Rattle.joint_history.specs.declared.joint.BridgeLog.{BridgeLog}
 use Rattle.joint_history.specs.declared.joint.ControllerLog.{ControllerLog}
 use Rattle.joint_history.specs.declared.joint.HostLog.{HostLog}
+use Rattle.joint_history.specs.declared.joint.RingLog.{RingLog}
 use Rattle.joint_history.specs.declared.joint.Joint.{Joint}
 use Rattle.joint_history.specs.Complete.{ControllerIsComplete, EndsEachCall}
-use Rattle.joint_history.specs.JointLaws.{IsLegalHostLog, IsLegalLog, fixed_of}
+use Rattle.joint_history.specs.JointLaws.{IsLegalBridgeLog, IsLegalHostLog, IsLegalLog}
+use Rattle.joint_history.specs.JointLaws.{IsLegalRingLog, fixed_of}
 use Rattle.joint_history.specs.Noted.{notes_by_log, notes_in}
 use Rattle.joint_history.specs.Reading.{host_items_of}
-use Rattle.joint_law.specs.AllCourses.{AreHostsDone, AreWholeCourses}
+use Rattle.joint_law.specs.AllCourses.{AreHostsDone, AreRingsBehind, AreWholeCourses}
 use Rattle.joint_law.specs.Differing.{BreaksAt}
-use Rattle.joint_law.specs.Spots.{AreLegalHostLogs, AreLegalLogs, ControllerSpot, HasSections}
-use Rattle.joint_law.specs.Spots.{HostSpot}
+use Rattle.joint_law.specs.RingFollowing.{IsRingBehind}
+use Rattle.joint_law.specs.Spots.{AreLegalBridgeLogs, AreLegalHostLogs, AreLegalLogs}
+use Rattle.joint_law.specs.Spots.{AreLegalRingLogs, BridgeSpot, ControllerSpot, HasSections}
+use Rattle.joint_law.specs.Spots.{HostSpot, RingSpot}
 use Rattle.joint_law.proofs.AtNodes.{item-of}
 use Rattle.joint_law.proofs.CourseSteps.{earlier-all, here-any, same-node, same-size, zip-all}
 use Rattle.joint_law.proofs.Lists.{take-push}
@@ -264,5 +274,181 @@ hosts-end plant joint plans logs done k plans-are logs-are sections all size leg
       record {
         size = omega (arith, size, all, n);
         each = λ j g low. each' j (item-of plant.hosts j low) g (omega (arith, all, n));
+      },
+    )
+
+-- ---- bridges
+
+-- what stands at a place that is none
+abbrev pub any_bridge : BridgePlan
+any_bridge = record { left_net = 0; left = 0; right_net = 0; right = 0 }
+
+abbrev pub BridgesLegal : List BridgePlan → List BridgeLog → ℕ → Type 0
+BridgesLegal plans logs k =
+    (j : ℕ) (p : BridgePlan) (g : BridgeLog) → j < k
+    → IsBridgeHistory (get_or plans j p) (get_or logs j g).entries
+
+bridge-spot-of : (plant : Plant) (scans : ℕ) (joint : Joint) (k place : ℕ) (plan : BridgePlan)
+    (log : BridgeLog) → IsPlant plant → HasSections plant joint → AreLegalLogs plant scans joint
+    → AreLegalHostLogs plant joint → k < length plant.bridges
+    → plan ≡ get_or plant.bridges k plan → log ≡ get_or joint.bridges k log
+    → BridgesLegal plant.bridges joint.bridges k
+    → BreaksAt (IsBridgeHistory plan) log.entries place
+    → BridgeSpot plant scans joint log.left place
+bridge-spot-of plant scans joint k place plan log sound sections controllers hosts low is-p is-g
+    before breaks =
+    let size = same-size (λ (p : BridgePlan). p.left) (λ (g : BridgeLog). g.left) plant.bridges
+    joint.bridges sections.lefts in
+    record {
+      sections = sections;
+      controllers = controllers;
+      hosts = hosts;
+      earlier =
+          earlier-all (λ (p : BridgePlan). p.left) (λ (g : BridgeLog). g.left)
+          (λ p g. IsBridgeHistory p g.entries) plant.bridges joint.bridges sections.lefts
+          sound.bridges_rise k log low is-g before;
+      here =
+          here-any (λ of. (of.1.left ≡ log.left)
+          × BreaksAt (IsBridgeHistory of.0) of.1.entries place) plant.bridges joint.bridges k plan
+          log size low is-p is-g (refl, breaks);
+    }
+
+pub bridge-spot : (plant : Plant) (scans : ℕ) (joint : Joint) (plans : List BridgePlan)
+    (logs : List BridgeLog) (k place left : ℕ) (plan : BridgePlan) (log : BridgeLog)
+    → plans ≡ plant.bridges → logs ≡ joint.bridges → IsPlant plant → HasSections plant joint
+    → AreLegalLogs plant scans joint → AreLegalHostLogs plant joint → k < length plans
+    → plan ≡ get_or plans k plan → log ≡ get_or logs k log → left ≡ log.left
+    → BridgesLegal plans logs k → BreaksAt (IsBridgeHistory plan) log.entries place
+    → BridgeSpot plant scans joint left place
+bridge-spot plant scans joint plans logs k place left plan log plans-are logs-are sound sections
+    controllers hosts low is-p is-g is before breaks =
+    subst (λ (n : ℕ). BridgeSpot plant scans joint n place) (sym is)
+    (bridge-spot-of plant scans joint k place plan log sound sections controllers hosts
+    (subst (λ (l : List BridgePlan). k < length l) plans-are low)
+    (subst (λ (l : List BridgePlan). plan ≡ get_or l k plan) plans-are is-p)
+    (subst (λ (l : List BridgeLog). log ≡ get_or l k log) logs-are is-g)
+    (subst (λ (l : List BridgePlan). BridgesLegal l joint.bridges k) plans-are
+    (subst (λ (l : List BridgeLog). BridgesLegal plans l k) logs-are before)) breaks)
+
+pub bridges-end : (plant : Plant) (joint : Joint) (plans : List BridgePlan) (logs : List BridgeLog)
+    (k : ℕ) → plans ≡ plant.bridges → logs ≡ joint.bridges → HasSections plant joint
+    → k ≡ length plans → BridgesLegal plans logs k → AreLegalBridgeLogs plant joint
+bridges-end plant joint plans logs k plans-are logs-are sections all legal =
+    let sizes = same-size (λ (p : BridgePlan). p.left) (λ (g : BridgeLog). g.left) plant.bridges
+    joint.bridges sections.lefts in
+    let n = ap (λ (l : List BridgePlan). length l) plans-are in
+    let legal' = subst (λ (l : List BridgePlan). BridgesLegal l joint.bridges k) plans-are
+    (subst (λ (l : List BridgeLog). BridgesLegal plans l k) logs-are legal) in
+    zip-all IsLegalBridgeLog plant.bridges joint.bridges sizes (λ j p g low. (
+      same-node (λ (p : BridgePlan). p.left) (λ (g : BridgeLog). g.left) plant.bridges
+          joint.bridges sections.lefts j p g low,
+      same-node (λ (p : BridgePlan). p.right) (λ (g : BridgeLog). g.right) plant.bridges
+          joint.bridges sections.rights j p g low,
+      legal' j p g (omega (arith, all, n)),
+    ))
+
+-- ---- rings
+
+abbrev pub RingsBehind : List NetPlan → List RingLog → List BareRing → ℕ → Type 0
+RingsBehind nets logs rings k =
+    (j : ℕ) (net : NetPlan) (log : RingLog) (bare : BareRing) → j < k
+    → IsRingBehind (get_or nets j net) (get_or logs j log).entries (get_or rings j bare)
+
+-- one more ring is behind its list
+pub rings-next : (nets : List NetPlan) (logs : List RingLog) (rings : List BareRing)
+    (b : BareRing) (k : ℕ) (p : NetPlan) (g : RingLog) → length rings ≡ k
+    → RingsBehind nets logs rings k
+    → k < length nets → k < length logs → p ≡ get_or nets k p → g ≡ get_or logs k g
+    → IsRingBehind p g.entries b → RingsBehind nets logs (rings ++ b ∷ []) (k + 1)
+rings-next nets logs rings b k p g size before low-p low-g is-p is-g here j q h d below =
+    ⊎_elim (λ (l : j < k). subst (IsRingBehind (get_or nets j q) (get_or logs j h).entries)
+    (sym (get_or_append_left rings (b ∷ []) d j (omega (arith, size)))) (before j q h d l))
+    (λ (l : k ≤ j).
+    let e : k ≡ j = omega arith in
+    subst (IsRingBehind (get_or nets j q) (get_or logs j h).entries)
+    (sym (get_or_push rings b d j (size ∙ e)))
+    (subst (λ (n : ℕ). IsRingBehind (get_or nets n q) (get_or logs n h).entries b) e
+    (subst (λ (x : NetPlan). IsRingBehind x (get_or logs k h).entries b)
+    (is-p ∙ get_or_default nets k p q low-p)
+    (subst (λ (x : RingLog). IsRingBehind p x.entries b)
+    (is-g ∙ get_or_default logs k g h low-g) here))))
+    (cases_lt j k)
+
+pub ring-size-next : (rings : List BareRing) (b : BareRing) (k : ℕ) → length rings ≡ k
+    → length (rings ++ b ∷ []) ≡ k + 1
+ring-size-next rings b k size = let n = length_push rings b in omega (arith, n, size)
+
+-- a ring is there, where a list is followed
+some-ring : (rings : List BareRing) (k : ℕ) → k < length rings → BareRing
+some-ring [] k low = absurd (omega arith)
+some-ring (b ∷ rings) k low = b
+
+ring-spot-of : (plant : Plant) (scans : ℕ) (joint : Joint) (rings : List BareRing) (k place : ℕ)
+    (net : NetPlan) (log : RingLog) → IsPlant plant → HasSections plant joint
+    → AreLegalLogs plant scans joint → AreLegalHostLogs plant joint
+    → AreLegalBridgeLogs plant joint → k < length plant.nets → length rings ≡ k
+    → net ≡ get_or plant.nets k net → log ≡ get_or joint.rings k log
+    → RingsBehind plant.nets joint.rings rings k
+    → BreaksAt (IsLegalRing net) log.entries place → RingSpot plant scans joint log.network place
+ring-spot-of plant scans joint rings k place net log sound sections controllers hosts bridges low
+    count is-p is-g before breaks =
+    let size = same-size (λ (p : NetPlan). p.number) (λ (g : RingLog). g.network) plant.nets
+    joint.rings sections.rings in
+    record {
+      sections = sections;
+      controllers = controllers;
+      hosts = hosts;
+      bridges = bridges;
+      earlier =
+          earlier-all (λ (p : NetPlan). p.number) (λ (g : RingLog). g.network)
+          (λ p g. IsLegalRing p g.entries) plant.nets joint.rings sections.rings
+          sound.nets_rise k log low is-g
+          (λ j p g less.
+          (before j p g (some-ring rings j (omega (arith, count, less))) less).legal);
+      here =
+          here-any (λ of. (of.1.network ≡ log.network)
+          × BreaksAt (IsLegalRing of.0) of.1.entries place) plant.nets joint.rings k net log
+          size low is-p is-g (refl, breaks);
+    }
+
+pub ring-spot : (plant : Plant) (scans : ℕ) (joint : Joint) (nets : List NetPlan)
+    (logs : List RingLog) (rings : List BareRing) (k place network : ℕ) (net : NetPlan)
+    (log : RingLog)
+    → nets ≡ plant.nets → logs ≡ joint.rings → IsPlant plant → HasSections plant joint
+    → AreLegalLogs plant scans joint → AreLegalHostLogs plant joint
+    → AreLegalBridgeLogs plant joint → k < length nets → length rings ≡ k
+    → net ≡ get_or nets k net → log ≡ get_or logs k log → network ≡ log.network
+    → RingsBehind nets logs rings k → BreaksAt (IsLegalRing net) log.entries place
+    → RingSpot plant scans joint network place
+ring-spot plant scans joint nets logs rings k place network net log nets-are logs-are sound
+    sections controllers hosts bridges low count is-p is-g is before breaks =
+    subst (λ (n : ℕ). RingSpot plant scans joint n place) (sym is)
+    (ring-spot-of plant scans joint rings k place net log sound sections controllers hosts bridges
+    (subst (λ (l : List NetPlan). k < length l) nets-are low) count
+    (subst (λ (l : List NetPlan). net ≡ get_or l k net) nets-are is-p)
+    (subst (λ (l : List RingLog). log ≡ get_or l k log) logs-are is-g)
+    (subst (λ (l : List NetPlan). RingsBehind l joint.rings rings k) nets-are
+    (subst (λ (l : List RingLog). RingsBehind nets l rings k) logs-are before)) breaks)
+
+pub rings-end : (plant : Plant) (joint : Joint) (nets : List NetPlan) (logs : List RingLog)
+    (rings : List BareRing) (k : ℕ) → nets ≡ plant.nets → logs ≡ joint.rings
+    → HasSections plant joint → k ≡ length nets → length rings ≡ k
+    → RingsBehind nets logs rings k
+    → AreLegalRingLogs plant joint × AreRingsBehind plant joint rings
+rings-end plant joint nets logs rings k nets-are logs-are sections all count behind =
+    let sizes = same-size (λ (p : NetPlan). p.number) (λ (g : RingLog). g.network) plant.nets
+    joint.rings sections.rings in
+    let n = ap (λ (l : List NetPlan). length l) nets-are in
+    let behind' = subst (λ (l : List NetPlan). RingsBehind l joint.rings rings k) nets-are
+    (subst (λ (l : List RingLog). RingsBehind nets l rings k) logs-are behind) in (
+      zip-all IsLegalRingLog plant.nets joint.rings sizes (λ j p g low. (
+        same-node (λ (p : NetPlan). p.number) (λ (g : RingLog). g.network) plant.nets joint.rings
+            sections.rings j p g low,
+        (behind' j p g (some-ring rings j (omega (arith, all, n, count)))
+            (omega (arith, all, n))).legal,
+      )),
+      record {
+        size = omega (arith, count, all, n);
+        each = λ j p g b low. behind' j p g b (omega (arith, all, n));
       },
     )

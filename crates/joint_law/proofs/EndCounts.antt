@@ -26,7 +26,7 @@ use Rattle.tied_lists.proofs.Boxes.{count-cons}
 use Rattle.joint_history.specs.Complete.{EndsEachCall}
 use Rattle.joint_history.specs.Reading.{items_of, host_items_of}
 use Rattle.joint_law.specs.Endings.{end_with, host_end_with}
-use Rattle.joint_law.specs.Ends.{EndsOnce, end_id_in, ends_of, host_end_id_in, id_of_call}
+use Rattle.joint_law.specs.Ends.{EndsOnce, end_id_in, times_ended, host_end_id_in, id_of_call}
 use Rattle.joint_law.specs.Ends.{id_of_end}
 use Rattle.joint_law.proofs.Lists.{ends-more, host-ends-more}
 
@@ -73,7 +73,7 @@ host-end-ids-more es i e low is =
 
 -- the ends of a call among the names of all ends
 ends-named : (ends : List Ended) (call : CallId)
-    → ends_of (map id_of_end ends) call ≡ count_by (λ (end : Ended). is_same_call end.id call) ends
+    → times_ended (map id_of_end ends) call ≡ count_by (λ (end : Ended). is_same_call end.id call) ends
 ends-named [] call = refl
 ends-named (e ∷ es) call =
     count-cons (λ (id : CallId). is_same_call id call) e.id (map id_of_end es)
@@ -143,7 +143,7 @@ one-true n is = at (n == 0) (n == 1) refl refl is
 
 pub ended-once : (ends : List CallId) (once : ByCall Bool) → CountsEnds ends once → (id : CallId)
     → value_of_call once id ≡ Some true → EndsOnce ends id
-ended-once ends once counts id is = one-true (ends_of ends id) (sym (counts id) ∙ is)
+ended-once ends once counts id is = one-true (times_ended ends id) (sym (counts id) ∙ is)
 
 pub once-ended : (ends : List CallId) (once : ByCall Bool) → CountsEnds ends once → (id : CallId)
     → EndsOnce ends id → value_of_call once id ≡ Some true

@@ -11,6 +11,7 @@ pub mod Fitting
 pub mod LawSteps
 pub mod Progress
 pub mod RingSteps
+pub mod Rings
 pub mod OwnPlaces
 pub mod Outside
 pub mod Verdicts

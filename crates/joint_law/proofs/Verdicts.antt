@@ -7,8 +7,9 @@ use Rattle.std.proofs.Math.ListN.{get_or-map}
 use Rattle.std.proofs.lemmas.List.{get_or-append-add, get_or_append_left, length-append}
 use Rattle.std.proofs.lemmas.List.{length-map}
 use Rattle.std.proofs.lemmas.List.{take-append-drop}
-use Rattle.std.proofs.lemmas.List.Elements.{All-append, All-map, filter_map-append}
+use Rattle.std.proofs.lemmas.List.Elements.{All-append, All-map, All-nil, filter_map-append}
 use Rattle.std.proofs.lemmas.Slice.Zip.{get_or-zip, length-zip}
+use Rattle.plant_types.specs.declared.net.BridgePlan.{BridgePlan}
 use Rattle.plant_types.specs.declared.net.HostPlan.{HostPlan}
 use Rattle.plant_types.specs.declared.net.NetPlan.{NetPlan}
 use Rattle.plant_types.specs.declared.plan.ControllerPlan.{ControllerPlan}
@@ -21,13 +22,19 @@ use Rattle.controller_core.specs.Controller.{IsLegal}
 use Rattle.controller_core.specs.Laws.{FrontsAreLegal}
 use Rattle.host_port.specs.declared.entry.HostEntry.{HostEntry}
 use Rattle.host_port.specs.Legal.{IsHostHistory, Question, question_by, questions_in}
+use Rattle.bridge_relay.specs.declared.entry.BridgeEntry.{BridgeEntry}
+use Rattle.bridge_relay.specs.Legal.{IsBridgeHistory}
+use Rattle.joint_history.specs.declared.joint.BridgeLog.{BridgeLog}
 use Rattle.joint_history.specs.declared.joint.ControllerLog.{ControllerLog}
 use Rattle.joint_history.specs.declared.joint.HostLog.{HostLog}
+use Rattle.joint_history.specs.declared.joint.RingLog.{RingLog}
 use Rattle.joint_history.specs.declared.joint.Joint.{Joint}
 use Rattle.joint_history.specs.Complete.{IsComplete, IsCompleteHostLog, IsCompleteLog}
-use Rattle.joint_history.specs.JointLaws.{IsJoint, IsLegalHostLog, IsLegalJoint, IsLegalLog}
-use Rattle.joint_history.specs.JointLaws.{IsTiedController}
-use Rattle.joint_history.specs.JointLaws.{IsTiedHost, fixed_of}
+use Rattle.joint_history.specs.JointLaws.{IsJoint, IsLegalBridgeLog, IsLegalHostLog, IsLegalJoint}
+use Rattle.joint_history.specs.JointLaws.{IsLegalLog, IsLegalRingLog, IsTiedBridge}
+use Rattle.joint_history.specs.JointLaws.{IsTiedController, IsTiedHost, fixed_of}
+use Rattle.joint_history.specs.Nets.{noted_on_rings}
+use Rattle.joint_history.proofs.OneRing.{bridges-none}
 use Rattle.joint_law.specs.AllComplete.{IsFirstIncomplete}
 use Rattle.joint_law.specs.Bound.{Bound, BreaksLaw, KeepsLaw, bounds_of, controller_bound}
 use Rattle.joint_law.specs.Bound.{host_bound}
@@ -35,7 +42,7 @@ use Rattle.joint_law.specs.Differing.{BreaksAt, DifferAt}
 use Rattle.joint_law.specs.Failing.{AreFounded}
 use Rattle.tied_lists.specs.Items.{downs_by}
 use Rattle.joint_law.specs.LawEnds.{AllKeep, IsFirstBreak, IsLawsEnd}
-use Rattle.joint_law.specs.Spots.{AreLegalHostLogs, AreLegalLogs, HasSections, IsCompleteAt}
+use Rattle.joint_law.specs.Spots.{HasSections, IsCompleteAt}
 use Rattle.joint_law.specs.Spots.{IsFirstSpot, IsSpot, IsVerdict, IsWholeRun}
 use Rattle.joint_law.specs.declared.law.Law.{Law}
 use Rattle.joint_law.specs.declared.law.Law.TheVariants.{Asks, Answers, Replies, Ends, Downs}
@@ -50,44 +57,54 @@ use Rattle.joint_law.proofs.Founded.{founded-front}
 
 -- ---- sections
 
-pub legal-sections : (plant : Plant) (scans : ℕ) (joint : Joint) → AreLegalLogs plant scans joint
-    → AreLegalHostLogs plant joint → HasSections plant joint
-legal-sections plant scans joint controllers hosts = record {
+pub legal-sections : (plant : Plant) (scans : ℕ) (joint : Joint) → IsLegalJoint plant scans joint
+    → HasSections plant joint
+legal-sections plant scans joint legal = record {
   controllers =
       zip-map (IsLegalLog plant scans) (λ (p : ControllerPlan). p.node)
-      (λ (g : ControllerLog). g.node) (λ p g legal. legal.0) plant.controllers joint.controllers
-      controllers;
+      (λ (g : ControllerLog). g.node) (λ p g is. is.0) plant.controllers joint.controllers
+      legal.controllers;
   hosts =
       zip-map IsLegalHostLog (λ (p : HostPlan). p.node) (λ (g : HostLog). g.node)
-      (λ p g legal. legal.0) plant.hosts joint.hosts hosts;
+      (λ p g is. is.0) plant.hosts joint.hosts legal.hosts;
+  lefts =
+      zip-map IsLegalBridgeLog (λ (p : BridgePlan). p.left) (λ (g : BridgeLog). g.left)
+      (λ p g is. is.0) plant.bridges joint.bridges legal.bridges;
+  rights =
+      zip-map IsLegalBridgeLog (λ (p : BridgePlan). p.right) (λ (g : BridgeLog). g.right)
+      (λ p g is. is.1) plant.bridges joint.bridges legal.bridges;
+  rings =
+      zip-map IsLegalRingLog (λ (p : NetPlan). p.number) (λ (g : RingLog). g.network)
+      (λ p g is. is.0) plant.nets joint.rings legal.rings;
 }
 
 -- ---- the laws
 
 each-of : (law : Law) (joint : Joint) → All (KeepsLaw law) (bounds_of joint)
     → ((k : ℕ) (d : ControllerLog) → k < length joint.controllers
-    → KeepsLaw law (controller_bound joint.ring (get_or joint.controllers k d)))
+    → KeepsLaw law (controller_bound (noted_on_rings joint) (get_or joint.controllers k d)))
     × ((k : ℕ) (d : HostLog) → k < length joint.hosts
-    → KeepsLaw law (host_bound joint.ring (get_or joint.hosts k d)))
+    → KeepsLaw law (host_bound (noted_on_rings joint) (get_or joint.hosts k d)))
 each-of law joint all =
-    let xs = map (controller_bound joint.ring) joint.controllers in
-    let ys = map (host_bound joint.ring) joint.hosts in
+    let xs = map (controller_bound (noted_on_rings joint)) joint.controllers in
+    let ys = map (host_bound (noted_on_rings joint)) joint.hosts in
     let n = length-append xs ys in
-    let a = length-map joint.controllers (controller_bound joint.ring) in
-    let b = length-map joint.hosts (host_bound joint.ring) in (
+    let a = length-map joint.controllers (controller_bound (noted_on_rings joint)) in
+    let b = length-map joint.hosts (host_bound (noted_on_rings joint)) in (
       λ k d low. subst (KeepsLaw law)
-          (get_or_append_left xs ys (controller_bound joint.ring d) k (omega (arith, a))
-          ∙ get_or-map (controller_bound joint.ring) joint.controllers k d)
-          (all k (controller_bound joint.ring d) (omega (arith, n, a))),
+          (get_or_append_left xs ys (controller_bound (noted_on_rings joint) d) k
+          (omega (arith, a))
+          ∙ get_or-map (controller_bound (noted_on_rings joint)) joint.controllers k d)
+          (all k (controller_bound (noted_on_rings joint) d) (omega (arith, n, a))),
       λ k d low. subst (KeepsLaw law)
-          (get_or-append-add xs ys k (host_bound joint.ring d)
-          ∙ get_or-map (host_bound joint.ring) joint.hosts k d)
-          (all (length xs + k) (host_bound joint.ring d) (omega (arith, n, b))),
+          (get_or-append-add xs ys k (host_bound (noted_on_rings joint) d)
+          ∙ get_or-map (host_bound (noted_on_rings joint)) joint.hosts k d)
+          (all (length xs + k) (host_bound (noted_on_rings joint) d) (omega (arith, n, b))),
     )
 
 pub keeps-joint : (joint : Joint) → ((law : Law) → All (KeepsLaw law) (bounds_of joint))
-    → IsJoint joint
-keeps-joint joint all =
+    → joint.bridges ≡ [] → IsJoint joint
+keeps-joint joint all none =
     let asks = each-of Asks joint (all Asks) in
     let answers = each-of Answers joint (all Answers) in
     let replies = each-of Replies joint (all Replies) in
@@ -110,6 +127,8 @@ keeps-joint joint all =
         ends = ends.1 k d low;
         downs = downs.1 k d low;
       };
+      bridges = subst (All (IsTiedBridge (noted_on_rings joint))) (sym none)
+          (All-nil (IsTiedBridge (noted_on_rings joint)));
     }
 
 controller-keeps : (law : Law) (ring : List RingEntry) (log : ControllerLog)
@@ -131,13 +150,13 @@ host-keeps Downs ring log t = t.downs
 pub joint-keeps : (joint : Joint) (law : Law) → IsJoint joint
     → All (KeepsLaw law) (bounds_of joint)
 joint-keeps joint law j =
-    All-append (KeepsLaw law) (map (controller_bound joint.ring) joint.controllers)
-    (map (host_bound joint.ring) joint.hosts)
-    (All-map (KeepsLaw law) (controller_bound joint.ring) joint.controllers
-    (λ k d low. controller-keeps law joint.ring (get_or joint.controllers k d)
+    All-append (KeepsLaw law) (map (controller_bound (noted_on_rings joint)) joint.controllers)
+    (map (host_bound (noted_on_rings joint)) joint.hosts)
+    (All-map (KeepsLaw law) (controller_bound (noted_on_rings joint)) joint.controllers
+    (λ k d low. controller-keeps law (noted_on_rings joint) (get_or joint.controllers k d)
     (j.controllers k d low)))
-    (All-map (KeepsLaw law) (host_bound joint.ring) joint.hosts
-    (λ k d low. host-keeps law joint.ring (get_or joint.hosts k d) (j.hosts k d low)))
+    (All-map (KeepsLaw law) (host_bound (noted_on_rings joint)) joint.hosts
+    (λ k d low. host-keeps law (noted_on_rings joint) (get_or joint.hosts k d) (j.hosts k d low)))
 
 -- all addresses are low, so a law kept below is kept by all
 pub low-keep : (law : Law) (stations : List Bound)
@@ -149,8 +168,7 @@ pub law-spot : (plant : Plant) (scans : ℕ) (joint : Joint) (spot : Spot) → I
     → IsLegalJoint plant scans joint → IsFirstBreak (bounds_of joint) spot
     → IsSpot plant scans joint spot
 law-spot plant scans joint spot sound legal first =
-    let low = bounds-low plant joint sound
-    (legal-sections plant scans joint legal.controllers legal.hosts) in
+    let low = bounds-low plant joint sound (legal-sections plant scans joint legal) in
     let b = first.breaks in
     subst (IsSpot plant scans joint) (sym b.spot_is) (
       first.law,
@@ -166,9 +184,9 @@ law-spot plant scans joint spot sound legal first =
 pub laws-joint : (plant : Plant) (scans : ℕ) (joint : Joint) → IsPlant plant
     → IsLegalJoint plant scans joint → IsLawsEnd (bounds_of joint) None → IsJoint joint
 laws-joint plant scans joint sound legal all =
-    let low = bounds-low plant joint sound
-    (legal-sections plant scans joint legal.controllers legal.hosts) in
+    let low = bounds-low plant joint sound (legal-sections plant scans joint legal) in
     keeps-joint joint (λ law. low-keep law (bounds_of joint) low (all law))
+    (bridges-none plant scans joint sound legal)
 
 -- ---- the stations that were done
 
@@ -179,8 +197,8 @@ end-spot plant scans joint sound legal tied each = record {
   legal = legal;
   tied = tied;
   complete =
-      all-complete plant scans joint sound
-      (legal-sections plant scans joint legal.controllers legal.hosts) each;
+      all-complete plant scans joint sound (legal-sections plant scans joint legal)
+      (bridges-none plant scans joint sound legal) each;
 }
 
 pub incomplete-spot : (plant : Plant) (scans : ℕ) (joint : Joint) (node : ℕ)
@@ -216,6 +234,12 @@ host-front plan front rest h = record {
       λ before after entry is. h.each before (after ++ rest) entry
       (ap (λ (l : List HostEntry). l ++ rest) is ∙ append_assoc before (entry ∷ after) rest);
 }
+
+pub bridge-front : (plan : BridgePlan) (front rest : List BridgeEntry)
+    → IsBridgeHistory plan (front ++ rest) → IsBridgeHistory plan front
+bridge-front plan front rest h before after entry is =
+    h before (after ++ rest) entry
+    (ap (λ (l : List BridgeEntry). l ++ rest) is ∙ append_assoc before (entry ∷ after) rest)
 
 pub no-break : {E : Type 0} (Good : List E → Type 0)
     → ((front rest : List E) → Good (front ++ rest) → Good front) → (entries : List E) (place : ℕ)
@@ -264,29 +288,31 @@ complete-at plant scans joint node sections complete = record {
       plant.controllers joint.controllers sections.controllers in
       let n = length-zip plant.controllers joint.controllers in
       subst (λ (of : ControllerPlan × ControllerLog). of.1.node ≡ node
-      → IsCompleteLog plant scans joint.ring of.0 of.1)
+      → IsCompleteLog plant scans (noted_on_rings joint) of.0 of.1)
       (sym (get_or-zip plant.controllers joint.controllers k d (omega (arith, size, n))
       (omega (arith, size, n))))
-      (λ _. zip-at (IsCompleteLog plant scans joint.ring) plant.controllers joint.controllers
+      (λ _. zip-at (IsCompleteLog plant scans (noted_on_rings joint)) plant.controllers
+      joint.controllers
       complete.controllers k d.0 d.1 (omega (arith, size, n)));
   hosts = λ k d low.
       let size = same-size (λ (p : HostPlan). p.node) (λ (g : HostLog). g.node) plant.hosts
       joint.hosts sections.hosts in
       let n = length-zip plant.hosts joint.hosts in
       subst (λ (of : HostPlan × HostLog). of.1.node ≡ node
-      → IsCompleteHostLog plant joint.ring of.0 of.1)
+      → IsCompleteHostLog plant (noted_on_rings joint) of.0 of.1)
       (sym (get_or-zip plant.hosts joint.hosts k d (omega (arith, size, n))
       (omega (arith, size, n))))
-      (λ _. zip-at (IsCompleteHostLog plant joint.ring) plant.hosts joint.hosts complete.hosts k
+      (λ _. zip-at (IsCompleteHostLog plant (noted_on_rings joint)) plant.hosts joint.hosts
+      complete.hosts k
       d.0 d.1 (omega (arith, size, n)));
 }
 
 no-spot : FrontsAreLegal → (plant : Plant) (scans : ℕ) (joint : Joint)
     → IsWholeRun plant scans joint → (spot : Spot) → IsSpot plant scans joint spot → ⊥
 no-spot fronts plant scans joint whole spots.Sections none =
-    none (legal-sections plant scans joint whole.legal.controllers whole.legal.hosts)
+    none (legal-sections plant scans joint whole.legal)
 no-spot fronts plant scans joint whole (spots.Controller node entry) spot =
-    let sections = legal-sections plant scans joint whole.legal.controllers whole.legal.hosts in
+    let sections = legal-sections plant scans joint whole.legal in
     let size = same-size (λ (p : ControllerPlan). p.node) (λ (g : ControllerLog). g.node)
     plant.controllers joint.controllers sections.controllers in
     let pair = some-pair (IsLegalLog plant scans) _ plant.controllers joint.controllers size
@@ -294,24 +320,36 @@ no-spot fronts plant scans joint whole (spots.Controller node entry) spot =
     no-break (IsLegal (fixed_of plant scans pair.0.0)) (fronts (fixed_of plant scans pair.0.0))
     pair.0.1.entries entry pair.1.1 pair.2.1
 no-spot fronts plant scans joint whole (spots.Host node entry) spot =
-    let sections = legal-sections plant scans joint whole.legal.controllers whole.legal.hosts in
+    let sections = legal-sections plant scans joint whole.legal in
     let size = same-size (λ (p : HostPlan). p.node) (λ (g : HostLog). g.node) plant.hosts
     joint.hosts sections.hosts in
     let pair = some-pair IsLegalHostLog _ plant.hosts joint.hosts size whole.legal.hosts
     spot.here in
     no-break (IsHostHistory pair.0.0) (host-front pair.0.0) pair.0.1.entries entry pair.1.1
     pair.2.1
-no-spot fronts plant scans joint whole (spots.Ring entry) spot =
-    no-break (IsLegalRing plant.net) (ring-front plant.net []) joint.ring entry whole.legal.ring
-    spot.here
+no-spot fronts plant scans joint whole (spots.Bridge left entry) spot =
+    let sections = legal-sections plant scans joint whole.legal in
+    let size = same-size (λ (p : BridgePlan). p.left) (λ (g : BridgeLog). g.left) plant.bridges
+    joint.bridges sections.lefts in
+    let pair = some-pair IsLegalBridgeLog _ plant.bridges joint.bridges size whole.legal.bridges
+    spot.here in
+    no-break (IsBridgeHistory pair.0.0) (bridge-front pair.0.0) pair.0.1.entries entry pair.1.2
+    pair.2.1
+no-spot fronts plant scans joint whole (spots.Ring network entry) spot =
+    let sections = legal-sections plant scans joint whole.legal in
+    let size = same-size (λ (p : NetPlan). p.number) (λ (g : RingLog). g.network) plant.nets
+    joint.rings sections.rings in
+    let pair = some-pair IsLegalRingLog _ plant.nets joint.rings size whole.legal.rings
+    spot.here in
+    no-break (IsLegalRing pair.0.0) (ring-front pair.0.0 []) pair.0.1.entries entry pair.1.1
+    pair.2.1
 no-spot fronts plant scans joint whole (spots.Law number node place) spot =
     let any = spot.2.here in
     let s = any.1 in
     kept-unbroken spot.0 s place (subst (KeepsLaw spot.0) any.3
     (joint-keeps joint spot.0 whole.tied any.0 s any.2)) any.4.1
 no-spot fronts plant scans joint whole (spots.Incomplete node) spot =
-    spot.here (complete-at plant scans joint node
-    (legal-sections plant scans joint whole.legal.controllers whole.legal.hosts)
+    spot.here (complete-at plant scans joint node (legal-sections plant scans joint whole.legal)
     whole.complete)
 
 -- a verdict is Legal exactly where the run is whole

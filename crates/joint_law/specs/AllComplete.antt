@@ -26,24 +26,27 @@ use Rattle.joint_law.specs.RingFollowing.{IsRingBehind}
 use Rattle.joint_law.specs.Spots.{IsCompleteAt}
 use Rattle.joint_law.specs.declared.complete.Followed.{Followed}
 use Rattle.joint_law.specs.declared.complete.Standing.{Standing}
+use Rattle.plant_types.specs.Plans.{first_net}
+use Rattle.joint_history.specs.Nets.{noted_on_rings}
 
 -- What following all lists has shown is so.
 pub record IsFollowed (plant : Plant) (scans : ℕ) (joint : Joint) (followed : Followed)
     : Type 0 where
   pub done : AreDone plant scans joint followed.done.now
   pub hosts : AreHostsDone plant joint followed.hosts_done.now
-  pub ring : IsRingBehind plant.net joint.ring followed.ring.now
+  pub ring : IsRingBehind (first_net plant) (noted_on_rings joint) followed.ring.now
 
 -- The entries of a node on the ring.
 abbrev pub entries_on : Standing → List RingEntry
 entries_on on = picked on.ring.now on.places.now
 
--- A node stands so behind the ring's whole list, if it is a member.
-pub record IsStandingOf (joint : Joint) (net : NetPlan) (node : ℕ) (on : Standing) : Type 0 where
+-- A node stands so behind the whole list, if it is a member.
+pub record IsStandingOf (ring : List RingEntry) (net : NetPlan) (node : ℕ) (on : Standing)
+    : Type 0 where
   pub node_is : on.node ≡ node
-  pub ring_is : on.ring.now ≡ joint.ring
+  pub ring_is : on.ring.now ≡ ring
   pub places : AreOfNode on.ring.now node on.places.now
-  pub status : IsMember net node → on.status ≡ status_at net joint.ring node
+  pub status : IsMember net node → on.status ≡ status_at net ring node
 
 -- A node was done on the ring, whose station gave such replies and lost its power so often.
 pub record IsNodeDone (answers : List (Option (List ℕ))) (fails : ℕ) (b : List RingEntry)

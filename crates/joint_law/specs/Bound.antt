@@ -19,6 +19,7 @@ use Rattle.joint_law.specs.Picked.{picked}
 use Rattle.joint_law.specs.Taking.{due_behind, items_for}
 use Rattle.joint_law.specs.declared.law.Law.{Law}
 use Rattle.joint_law.specs.declared.law.Law.TheVariants.{Asks, Answers, Replies, Ends, Downs}
+use Rattle.joint_history.specs.Nets.{noted_on_rings}
 
 -- A station with what the laws read: the items of its list, and its node's entries on the ring.
 pub record Bound : Type 0 where
@@ -48,8 +49,8 @@ host_bound ring log = record {
 -- All stations of a joint history.
 abbrev pub bounds_of : Joint → List Bound
 bounds_of joint =
-    map (controller_bound joint.ring) joint.controllers
-    ++ map (host_bound joint.ring) joint.hosts
+    map (controller_bound (noted_on_rings joint)) joint.controllers
+    ++ map (host_bound (noted_on_rings joint)) joint.hosts
 
 -- The laws are counted from 1.
 abbrev pub number_of : Law → ℕ

@@ -30,12 +30,12 @@ host_end_id_in (Answer id result) = Some id
 host_end_id_in _ = None
 
 -- How often a call ends.
-abbrev pub ends_of : List CallId → CallId → ℕ
-ends_of ends call = count_by (λ (id : CallId). is_same_call id call) ends
+abbrev pub times_ended : List CallId → CallId → ℕ
+times_ended ends call = count_by (λ (id : CallId). is_same_call id call) ends
 
 -- A call ends once.
 abbrev pub EndsOnce : List CallId → CallId → Type 0
-EndsOnce ends call = ends_of ends call ≡ 1
+EndsOnce ends call = times_ended ends call ≡ 1
 
 -- Whether a call that has ended did so once.
 abbrev pub once_of : ℕ → Option Bool
@@ -43,7 +43,7 @@ once_of count = if count == 0 then None else Some (count == 1)
 
 -- These ends were noted.
 abbrev pub CountsEnds : List CallId → ByCall Bool → Type 0
-CountsEnds ends once = (q : CallId) → value_of_call once q ≡ once_of (ends_of ends q)
+CountsEnds ends once = (q : CallId) → value_of_call once q ≡ once_of (times_ended ends q)
 
 -- One more end was.
 abbrev pub NotesEnd : ByCall Bool → CallId → ByCall Bool → Type 0

@@ -12,6 +12,7 @@ pub mod Judgements
 pub mod Kinds
 pub mod LawEnds
 pub mod Named
+pub mod OnRings
 pub mod Picked
 pub mod Readings
 pub mod RingFollowing

@@ -10,16 +10,17 @@ ghost use Rattle.joint_law.specs.AllComplete.{IsFirstIncomplete, IsFollowed};
 ghost use Rattle.joint_law.specs.AllComplete.{IsNodeDone, IsOutBy, IsStandingOf, entries_on};
 ghost use Rattle.joint_law.specs.AllComplete.{powered_from};
 ghost use Rattle.joint_law.specs.Spots.{HasSections, IsCompleteAt};
+ghost use Rattle.joint_law.specs.OnRings.{AreOnRings};
 ghost use Rattle.joint_law.specs.Picked.{AreWithin};
 ghost use Rattle.own_places.specs.Places.{ArePlaces};
 
 use crate::completing::{all_fit, all_fit_host, notices};
 use crate::failing::count_fails;
 use crate::following::count_scans;
+use crate::on_rings::OnRings;
 use crate::replying::{Replies, answers, host_answers};
 use controller_core::Entry;
 use joint_history::{ControllerLog, HostLog, Joint};
-use own_places::OwnPlaces;
 use plant_types::{ADDRESSES, HostPlan, Plant};
 use ring_core::{BareRing, NodeStatus, RingEntry};
 use std::alloc::{AllocError, Global};
@@ -195,17 +196,16 @@ fn status_of(bare: &BareRing, past: &[RingEntry], node: u8) -> NodeStatus
 }
 
 /// A node on the ring behind the whole list.
-fn standing_of<'a>(joint: &'a Joint, own: &'a OwnPlaces, bare: &BareRing, node: u8) -> Standing<'a>
-    requires places { ArePlaces joint.now.ring own.now }
-    requires behind { IsBehind joint.now.ring bare.now }
-    ensures { IsStandingOf joint.now (bare_net bare.now) node result }
+fn standing_of<'a>(on: OnRings<'a>, bare: &BareRing, node: u8) -> Standing<'a>
+    requires places { ArePlaces on.ring.now on.own.now }
+    requires behind { IsBehind on.ring.now bare.now }
+    ensures { IsStandingOf on.entry.ring.now (bare_net bare.now) node result }
 {
-    let ring = joint.ring.as_slice();
     Standing {
-        ring,
-        places: own.places(node),
+        ring: on.ring,
+        places: on.own.places(node),
         node,
-        status: status_of(bare, ring, node),
+        status: status_of(bare, on.ring, node),
     }
 }
 
@@ -214,18 +214,18 @@ fn are_done(
     alloc: Global,
     plant: &Plant,
     joint: &Joint,
-    own: &OwnPlaces,
+    on_rings: OnRings,
     scans: u32,
     followed: Followed,
     node: u8,
 ) -> Result<bool, AllocError>
     requires sound { IsPlant plant.now }
     requires sections { HasSections plant.now joint.now }
-    requires places { ArePlaces joint.now.ring own.now }
+    requires on_rings { AreOnRings joint.now on_rings }
     requires followed { IsFollowed plant.now scans joint.now followed }
     ensures { IfOk result (λ done. IsTrue done ↔ IsCompleteAt plant.now scans joint.now node) }
 {
-    let on = standing_of(joint, own, followed.ring, node);
+    let on = standing_of(on_rings, followed.ring, node);
     if !controllers_are_done(
         alloc,
         on,
@@ -250,18 +250,18 @@ pub(crate) fn first_incomplete(
     alloc: Global,
     plant: &Plant,
     joint: &Joint,
-    own: &OwnPlaces,
+    on_rings: OnRings,
     scans: u32,
     followed: Followed,
 ) -> Result<Option<u8>, AllocError>
     requires sound { IsPlant plant.now }
     requires sections { HasSections plant.now joint.now }
-    requires places { ArePlaces joint.now.ring own.now }
+    requires on_rings { AreOnRings joint.now on_rings }
     requires followed { IsFollowed plant.now scans joint.now followed }
     ensures { IfOk result (IsFirstIncomplete plant.now scans joint.now) }
 {
     for node in 0..ADDRESSES {
-        if !are_done(alloc, plant, joint, own, scans, followed, node)? {
+        if !are_done(alloc, plant, joint, on_rings, scans, followed, node)? {
             return Ok(Some(node));
         }
     }

@@ -1,12 +1,16 @@
-//! How the lists of all controllers go, and those of all hosts.
+//! How the lists of all controllers go, of all hosts, of all bridges and of all rings.
 ghost use Rattle.std.specs.Prelude.{IfOk};
-ghost use Rattle.joint_law.specs.Spots.{AreLegalLogs, CanBeJudged, HasSections};
-ghost use Rattle.joint_law.specs.AllCourses.{ControllersEnd, HostsEnd};
+ghost use Rattle.plant_types.specs.Plans.{IsPlant};
+ghost use Rattle.joint_law.specs.Spots.{AreLegalBridgeLogs, AreLegalHostLogs, AreLegalLogs};
+ghost use Rattle.joint_law.specs.Spots.{CanBeJudged, HasSections};
+ghost use Rattle.joint_law.specs.AllCourses.{BridgesEnd, ControllersEnd, HostsEnd, RingsEnd};
 
-use crate::following::{ControllerCourse, Course, controller_course, host_course};
+use crate::following::{ControllerCourse, Course, controller_course, follow_bridge, host_course};
+use crate::ring_following::{RingCourse, ring_course};
 use controller_core::Notes;
 use joint_history::Joint;
 use plant_types::{List, Plant};
+use ring_core::BareRing;
 use std::alloc::{AllocError, Global};
 
 /// How the lists of all controllers go.
@@ -31,6 +35,24 @@ pub(crate) enum HostCourses {
     Breaks { node: u8, place: usize },
     /// All are legal, and each host was done, or not.
     Whole(List<bool>),
+}
+
+/// How the lists of all bridges go.
+#[derive(Clone, Copy, Drop)]
+pub(crate) enum BridgeCourses {
+    /// The first that breaks off, and the entry, counted from 0, that makes it no legal one.
+    Breaks { left: u8, place: usize },
+    /// All are legal.
+    Whole,
+}
+
+/// How the lists of all rings go.
+#[derive(Drop)]
+pub(crate) enum RingCourses {
+    /// The first that breaks off, and the entry, counted from 0, that makes it no legal one.
+    Breaks { network: u8, place: usize },
+    /// All are legal, and each ring is behind its list.
+    Whole(List<BareRing>),
 }
 
 /// Follows the list of each controller.
@@ -84,7 +106,7 @@ pub(crate) fn hosts_course(
     let mut done = List::new(alloc);
     for at in 0..plans.len() {
         let entries = logs[at].entries.as_slice();
-        match host_course(alloc, &plant.net, &plans[at], entries)? {
+        match host_course(alloc, plant.first_net(), &plans[at], entries)? {
             Course::Breaks(place) => {
                 let node = logs[at].node;
                 return Ok(HostCourses::Breaks { node, place });
@@ -93,4 +115,59 @@ pub(crate) fn hosts_course(
         }
     }
     Ok(HostCourses::Whole(done))
+}
+
+/// Follows the list of each bridge.
+pub(crate) fn bridges_course(
+    alloc: Global,
+    plant: &Plant,
+    joint: &Joint,
+    scans: u32,
+) -> Result<BridgeCourses, AllocError>
+    requires sound { IsPlant plant.now }
+    requires sections { HasSections plant.now joint.now }
+    requires controllers { AreLegalLogs plant.now scans joint.now }
+    requires hosts { AreLegalHostLogs plant.now joint.now }
+    ensures { IfOk result (BridgesEnd plant.now scans joint.now) }
+{
+    let plans = plant.bridges.as_slice();
+    let logs = joint.bridges.as_slice();
+    for at in 0..plans.len() {
+        let entries = logs[at].entries.as_slice();
+        if let Some(place) = follow_bridge(alloc, &plans[at], entries)? {
+            let left = logs[at].left;
+            return Ok(BridgeCourses::Breaks { left, place });
+        }
+    }
+    Ok(BridgeCourses::Whole)
+}
+
+/// Follows the list of each ring.
+pub(crate) fn rings_course(
+    alloc: Global,
+    plant: &Plant,
+    joint: &Joint,
+    scans: u32,
+) -> Result<RingCourses, AllocError>
+    requires sound { IsPlant plant.now }
+    requires sections { HasSections plant.now joint.now }
+    requires controllers { AreLegalLogs plant.now scans joint.now }
+    requires hosts { AreLegalHostLogs plant.now joint.now }
+    requires bridges { AreLegalBridgeLogs plant.now joint.now }
+    ensures { IfOk result (RingsEnd plant.now scans joint.now) }
+{
+    let plans = plant.nets.as_slice();
+    let logs = joint.rings.as_slice();
+    let mut rings = List::new(alloc);
+    for at in 0..plans.len() {
+        let entries = logs[at].entries.as_slice();
+        match ring_course(alloc, &plans[at], entries)? {
+            RingCourse::Breaks(place) => {
+                let network = logs[at].network;
+                return Ok(RingCourses::Breaks { network, place });
+            }
+            RingCourse::Whole(ring) => rings.push(ring)?,
+        }
+    }
+    Ok(RingCourses::Whole(rings))
 }

@@ -1,6 +1,7 @@
-//! Following the lists of controllers and hosts.
+//! Following the lists of controllers, hosts and bridges.
 ghost use Rattle.std.specs.Prelude.{◌≡◌, ◌↔◌, ◌+◌, [], None, count_by, IfOk, IfSome, IsTrue};
-ghost use Rattle.plant_types.specs.Plans.{IsHostPlan};
+ghost use Rattle.plant_types.specs.Plans.{IsBridgePlan, IsHostPlan};
+ghost use Rattle.bridge_relay.specs.Legal.{IsBridgeHistory};
 ghost use Rattle.controller_core.specs.Controller.{IsLegal};
 ghost use Rattle.controller_core.specs.Machine.{IsRunnable};
 ghost use Rattle.host_port.specs.Legal.{IsHostHistory};
@@ -10,9 +11,10 @@ ghost use Rattle.joint_law.specs.Courses.{FollowedTo, HasFollowed, IsControllerC
 ghost use Rattle.joint_law.specs.Courses.{IsHostCourse, IsLegalCourse};
 
 use crate::ended::{ends_each_call, host_ends_each_call};
+use bridge_relay::{Bridge, BridgeEntry};
 use controller_core::{Controller, Entry, Notes, notes_ask_no_scans};
 use host_port::{Host, HostEntry};
-use plant_types::{ControllerPlan, HostPlan, NetPlan, Plant};
+use plant_types::{BridgePlan, ControllerPlan, HostPlan, NetPlan, Plant};
 use std::alloc::{AllocError, Global};
 
 /// How a station's list goes.
@@ -166,4 +168,33 @@ pub(crate) fn host_course(
         Some(place) => Ok(Course::Breaks(place)),
         None => Ok(Course::Whole(host_ends_each_call(alloc, entries)?)),
     }
+}
+
+fn follow_bridge_entries(
+    bridge: &mut Bridge,
+    entries: &[BridgeEntry],
+) -> Result<Option<usize>, AllocError>
+    requires { bridge.old.history ≡ [] }
+    ensures { IfOk result (FollowedTo (IsBridgeHistory bridge.old.plan) entries.now) }
+{
+    let _ = bridge.history();
+    for place in 0..entries.len() {
+        if !bridge.follow(&entries[place])? {
+            return Ok(Some(place));
+        }
+    }
+    Ok(None)
+}
+
+/// Makes the events of a list by a bridge of its own, as far as they may follow.
+pub(crate) fn follow_bridge(
+    alloc: Global,
+    plan: &BridgePlan,
+    entries: &[BridgeEntry],
+) -> Result<Option<usize>, AllocError>
+    requires { IsBridgePlan plan.now }
+    ensures { IfOk result (FollowedTo (IsBridgeHistory plan.now) entries.now) }
+{
+    let mut bridge = Bridge::new(alloc, plan)?;
+    follow_bridge_entries(&mut bridge, entries)
 }

@@ -2,17 +2,22 @@
 ghost use Rattle.std.specs.Prelude.{◌≡◌, ◌↔◌, IfOk};
 ghost use Rattle.plant_types.specs.Plans.{IsPlant};
 ghost use Rattle.joint_history.specs.JointLaws.{IsLegalJoint};
+ghost use Rattle.joint_history.specs.Nets.{noted_on_rings};
 ghost use Rattle.effect_laws.specs.Effects.{EffectsAreRight};
 ghost use Rattle.joint_law.specs.AllComplete.{IsFollowed};
 ghost use Rattle.joint_law.specs.AllCourses.{AreDone, AreHostsDone, AreWholeCourses};
 ghost use Rattle.joint_law.specs.Judgements.{HasNotes, IsJudgement, verdict_of};
-ghost use Rattle.joint_law.specs.Spots.{AreLegalHostLogs, AreLegalLogs, CanBeJudged, HasSections};
-ghost use Rattle.joint_law.specs.Spots.{IsFirstSpot, IsVerdict, IsWholeRun};
+ghost use Rattle.joint_law.specs.Spots.{AreLegalBridgeLogs, AreLegalHostLogs, AreLegalLogs};
+ghost use Rattle.joint_law.specs.Spots.{CanBeJudged, HasSections, IsFirstSpot, IsVerdict};
+ghost use Rattle.joint_law.specs.Spots.{IsWholeRun};
 
 use crate::complete::{Followed, first_incomplete};
-use crate::courses::{ControllerCourses, HostCourses, controllers_course, hosts_course};
+use crate::courses::{
+    BridgeCourses, ControllerCourses, HostCourses, RingCourses, bridges_course, controllers_course,
+    hosts_course, rings_course,
+};
 use crate::law_spots::{laws_spot, number};
-use crate::ring_following::{RingCourse, ring_course};
+use crate::on_rings::{OnRings, joined};
 use crate::sections::has_sections;
 use crate::verdict::{Judgement, Spot, Verdict};
 use controller_core::{Notes, fronts_are_legal};
@@ -20,7 +25,34 @@ use effect_laws::effects_are_right;
 use joint_history::Joint;
 use own_places::OwnPlaces;
 use plant_types::{List, Plant};
+use ring_core::RingEntry;
 use std::alloc::{AllocError, Global};
+
+/// The first spot of legal lists, where this is what all nodes noted on their rings.
+fn spot_beside(
+    alloc: Global,
+    plant: &Plant,
+    joint: &Joint,
+    ring: &[RingEntry],
+    scans: u32,
+    followed: Followed,
+) -> Result<Option<Spot>, AllocError>
+    requires sound { IsPlant plant.now }
+    requires legal { IsLegalJoint plant.now scans joint.now }
+    requires noted { ring.now ≡ noted_on_rings joint.now }
+    requires followed { IsFollowed plant.now scans joint.now followed }
+    ensures { IfOk result (IsFirstSpot plant.now scans joint.now) }
+{
+    let own = OwnPlaces::of(alloc, ring)?;
+    let on = OnRings { ring, own: &own };
+    if let Some(spot) = laws_spot(alloc, joint, on)? {
+        return Ok(Some(spot));
+    }
+    match first_incomplete(alloc, plant, joint, on, scans, followed)? {
+        Some(node) => Ok(Some(Spot::Incomplete(node))),
+        None => Ok(None),
+    }
+}
 
 /// The first spot of legal lists: a law between them that is broken, or a station that was not
 /// done.
@@ -36,18 +68,17 @@ fn spot_from_laws(
     requires followed { IsFollowed plant.now scans joint.now followed }
     ensures { IfOk result (IsFirstSpot plant.now scans joint.now) }
 {
-    let own = OwnPlaces::of(alloc, joint.ring.as_slice())?;
-    if let Some(spot) = laws_spot(alloc, joint, &own)? {
-        return Ok(Some(spot));
+    let rings = joint.rings.as_slice();
+    if rings.len() == 1 {
+        let ring = rings[0].entries.as_slice();
+        return spot_beside(alloc, plant, joint, ring, scans, followed);
     }
-    match first_incomplete(alloc, plant, joint, &own, scans, followed)? {
-        Some(node) => Ok(Some(Spot::Incomplete(node))),
-        None => Ok(None),
-    }
+    let noted = joined(alloc, rings)?;
+    spot_beside(alloc, plant, joint, noted.as_slice(), scans, followed)
 }
 
-/// The first spot of legal lists of all stations: in the ring's list, or behind that.
-fn spot_from_ring(
+/// The first spot of legal lists of all stations and bridges: in a ring's list, or behind those.
+fn spot_from_rings(
     alloc: Global,
     plant: &Plant,
     joint: &Joint,
@@ -56,25 +87,53 @@ fn spot_from_ring(
     hosts_done: &List<bool>,
 ) -> Result<Option<Spot>, AllocError>
     requires sound { IsPlant plant.now }
+    requires sections { HasSections plant.now joint.now }
+    requires legal { AreLegalLogs plant.now scans joint.now }
+    requires hosts_legal { AreLegalHostLogs plant.now joint.now }
+    requires bridges_legal { AreLegalBridgeLogs plant.now joint.now }
+    requires done { AreDone plant.now scans joint.now done.now }
+    requires hosts { AreHostsDone plant.now joint.now hosts_done.now }
+    ensures { IfOk result (IsFirstSpot plant.now scans joint.now) }
+{
+    match rings_course(alloc, plant, joint, scans)? {
+        RingCourses::Breaks { network, place } => {
+            let entry = number(place)?;
+            Ok(Some(Spot::Ring { network, entry }))
+        }
+        RingCourses::Whole(rings) => {
+            let followed = Followed {
+                done: done.as_slice(),
+                hosts_done: hosts_done.as_slice(),
+                ring: &rings.as_slice()[0],
+            };
+            spot_from_laws(alloc, plant, joint, scans, followed)
+        }
+    }
+}
+
+/// The first spot of legal lists of all stations: in a bridge's list, or behind those.
+fn spot_from_bridges(
+    alloc: Global,
+    plant: &Plant,
+    joint: &Joint,
+    scans: u32,
+    done: &List<bool>,
+    hosts_done: &List<bool>,
+) -> Result<Option<Spot>, AllocError>
+    requires sound { IsPlant plant.now }
+    requires sections { HasSections plant.now joint.now }
     requires legal { AreLegalLogs plant.now scans joint.now }
     requires hosts_legal { AreLegalHostLogs plant.now joint.now }
     requires done { AreDone plant.now scans joint.now done.now }
     requires hosts { AreHostsDone plant.now joint.now hosts_done.now }
     ensures { IfOk result (IsFirstSpot plant.now scans joint.now) }
 {
-    match ring_course(alloc, &plant.net, joint.ring.as_slice())? {
-        RingCourse::Breaks(place) => {
+    match bridges_course(alloc, plant, joint, scans)? {
+        BridgeCourses::Breaks { left, place } => {
             let entry = number(place)?;
-            Ok(Some(Spot::Ring(entry)))
+            Ok(Some(Spot::Bridge { left, entry }))
         }
-        RingCourse::Whole(ring) => {
-            let followed = Followed {
-                done: done.as_slice(),
-                hosts_done: hosts_done.as_slice(),
-                ring: &ring,
-            };
-            spot_from_laws(alloc, plant, joint, scans, followed)
-        }
+        BridgeCourses::Whole => spot_from_rings(alloc, plant, joint, scans, done, hosts_done),
     }
 }
 
@@ -98,7 +157,7 @@ fn spot_from_hosts(
             Ok(Some(Spot::Host { node, entry }))
         }
         HostCourses::Whole(hosts_done) => {
-            spot_from_ring(alloc, plant, joint, scans, done, &hosts_done)
+            spot_from_bridges(alloc, plant, joint, scans, done, &hosts_done)
         }
     }
 }
@@ -184,10 +243,10 @@ pub fn judge_noted(
     judge_lists(alloc, plant, joint, scans)
 }
 
-/// Judges a joint history: Legal where its lists are those of the plant's stations, legal for so
-/// many scans, keep the laws between them and are complete; else it names the first spot. Where it
-/// is Legal each call takes effect at its target at most once, and once if it reports success.
-/// Takes time and memory in proportion to the history.
+/// Judges a joint history: Legal where its lists are those of the plant's stations, bridges and
+/// networks, legal for so many scans, keep the laws between them and are complete; else it names
+/// the first spot. Where it is Legal each call takes effect at its target at most once, and once if
+/// it reports success. Takes time and memory in proportion to the history.
 pub fn judge(alloc: Global, plant: &Plant, joint: &Joint, scans: u32) -> Result<Verdict, AllocError>
     requires { CanBeJudged plant.now scans }
     ensures verdict { IfOk result (IsVerdict plant.now scans joint.now) }

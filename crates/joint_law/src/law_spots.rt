@@ -3,9 +3,11 @@ ghost use Rattle.std.specs.Prelude.{◌≡◌, ◌+◌, ◌^◌, ◌≤◌, ◌�
 ghost use Rattle.joint_law.specs.Bound.{bounds_of, controller_bound, host_bound, number_of};
 ghost use Rattle.joint_law.specs.LawEnds.{IsLawsEnd, IsLogEnd, IsLogsEnd, IsNodesEnd};
 ghost use Rattle.joint_law.specs.Picked.{AreOfNode};
-ghost use Rattle.own_places.specs.Places.{ArePlaces};
+ghost use Rattle.joint_history.specs.Nets.{noted_on_rings};
+ghost use Rattle.joint_law.specs.OnRings.{AreOnRings};
 
 use crate::law::Law;
+use crate::on_rings::{OnRings, joined};
 use crate::stations::{controller_breaks, host_breaks};
 use crate::verdict::Spot;
 use joint_history::{ControllerLog, HostLog, Joint};
@@ -104,19 +106,18 @@ fn node_breaks(
     alloc: Global,
     law: Law,
     joint: &Joint,
-    own: &OwnPlaces,
+    on: OnRings,
     node: u8,
 ) -> Result<Option<usize>, AllocError>
-    requires { ArePlaces joint.now.ring own.now }
+    requires { AreOnRings joint.now on }
     ensures { IfOk result (IsLogsEnd law node (bounds_of joint.now)) }
 {
-    let ring = joint.ring.as_slice();
-    let places = own.places(node);
+    let places = on.own.places(node);
     let logs = joint.controllers.as_slice();
-    if let Some(place) = logs_break(alloc, law, ring, places, node, logs)? {
+    if let Some(place) = logs_break(alloc, law, on.ring, places, node, logs)? {
         return Ok(Some(place));
     }
-    host_logs_break(alloc, law, ring, places, node, joint.hosts.as_slice())
+    host_logs_break(alloc, law, on.ring, places, node, joint.hosts.as_slice())
 }
 
 /// A place, counted from 1. A spot has no number above 2^32 - 1; for such a place the answer is
@@ -132,17 +133,12 @@ pub(crate) fn number(place: usize) -> Result<u32, AllocError>
 }
 
 /// The first node that breaks a law.
-fn law_spot(
-    alloc: Global,
-    law: Law,
-    joint: &Joint,
-    own: &OwnPlaces,
-) -> Result<Option<Spot>, AllocError>
-    requires { ArePlaces joint.now.ring own.now }
+fn law_spot(alloc: Global, law: Law, joint: &Joint, on: OnRings) -> Result<Option<Spot>, AllocError>
+    requires { AreOnRings joint.now on }
     ensures { IfOk result (IsNodesEnd law (bounds_of joint.now)) }
 {
     for node in 0..ADDRESSES {
-        if let Some(place) = node_breaks(alloc, law, joint, own, node)? {
+        if let Some(place) = node_breaks(alloc, law, joint, on, node)? {
             let place = number(place)?;
             return Ok(Some(Spot::Law {
                 law: number_of(law),
@@ -158,28 +154,41 @@ fn law_spot(
 pub(crate) fn laws_spot(
     alloc: Global,
     joint: &Joint,
-    own: &OwnPlaces,
+    on: OnRings,
 ) -> Result<Option<Spot>, AllocError>
-    requires { ArePlaces joint.now.ring own.now }
+    requires { AreOnRings joint.now on }
     ensures { IfOk result (IsLawsEnd (bounds_of joint.now)) }
 {
-    let asks = law_spot(alloc, Law::Asks, joint, own)?;
+    let asks = law_spot(alloc, Law::Asks, joint, on)?;
     if asks.is_some() {
         return Ok(asks);
     }
-    let answers = law_spot(alloc, Law::Answers, joint, own)?;
+    let answers = law_spot(alloc, Law::Answers, joint, on)?;
     if answers.is_some() {
         return Ok(answers);
     }
-    let replies = law_spot(alloc, Law::Replies, joint, own)?;
+    let replies = law_spot(alloc, Law::Replies, joint, on)?;
     if replies.is_some() {
         return Ok(replies);
     }
-    let ends = law_spot(alloc, Law::Ends, joint, own)?;
+    let ends = law_spot(alloc, Law::Ends, joint, on)?;
     if ends.is_some() {
         return Ok(ends);
     }
-    law_spot(alloc, Law::Downs, joint, own)
+    law_spot(alloc, Law::Downs, joint, on)
+}
+
+/// The first law that is broken, where this is what all nodes noted on their rings.
+fn broken_beside(
+    alloc: Global,
+    joint: &Joint,
+    ring: &[RingEntry],
+) -> Result<Option<Spot>, AllocError>
+    requires { ring.now ≡ noted_on_rings joint.now }
+    ensures { IfOk result (IsLawsEnd (bounds_of joint.now)) }
+{
+    let own = OwnPlaces::of(alloc, ring)?;
+    laws_spot(alloc, joint, OnRings { ring, own: &own })
 }
 
 /// The first law between the lists that is broken, each over all nodes, whether each list by itself
@@ -187,6 +196,10 @@ pub(crate) fn laws_spot(
 pub fn broken_law(alloc: Global, joint: &Joint) -> Result<Option<Spot>, AllocError>
     ensures { IfOk result (IsLawsEnd (bounds_of joint.now)) }
 {
-    let own = OwnPlaces::of(alloc, joint.ring.as_slice())?;
-    laws_spot(alloc, joint, &own)
+    let rings = joint.rings.as_slice();
+    if rings.len() == 1 {
+        return broken_beside(alloc, joint, rings[0].entries.as_slice());
+    }
+    let noted = joined(alloc, rings)?;
+    broken_beside(alloc, joint, noted.as_slice())
 }

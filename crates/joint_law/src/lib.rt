@@ -17,6 +17,7 @@ mod judging;
 mod law;
 mod law_spots;
 mod laws;
+mod on_rings;
 mod replying;
 mod ring_following;
 mod same;

@@ -1,4 +1,4 @@
-//! Following the ring's list, by the calls of a ring that keeps none.
+//! Following a ring's list, by the calls of a ring that keeps none.
 ghost use Rattle.std.specs.Prelude.{◌≡◌, ◌↔◌, ◌<◌, None, All, IfOk, IsTrue, length};
 ghost use Rattle.ring_core.specs.Legal.{HasRoom};
 ghost use Rattle.ring_core.specs.Machine.{addresses};
@@ -194,7 +194,7 @@ fn follow(
     }
 }
 
-/// How the ring's list goes.
+/// How a ring's list goes.
 #[derive(Drop)]
 pub(crate) enum RingCourse {
     /// The entry, counted from 0, makes it no legal one.
@@ -203,7 +203,7 @@ pub(crate) enum RingCourse {
     Whole(BareRing),
 }
 
-/// Follows the ring's list.
+/// Follows a ring's list.
 pub(crate) fn ring_course(
     alloc: Global,
     plan: &NetPlan,

@@ -5,14 +5,16 @@ use plant_types::List;
 /// Where a joint history first fails. Entries and places count from 1. This project's own.
 #[derive(Clone, Copy, Debug, Drop, PartialEq, Eq)]
 pub enum Spot {
-    /// The lists are not those of the plant's stations.
+    /// The lists are not those of the plant's stations, bridges and networks.
     Sections,
     /// The entry makes a controller's list no legal one.
     Controller { node: u8, entry: u32 },
     /// The entry makes a host's list no legal one.
     Host { node: u8, entry: u32 },
-    /// The entry makes the ring's list no legal one.
-    Ring(u32),
+    /// The entry makes a bridge's list, named by its left address, no legal one.
+    Bridge { left: u8, entry: u32 },
+    /// The entry makes the list of a network's ring no legal one.
+    Ring { network: u8, entry: u32 },
     /// A law, 1 to 5, is broken between a station's list and its node's entries on the ring: the
     /// two lists that it compares differ at the place, and of the fifth the place is that of the
     /// first Down, counted among the node's own, that has no power failure of its own.

@@ -19,17 +19,19 @@ use Rattle.controller_core.specs.declared.call.Call.{Call}
 use Rattle.controller_core.specs.declared.call.CallKind.{CallKind}
 use Rattle.controller_core.specs.declared.call.CallKind.TheVariants.{Net, Local}
 use Rattle.journal_text.specs.Fields.{behind_point, hex_bytes, id_text, op_text, call_result_text}
-use Rattle.journal_text.specs.Fields.{route_text}
+use Rattle.journal_text.specs.Fields.{route_or_dash, route_text}
 use Rattle.journal_text.specs.Lines.{kind_text, call_text}
 use Rattle.journal_text.specs.Journal.{IsOwnOp, IsPlainKind, IsPlainCall}
-use Rattle.journal_text.specs.Sizes.{IsId, IsPdu, IsSmall, IsWord, FitsOp, FitsResult, FitsKind}
+use Rattle.journal_text.specs.Sizes.{IsId, IsPdu, IsRoute, IsSmall, IsWord, FitsOp, FitsResult}
+use Rattle.journal_text.specs.Sizes.{FitsKind}
 use Rattle.journal_text.specs.Sizes.{FitsCall}
 use Rattle.journal_text.specs.Reading.{behind, read_pair, read_route, read_small, read_word}
 use Rattle.journal_text.specs.Reading.{read_id, read_pdu}
 use Rattle.journal_text.specs.ReadLines.{own_op_forms, read_bare_op, read_own_op, read_op}
 use Rattle.journal_text.specs.ReadLines.{result_forms, read_result, read_net_kind, read_local_kind}
 use Rattle.journal_text.specs.ReadLines.{read_kind, call_from, read_call, read_calls, read_onward}
-use Rattle.journal_text.specs.ReadLines.{read_served, read_asked, read_named, read_posted}
+use Rattle.journal_text.specs.ReadLines.{read_served, read_asked, read_coming, read_named}
+use Rattle.journal_text.specs.ReadLines.{read_posted}
 use Rattle.journal_text.proofs.Ranges.{chosen, lies, all_lie}
 use Rattle.journal_text.proofs.Cuts.{some_is, bind_some, none_some, text_is}
 use Rattle.journal_text.proofs.ReadLaws.{IsField, IsForm, two_fields, made_field, lie_in}
@@ -38,6 +40,7 @@ use Rattle.journal_text.proofs.Numbers.{small_field, word_number_field, id_field
 use Rattle.journal_text.proofs.Digits.{pdu_field, words_field, word_field, block_field}
 use Rattle.journal_text.proofs.Parts.{IsOnward, IsSomeRoute, IsWay, joined_parts, onward_body}
 use Rattle.journal_text.proofs.Parts.{onward_field, parts_field, route_field, way_field, way_text}
+use Rattle.journal_text.proofs.Parts.{route_or_dash_field}
 
 -- what is asked of the own port for the own station
 abbrev IsOwn : LocalOp → Type 0
@@ -302,6 +305,14 @@ pub asked_field : IsField read_asked
 unfolding read_asked
 asked_field =
     let last = two_fields 32 32 102 route_field pdu_field refl refl refl refl in
+    two_fields 32 32 102 id_field last refl refl refl refl
+
+pub coming_field : IsField read_coming
+    (λ p. id_text p.0 ++ 32 ∷ (route_or_dash p.1.0 ++ 32 ∷ hex_bytes p.1.1))
+    (λ p. IsId p.0 × (IsRoute p.1.0 × IsPdu p.1.1)) 32 102
+unfolding read_coming
+coming_field =
+    let last = two_fields 32 32 102 route_or_dash_field pdu_field refl refl refl refl in
     two_fields 32 32 102 id_field last refl refl refl refl
 
 pub posted_field : IsField read_posted

@@ -4,12 +4,15 @@ use Rattle.std.proofs.Common.{is_some, refl, sym, ◌∙◌, subst, arith, appen
 use Rattle.std.specs.List.{All, AllZip, Contains, slice_get, slice_index_or}
 use Rattle.std.specs.List.Sorted.{IsStrictlyIncreasing}
 use Rattle.std.proofs.lemmas.Bool.{false≢true}
-use Rattle.std.proofs.lemmas.List.Elements.{All-contains, All-head, All-tail, Contains-get_or}
+use Rattle.std.proofs.lemmas.List.Elements.{All-nil, All-cons, All-contains, All-head, All-tail}
+use Rattle.std.proofs.lemmas.List.Elements.{Contains-get_or}
 use Rattle.plant_types.specs.declared.net.NetPlan.{NetPlan}
 use Rattle.plant_types.specs.declared.net.HostPlan.{HostPlan}
+use Rattle.plant_types.specs.declared.net.BridgePlan.{BridgePlan}
 use Rattle.plant_types.specs.declared.plan.ControllerPlan.{ControllerPlan}
 use Rattle.plant_types.specs.declared.plan.Plant.{Plant}
-use Rattle.plant_types.specs.Plans.{IsHostPlan}
+use Rattle.plant_types.specs.Plans.{IsHostPlan, first_net}
+use Rattle.plant_types.proofs.OneNet.{on-net}
 use Rattle.mstr_block.specs.declared.call.CallId.{CallId}
 use Rattle.mstr_block.specs.declared.call.MstrAsk.{MstrAsk}
 use Rattle.mstr_block.specs.declared.call.MstrAsk.TheVariants.{Write, Read, LocalStats, ClearLocal}
@@ -42,11 +45,17 @@ use Rattle.tied_lists.specs.Calls.{AreNewCalls, FitsSort, LeadsAway}
 use Rattle.tied_lists.specs.Items.{Called, Ended}
 use Rattle.joint_history.specs.declared.joint.ControllerLog.{ControllerLog}
 use Rattle.joint_history.specs.declared.joint.HostLog.{HostLog}
-use Rattle.joint_history.specs.JointLaws.{IsLegalLog, IsLegalHostLog, fixed_of}
+use Rattle.joint_history.specs.declared.joint.BridgeLog.{BridgeLog}
+use Rattle.joint_history.specs.declared.joint.RingLog.{RingLog}
+use Rattle.joint_history.specs.JointLaws.{IsLegalLog, IsLegalHostLog, IsLegalBridgeLog}
+use Rattle.joint_history.specs.JointLaws.{IsLegalRingLog, fixed_of}
+use Rattle.joint_history.specs.Nets.{noted_on_rings}
 use Rattle.joint_history.specs.Reading.{called_of, controller_at, items_of, sort_of}
 use Rattle.joint_history.proofs.Collected.{CallLaws, collected-new}
+use Rattle.joint_history.proofs.OneRing.{bridges-none, legal-ring, ring_log, rings-are}
 use Rattle.journal_text.specs.Journal.{IsPlainCall, IsPlainEntry, IsPlainFrame, IsPlainGot}
-use Rattle.journal_text.specs.Journal.{IsPlainHostEntry, IsPlainKind, IsPlainRing}
+use Rattle.journal_text.specs.Journal.{IsPlainBridgeEntry, IsPlainHostEntry, IsPlainKind}
+use Rattle.journal_text.specs.Journal.{IsPlainRing}
 use Rattle.journal_text.specs.Laws.{LegalIsPlain}
 
 -- what stations' lists have as nodes
@@ -212,11 +221,20 @@ plain_ring net history (Join n) target caller is there law = tt
 
 pub legal-is_plain : CallLaws → OnlyItsTarget → ReplyToItsCaller → LegalIsPlain
 legal-is_plain laws target caller plant scans joint is legal =
-    let history : IsRingHistory plant.net joint.ring = record {
+    let net = first_net plant in
+    let noted = noted_on_rings joint in
+    let ring = legal-ring plant scans joint is legal in
+    let rings = sym (rings-are plant scans joint is legal) in
+    let bridges = sym (bridges-none plant scans joint is legal) in
+    let history : IsRingHistory net noted = record {
       members = λ k d within.
-          (let node = is.net.members.each k d within in let most = node.to in omega arith);
-      legal = legal.ring;
+          (let node = (on-net plant is).plan.members.each k d within in
+          let most = node.to in omega arith);
+      legal = ring;
     } in
+    let plain : All IsPlainRing noted = λ k d within. plain_ring net noted
+    (slice_index_or noted k d) target caller history (Contains-get_or noted k d within)
+    (lawful net [] noted ring k d within) in
     record {
       controllers = subst IsStrictlyIncreasing (sym (same_nodes (IsLegalLog plant scans)
           (λ (p : ControllerPlan). p.node) (λ (l : ControllerLog). l.node)
@@ -225,11 +243,22 @@ legal-is_plain laws target caller plant scans joint is legal =
       hosts = subst IsStrictlyIncreasing
           (sym (same_nodes IsLegalHostLog (λ (p : HostPlan). p.node) (λ (l : HostLog). l.node)
           (λ p l r. r.0) plant.hosts joint.hosts legal.hosts)) is.hosts_rise;
+      bridges = subst IsStrictlyIncreasing
+          (sym (same_nodes IsLegalBridgeLog (λ (p : BridgePlan). p.left)
+          (λ (l : BridgeLog). l.left) (λ p l r. r.0) plant.bridges joint.bridges legal.bridges))
+          is.bridges_rise;
+      rings = subst IsStrictlyIncreasing
+          (sym (same_nodes IsLegalRingLog (λ (p : NetPlan). p.number)
+          (λ (l : RingLog). l.network) (λ p l r. r.0) plant.nets joint.rings legal.rings))
+          is.nets_rise;
       entries = plain_logs laws plant scans plant.controllers joint.controllers
           legal.controllers;
       asks = plain_host_logs plant.hosts joint.hosts is.hosts legal.hosts;
-      ring = λ k d within. plain_ring plant.net joint.ring (slice_index_or joint.ring k d) target
-          caller history
-          (Contains-get_or joint.ring k d within)
-          (lawful plant.net [] joint.ring legal.ring k d within);
+      forwards = subst (λ (logs : List BridgeLog).
+          All (λ (log : BridgeLog). All IsPlainBridgeEntry log.entries) logs) bridges
+          (All-nil (λ (log : BridgeLog). All IsPlainBridgeEntry log.entries));
+      frames = subst (λ (logs : List RingLog).
+          All (λ (log : RingLog). All IsPlainRing log.entries) logs) rings
+          (All-cons (λ (log : RingLog). All IsPlainRing log.entries) (ring_log net noted) [] plain
+          (All-nil (λ (log : RingLog). All IsPlainRing log.entries)));
     }

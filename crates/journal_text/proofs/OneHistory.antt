@@ -10,7 +10,8 @@ use Rattle.journal_text.specs.Laws.{OneHistoryOfAText, OneJournalInFront}
 use Rattle.journal_text.specs.Reading.{cut}
 use Rattle.journal_text.specs.Drafts.{ending, step}
 use Rattle.journal_text.proofs.Cuts.{some_is, cut_parts, cut_lacks, cut_line, shorter}
-use Rattle.journal_text.proofs.Steps.{IsHistory, history_of, Goes}
+use Rattle.journal_text.proofs.Sections.{IsHistory}
+use Rattle.journal_text.proofs.Steps.{history_of, Goes}
 use Rattle.journal_text.proofs.StepGoes.{step_goes}
 use Rattle.journal_text.proofs.ReadLoop.{ending_is, not_ended}
 

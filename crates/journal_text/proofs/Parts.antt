@@ -1,9 +1,10 @@
 -- Values with a byte between each two, and routes, are read as they are written.
 use Rattle.std.proofs.Common.{◌≡◌, ◌≢◌, ℕ, ◌<◌, true, false, ◌⊎◌, inl, inr, List, [], ◌∷◌, ◌++◌}
-use Rattle.std.proofs.Common.{length, Option, Some, None, All, map, refl, sym, ap, subst, ◌∙◌, arith}
-use Rattle.std.specs.Prelude.{◌==◌, nat_le}
-use Rattle.std.specs.Fmt.{decimal}
+use Rattle.std.proofs.Common.{length, Option, Some, None, All, map, refl, sym, ap, subst, ◌∙◌}
+use Rattle.std.proofs.Common.{arith}
+use Rattle.std.specs.Prelude.{◌==◌, codes, nat_le}
 use Rattle.std.specs.List.{flat_map, join_with_byte, slice_split}
+use Rattle.std.specs.Str.{bytes_eq}
 use Rattle.std.proofs.lemmas.Bool.{and_parts}
 use Rattle.std.proofs.lemmas.Bool.Decides.{nat_tests}
 use Rattle.std.proofs.lemmas.List.{append-nil}
@@ -11,15 +12,16 @@ use Rattle.std.proofs.lemmas.List.Splits.{join_with_byte-slice_split, length-sli
 use Rattle.std.proofs.lemmas.List.Concat.{flat_map-cons}
 use Rattle.std.proofs.lemmas.List.Elements.{All-nil, All-cons, All-head, All-tail}
 use Rattle.plant_types.specs.Routes.{FitsRoute, route_limit}
-use Rattle.journal_text.specs.Fields.{hex_bytes, route_text}
+use Rattle.journal_text.specs.Fields.{hex_bytes, route_or_dash, route_text}
 use Rattle.journal_text.specs.Lines.{onward_text}
 use Rattle.journal_text.specs.Sizes.{IsPdu, IsRoute, IsSmall}
 use Rattle.journal_text.specs.Reading.{◌>>=◌, cut, if_route, read_addresses, read_each, read_parts}
-use Rattle.journal_text.specs.Reading.{read_as, read_pdu, read_route, read_small, read_way, way_from}
+use Rattle.journal_text.specs.Reading.{read_as, read_pdu, read_route, read_way, way_from}
+use Rattle.journal_text.specs.Reading.{read_route_or_dash}
 use Rattle.journal_text.specs.ReadLines.{read_going, read_onward}
 use Rattle.journal_text.proofs.Ranges.{chosen, lies, all_lie, all-append, outside}
 use Rattle.journal_text.proofs.Cuts.{some_is, bind_some, else_some, none_some, cut_parts, cut_range}
-use Rattle.journal_text.proofs.Cuts.{byte_self, cut_none}
+use Rattle.journal_text.proofs.Cuts.{byte_self, cut_none, text_is}
 use Rattle.journal_text.proofs.ReadLaws.{IsField, is_out, is_in, out_of, lie_in}
 use Rattle.journal_text.proofs.Numbers.{small_field}
 use Rattle.journal_text.proofs.Digits.{pdu_field}
@@ -167,6 +169,55 @@ route_field = record {
   lie = λ route is. addresses_field.lie route (is.0, is.1.each);
 }
 
+pub no_route : IsRoute []
+no_route = record { count = omega arith; each = All-nil IsSmall }
+
+-- a route, or the dash that stands for none
+dash_is : (route : List ℕ) → route ≢ [] → route_text route ≡ route_or_dash route
+dash_is [] some = absurd (some refl)
+dash_is (to ∷ rest) some = refl
+
+no_dash : (text : List ℕ) → all_lie 46 57 text ≡ true → bytes_eq text (codes "-") ≡ false
+no_dash [] lie = refl
+no_dash (b ∷ text) lie =
+    let (here, more) = and_parts (lies 46 57 b) (all_lie 46 57 text) lie in
+    rw (outside 46 57 45 b (inl (omega arith)) here) refl
+
+route_or_dash_takes : (text route : List ℕ) → read_route_or_dash text ≡ Some route
+    → (text ≡ route_or_dash route) × IsRoute route
+unfolding read_route_or_dash
+route_or_dash_takes text route e =
+    elim (chosen (bytes_eq text (codes "-")) (Some []) (read_route text) (Some route) e) [
+      | inl dash ↦
+          subst (λ (r : List ℕ). (text ≡ route_or_dash r) × IsRoute r) (some_is [] route dash.1)
+          (text_is text (codes "-") dash.0, no_route)
+      | inr more ↦
+          let t = route_field.takes text route more.1 in
+          (t.0 ∙ dash_is route t.1.0, t.1.1)
+    ]
+
+route_or_dash_again : (route : List ℕ) → IsRoute route
+    → read_route_or_dash (route_or_dash route) ≡ Some route
+unfolding read_route_or_dash
+route_or_dash_again [] is = refl
+route_or_dash_again (to ∷ rest) is =
+    let some : IsSomeRoute (to ∷ rest) = (λ none. cc, is) in
+    rw (
+      no_dash (route_text (to ∷ rest)) (route_field.lie (to ∷ rest) some),
+      route_field.again (to ∷ rest) some,
+    ) refl
+
+route_or_dash_lie : (route : List ℕ) → IsRoute route → all_lie 45 57 (route_or_dash route) ≡ true
+route_or_dash_lie [] is = refl
+route_or_dash_lie (to ∷ rest) is = lie_in route_field 45 57 refl (to ∷ rest) (λ none. cc, is)
+
+pub route_or_dash_field : IsField read_route_or_dash route_or_dash IsRoute 45 57
+route_or_dash_field = record {
+  takes = route_or_dash_takes;
+  again = route_or_dash_again;
+  lie = route_or_dash_lie;
+}
+
 -- the route of a frame that is posted
 abbrev pub way_text : ℕ × List ℕ → List ℕ
 way_text way = route_text (way.0 ∷ way.1)
@@ -216,9 +267,6 @@ onward_body parts = hex_bytes parts.0 ++ onward_text parts.1
 
 abbrev pub IsOnward : List ℕ × List ℕ → Type 0
 IsOnward parts = IsPdu parts.0 × IsRoute parts.1
-
-pub no_route : IsRoute []
-no_route = record { count = omega arith; each = All-nil IsSmall }
 
 onward_is : (rest : List ℕ) → rest ≢ [] → 32 ∷ route_text rest ≡ onward_text rest
 onward_is [] some = absurd (some refl)

@@ -5,23 +5,20 @@ use Rattle.std.proofs.Common.{length-append}
 use Rattle.std.specs.Prelude.{codes, IfErr, IfOk}
 use Rattle.std.specs.List.{flat_map}
 use Rattle.std.proofs.lemmas.List.{append-nil, flat_map_more}
-use Rattle.std.proofs.lemmas.List.Elements.{All-push}
-use Rattle.ring_core.specs.declared.entry.RingEntry.{RingEntry}
-use Rattle.joint_history.specs.declared.joint.HostLog.{HostLog}
+use Rattle.std.proofs.lemmas.List.Elements.{All-push, All-tail}
 use Rattle.joint_history.specs.declared.joint.Joint.{Joint}
 use Rattle.journal_text.specs.declared.fault.JournalFault.{JournalFault}
 use Rattle.journal_text.specs.declared.fault.JournalFault.TheVariants.{Text, NoMemory}
 use Rattle.journal_text.specs.declared.draft.Draft.{Draft}
 use Rattle.journal_text.specs.declared.draft.Draft.TheVariants as drafts
-use Rattle.journal_text.specs.Lines.{controller_line, host_line, ring_line}
-use Rattle.journal_text.specs.Journal.{controller_section, host_section, journal}
+use Rattle.journal_text.specs.Journal.{journal}
 use Rattle.journal_text.specs.Fronts.{IsJournalOf, IsFront, IsLine, with_feed, IsWrongLine, IsFault}
 use Rattle.journal_text.specs.Fronts.{GivesJoint}
 use Rattle.journal_text.specs.Reading.{cut}
 use Rattle.journal_text.specs.Drafts.{StopsAt, ReadsAt, ending, step}
 use Rattle.journal_text.proofs.Cuts.{some_is, none_some, cut_parts, cut_lacks}
-use Rattle.journal_text.proofs.Steps.{all_back, IsHistory, history_of, journal_of, text_of, IsGood}
-use Rattle.journal_text.proofs.Steps.{good_front, journal_parts, ring_part, host_part, Goes}
+use Rattle.journal_text.proofs.Sections.{IsHistory, section_text, sections_of, journal_is}
+use Rattle.journal_text.proofs.Steps.{history_of, journal_of, text_of, IsGood, good_front, Goes}
 use Rattle.journal_text.proofs.StepTakes.{step_adds}
 use Rattle.journal_text.proofs.StepGoes.{line_is, step_goes}
 
@@ -160,11 +157,8 @@ pub ending_is : (draft : Draft) (rest : List ℕ) (joint : Joint) → ending dra
     → IsEnd draft rest joint
 ending_is drafts.Start rest joint e = none_some (IsEnd drafts.Start rest joint) joint e
 ending_is drafts.Open rest joint e = none_some (IsEnd drafts.Open rest joint) joint e
-ending_is (drafts.Controller done log) rest joint e =
-    none_some (IsEnd (drafts.Controller done log) rest joint) joint e
-ending_is (drafts.Host controllers done log) rest joint e =
-    none_some (IsEnd (drafts.Host controllers done log) rest joint) joint e
-ending_is (drafts.Ring read) rest joint e = none_some (IsEnd (drafts.Ring read) rest joint) joint e
+ending_is (drafts.Inside done section) rest joint e =
+    none_some (IsEnd (drafts.Inside done section) rest joint) joint e
 ending_is (drafts.End read) [] joint e =
     record { draft_is = ap drafts.End (some_is read joint e); rest_is = refl }
 ending_is (drafts.End read) (b ∷ rest) joint e =
@@ -179,18 +173,18 @@ whole_is other joint draft rest is goes =
 abbrev HasFeed : List ℕ → Type 0
 HasFeed text = IsLine text → ⊥
 
+all_back : {X : Type 0} (P : X → Type 0) (xs ys : List X) → All P (xs ++ ys) → All P ys
+all_back P [] ys all = all
+all_back P (x ∷ xs) ys all = all_back P xs ys (All-tail P x (xs ++ ys) all)
+
 fed : (xs ys : List ℕ) → HasFeed ys → HasFeed (xs ++ ys)
 fed xs ys has line = has (all_back (λ (b : ℕ). b ≢ 10) xs ys line)
 
 end_fed : HasFeed (codes "%END\n")
 end_fed line = line 4 0 (omega arith) refl
 
-ring_fed : (entries : List RingEntry) → HasFeed (ring_part entries)
-ring_fed entries = fed (codes "R\n") (flat_map ring_line entries ++ codes "%END\n")
-    (fed (flat_map ring_line entries) (codes "%END\n") end_fed)
-
-host_fed : (hosts : List HostLog) (entries : List RingEntry) → HasFeed (host_part hosts entries)
-host_fed hosts entries = fed (flat_map host_section hosts) (ring_part entries) (ring_fed entries)
+fed_end : (text : List ℕ) → HasFeed (text ++ codes "%END\n")
+fed_end text = fed text (codes "%END\n") end_fed
 
 text_fed : (text other : List ℕ) → text ≡ other → HasFeed other → HasFeed text
 text_fed text other same has line = has (subst IsLine same line)
@@ -198,30 +192,18 @@ text_fed text other same has line = has (subst IsLine same line)
 pub not_ended : (draft : Draft) (rest : List ℕ) → IsLine rest → ending draft rest ≡ None
     → (joint : Joint) → Goes draft joint rest → ⊥
 not_ended drafts.Start rest line none joint goes =
-    text_fed rest (codes "%JOURNAL\n" ++ (flat_map controller_section joint.controllers
-    ++ host_part joint.hosts joint.ring)) (goes ∙ journal_parts joint)
-    (fed (codes "%JOURNAL\n" ++ flat_map controller_section joint.controllers)
-    (host_part joint.hosts joint.ring) (host_fed joint.hosts joint.ring)) line
+    text_fed rest (codes "%JOURNAL\n"
+    ++ (flat_map section_text (sections_of joint) ++ codes "%END\n")) (goes ∙ journal_is joint)
+    (fed (codes "%JOURNAL\n") (flat_map section_text (sections_of joint) ++ codes "%END\n")
+    (fed_end (flat_map section_text (sections_of joint)))) line
 not_ended drafts.Open rest line none joint goes =
-    text_fed rest
-    (flat_map controller_section joint.controllers ++ host_part joint.hosts joint.ring) goes.text
-    (fed (flat_map controller_section joint.controllers) (host_part joint.hosts joint.ring)
-    (host_fed joint.hosts joint.ring)) line
-not_ended (drafts.Controller done log) rest line none joint goes =
-    text_fed rest (flat_map controller_line goes.more
-    ++ (flat_map controller_section goes.logs ++ host_part joint.hosts joint.ring)) goes.text
-    (fed (flat_map controller_line goes.more)
-    (flat_map controller_section goes.logs ++ host_part joint.hosts joint.ring)
-    (fed (flat_map controller_section goes.logs) (host_part joint.hosts joint.ring)
-    (host_fed joint.hosts joint.ring))) line
-not_ended (drafts.Host controllers done log) rest line none joint goes =
-    text_fed rest (flat_map host_line goes.more
-    ++ (flat_map host_section goes.logs ++ ring_part joint.ring)) goes.text
-    (fed (flat_map host_line goes.more) (flat_map host_section goes.logs ++ ring_part joint.ring)
-    (fed (flat_map host_section goes.logs) (ring_part joint.ring) (ring_fed joint.ring))) line
-not_ended (drafts.Ring read) rest line none joint goes =
-    text_fed rest (flat_map ring_line goes.more ++ codes "%END\n") goes.text
-    (fed (flat_map ring_line goes.more) (codes "%END\n") end_fed) line
+    text_fed rest (flat_map section_text goes.later ++ codes "%END\n") goes.text
+    (fed_end (flat_map section_text goes.later)) line
+not_ended (drafts.Inside done section) rest line none joint goes =
+    text_fed rest (flat_map with_feed goes.lines
+    ++ (flat_map section_text goes.later ++ codes "%END\n")) goes.text
+    (fed (flat_map with_feed goes.lines) (flat_map section_text goes.later ++ codes "%END\n")
+    (fed_end (flat_map section_text goes.later))) line
 not_ended (drafts.End read) [] line none joint goes = none_some ⊥ read (sym none)
 not_ended (drafts.End read) (b ∷ rest) line none joint goes = cc goes.1
 

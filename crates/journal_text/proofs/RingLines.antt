@@ -21,7 +21,7 @@ use Rattle.journal_text.specs.Fields.{call_result_text, route_text}
 use Rattle.journal_text.specs.Lines.{sent_text, got_text, heard_text, cause_text, done_text}
 use Rattle.journal_text.specs.Lines.{ring_line}
 use Rattle.journal_text.specs.Journal.{IsPlainFrame, IsPlainGot, IsPlainReply, IsPlainRing}
-use Rattle.journal_text.specs.Sizes.{IsId, IsPdu, IsSmall, IsWord, AreWords, FitsOp, FitsResult}
+use Rattle.journal_text.specs.Sizes.{IsId, IsSmall, IsWord, AreWords, FitsOp, FitsResult}
 use Rattle.journal_text.specs.Sizes.{FitsCause, FitsFrame, FitsRingEntry}
 use Rattle.journal_text.specs.Fronts.{with_feed}
 use Rattle.journal_text.specs.Reading.{behind, read_pair, read_small, read_id, read_hex_word}
@@ -296,15 +296,15 @@ abbrev pub IsRingEntry : RingEntry → Type 0
 IsRingEntry entry = FitsRingEntry entry × IsPlainRing entry
 
 -- a text of three or more parts, with its line feed
-parts : (front a b : List ℕ)
+pub parts : (front a b : List ℕ)
     → front ++ a ++ 32 ∷ [] ++ b ++ 10 ∷ [] ≡ (front ++ (a ++ 32 ∷ b)) ++ 10 ∷ []
 parts front a b = simp append_assoc
 
-parts_three : (front a b d : List ℕ) → front ++ a ++ 32 ∷ [] ++ b ++ 32 ∷ [] ++ d ++ 10 ∷ []
+pub parts_three : (front a b d : List ℕ) → front ++ a ++ 32 ∷ [] ++ b ++ 32 ∷ [] ++ d ++ 10 ∷ []
     ≡ (front ++ (a ++ 32 ∷ (b ++ 32 ∷ d))) ++ 10 ∷ []
 parts_three front a b d = simp append_assoc
 
-parts_four : (front a b d f : List ℕ)
+pub parts_four : (front a b d f : List ℕ)
     → front ++ a ++ 32 ∷ [] ++ b ++ 32 ∷ [] ++ d ++ 32 ∷ [] ++ f ++ 10 ∷ []
     ≡ (front ++ (a ++ 32 ∷ (b ++ 32 ∷ (d ++ 32 ∷ f)))) ++ 10 ∷ []
 parts_four front a b d f = simp append_assoc

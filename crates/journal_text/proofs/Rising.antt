@@ -1,9 +1,33 @@
 -- Numbers of a list's elements that rise.
-use Rattle.std.proofs.Common.{◌≡◌, ◌⊎◌, ℕ, ◌+◌, ◌-◌, ◌<◌, ◌≤◌, true, false, List, length, get_or}
-use Rattle.std.proofs.Common.{map, slice_index, sym, subst, arith, inl, inr}
+use Rattle.std.proofs.Common.{◌≡◌, ◌⊎◌, ℕ, zero, suc, ◌+◌, ◌-◌, ◌<◌, ◌≤◌, true, false, List}
+use Rattle.std.proofs.Common.{[], ◌∷◌}
+use Rattle.std.proofs.Common.{length, get_or, map, slice_index, sym, subst, arith, inl, inr}
 use Rattle.std.specs.List.Sorted.{IsStrictlyIncreasing}
 use Rattle.std.proofs.lemmas.Bool.{cases_lt}
 use Rattle.std.proofs.lemmas.List.{get_or-map, length-map}
+
+-- numbers that rise, by recursion
+abbrev pub Rises : List ℕ → Type 0
+Rises [] = Unit {0}
+Rises (x ∷ []) = Unit {0}
+Rises (x ∷ y ∷ xs) = (x < y) × Rises (y ∷ xs)
+
+pub rises_by : (xs : List ℕ) → IsStrictlyIncreasing xs → Rises xs
+rises_by [] rise = tt
+rises_by (x ∷ []) rise = tt
+rises_by (x ∷ y ∷ xs) rise = (
+  rise 0 (omega arith),
+  rises_by (y ∷ xs) (λ k less. let next : suc k + 1 ≡ suc (k + 1) = omega arith in rw next at
+      (rise (suc k) (omega arith))),
+)
+
+pub rises_at : (xs : List ℕ) → Rises xs → IsStrictlyIncreasing xs
+rises_at [] rise k less = absurd (omega arith)
+rises_at (x ∷ []) rise k less = absurd (omega arith)
+rises_at (x ∷ y ∷ xs) rise zero less = rise.0
+rises_at (x ∷ y ∷ xs) rise (suc k) less =
+    let next : suc k + 1 ≡ suc (k + 1) = omega arith in
+    rw next (rises_at (y ∷ xs) rise.1 k (omega arith))
 
 module _ {X : Type 0} (f : X → ℕ) (xs : List X) where
   one_more : (at k : ℕ) → k + 1 < at + 1 → (k + 1 < at) ⊎ (k + 1 ≡ at)

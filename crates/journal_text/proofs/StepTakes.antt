@@ -1,225 +1,125 @@
 -- What a line adds to what is read is the line, and it can be told.
-use Rattle.std.proofs.Common.{◌≡◌, ℕ, ◌<◌, true, cond, ◌⊎◌, inl, inr, List, [], ◌∷◌, ◌++◌, Option}
-use Rattle.std.proofs.Common.{Some, None, refl, sym, ap, subst, ◌∙◌, arith, append_assoc}
-use Rattle.std.specs.Prelude.{codes, nat_lt}
+use Rattle.std.proofs.Common.{◌≡◌, ℕ, true, ◌⊎◌, inl, inr, List, [], ◌∷◌, ◌++◌, All, Option, Some}
+use Rattle.std.proofs.Common.{None, refl, sym, ap, subst, ◌∙◌, append_assoc}
+use Rattle.std.specs.Prelude.{codes}
 use Rattle.std.specs.Fmt.{decimal}
-use Rattle.std.specs.List.{flat_map, AllByRecursion}
+use Rattle.std.specs.List.{flat_map}
 use Rattle.std.specs.Str.{bytes_eq}
-use Rattle.std.proofs.lemmas.Bool.Decides.{nat_tests}
 use Rattle.std.proofs.lemmas.List.{append-nil, flat_map_more}
 use Rattle.std.proofs.lemmas.List.Concat.{flat_map-cons}
-use Rattle.std.proofs.lemmas.List.Elements.{All-nil, All-cons, All-head, All-push}
-use Rattle.controller_core.specs.declared.entry.Entry.{Entry}
-use Rattle.host_port.specs.declared.entry.HostEntry.{HostEntry}
-use Rattle.joint_history.specs.declared.joint.ControllerLog.{ControllerLog}
-use Rattle.joint_history.specs.declared.joint.HostLog.{HostLog}
+use Rattle.std.proofs.lemmas.List.Elements.{All-nil, All-push}
 use Rattle.joint_history.specs.declared.joint.Joint.{Joint}
-use Rattle.journal_text.specs.declared.draft.Head.{Head}
-use Rattle.journal_text.specs.declared.draft.Head.TheVariants as heads
+use Rattle.journal_text.specs.declared.section.Head.{Head}
+use Rattle.journal_text.specs.declared.section.Head.TheVariants as heads
+use Rattle.journal_text.specs.declared.section.Section.{Section}
+use Rattle.journal_text.specs.declared.section.Section.TheVariants as sections
 use Rattle.journal_text.specs.declared.draft.Draft.{Draft}
 use Rattle.journal_text.specs.declared.draft.Draft.TheVariants as drafts
-use Rattle.journal_text.specs.Lines.{controller_line, host_line, ring_line}
-use Rattle.journal_text.specs.Journal.{IsPlainEntry, IsPlainHostEntry, IsPlainRing}
-use Rattle.journal_text.specs.Journal.{controller_section, host_section}
-use Rattle.journal_text.specs.Sizes.{IsSmall, FitsLog, FitsHostLog, FitsEntry, FitsHostEntry}
-use Rattle.journal_text.specs.Sizes.{FitsRingEntry}
+use Rattle.journal_text.specs.Lines.{controller_line, host_line, bridge_line, ring_line}
+use Rattle.journal_text.specs.Journal.{ring_head, journal}
 use Rattle.journal_text.specs.Fronts.{with_feed}
-use Rattle.journal_text.specs.Reading.{◌>>=◌, behind}
-use Rattle.journal_text.specs.ReadLines.{read_entry, read_host_entry, read_ring_entry}
-use Rattle.journal_text.specs.Drafts.{head_forms, read_head, new_log, new_host_log, log_with_entry}
-use Rattle.journal_text.specs.Drafts.{host_log_with_entry, ring_from, joint_with_entry}
-use Rattle.journal_text.specs.Drafts.{first_section, after_controller, after_host, start_line}
-use Rattle.journal_text.specs.Drafts.{open_line, headed, log_line, host_log_line, controller_step}
-use Rattle.journal_text.specs.Drafts.{host_step, ring_log_line, ring_step, step}
-use Rattle.journal_text.proofs.Ranges.{chosen, all_lie}
+use Rattle.journal_text.specs.Reading.{read_as}
+use Rattle.journal_text.specs.Drafts.{read_head, head_of, new_section, goes_before, no_sections}
+use Rattle.journal_text.specs.Drafts.{with_section, with_line, start_line, first_head, open_line}
+use Rattle.journal_text.specs.Drafts.{headed, next_section, next_entry, inside_line, inside_step}
+use Rattle.journal_text.specs.Drafts.{step}
+use Rattle.journal_text.proofs.Ranges.{chosen}
 use Rattle.journal_text.proofs.Cuts.{some_is, bind_some, none_some, text_is}
-use Rattle.journal_text.proofs.ReadLaws.{IsField, IsForm, lie_in, form_of_field, first_takes}
-use Rattle.journal_text.proofs.Numbers.{small_field}
-use Rattle.journal_text.proofs.StationLines.{IsEntry, IsHostEntry, entry_ended, entry_field}
-use Rattle.journal_text.proofs.StationLines.{host_ended, host_field}
-use Rattle.journal_text.proofs.RingLines.{ring_ended, ring_field}
-use Rattle.journal_text.proofs.Steps.{controller_node, host_node, Rises, rises_more, same_last}
-use Rattle.journal_text.proofs.Steps.{all_front, all_back, PlainHostLog, PlainLog, AreControllers}
-use Rattle.journal_text.proofs.Steps.{AreHosts}
-use Rattle.journal_text.proofs.Steps.{IsHistory, text_of, IsGood, journal_parts, no_logs, no_hosts}
-use Rattle.journal_text.proofs.Steps.{no_ring}
+use Rattle.journal_text.proofs.ReadLaws.{IsField}
+use Rattle.journal_text.proofs.StationLines.{IsEntry, IsHostEntry, entry_ended}
+use Rattle.journal_text.proofs.StationLines.{entry_field, host_ended, host_field}
+use Rattle.journal_text.proofs.BridgeLines.{IsBridgeEntry, bridge_ended}
+use Rattle.journal_text.proofs.BridgeLines.{bridge_field}
+use Rattle.journal_text.proofs.RingLines.{IsRingEntry, parts, ring_ended, ring_field}
+use Rattle.journal_text.proofs.Heads.{FitsHead, head_body, head_field}
+use Rattle.journal_text.proofs.Sections.{IsSection, section_text, AreSections, are_more}
+use Rattle.journal_text.proofs.Sections.{same_last, last_is, sections_of, pushed}
+use Rattle.journal_text.proofs.Sections.{history_of_sections, no_history, journal_is}
+use Rattle.journal_text.proofs.Steps.{text_of, IsGood}
 
--- the head of a section
-abbrev pub head_body : Head → List ℕ
-head_body (heads.Controller node) = codes "C " ++ decimal node
-head_body (heads.Host node) = codes "H " ++ decimal node
-head_body heads.Ring = codes "R"
-
-abbrev pub FitsHead : Head → Type 0
-FitsHead (heads.Controller node) = IsSmall node
-FitsHead (heads.Host node) = IsSmall node
-FitsHead heads.Ring = Unit {0}
-
-head_kinds_take : AllByRecursion (IsForm head_body FitsHead) head_forms
-head_kinds_take = (
-  form_of_field small_field head_body FitsHead (codes "C ") (λ node. heads.Controller node)
-      (λ node fits. refl) (λ node fits. fits),
-  (
-    form_of_field small_field head_body FitsHead (codes "H ") (λ node. heads.Host node)
-        (λ node fits. refl) (λ node fits. fits),
-    tt,
-  ),
-)
-
-bare_head : (line : List ℕ) (head : Head) → cond (bytes_eq line (codes "R")) (Some heads.Ring) None
-    ≡ Some head → (line ≡ head_body head) × FitsHead head
-bare_head line head e =
-    elim (chosen (bytes_eq line (codes "R")) (Some heads.Ring) None (Some head) e) [
-      | inl passed ↦
-          subst (λ (h : Head). (line ≡ head_body h) × FitsHead h) (some_is heads.Ring head passed.1)
-          (text_is line (codes "R") passed.0, tt)
-      | inr apart ↦ none_some ((line ≡ head_body head) × FitsHead head) head apart.1
-    ]
-
-head_again : (head : Head) → FitsHead head → read_head (head_body head) ≡ Some head
-unfolding read_head behind
-head_again (heads.Controller node) is = rw (small_field.again node is) refl
-head_again (heads.Host node) is = rw (small_field.again node is) refl
-head_again heads.Ring is = refl
-
-head_lie : (head : Head) → FitsHead head → all_lie 32 102 (head_body head) ≡ true
-head_lie (heads.Controller node) is = lie_in small_field 32 102 refl node is
-head_lie (heads.Host node) is = lie_in small_field 32 102 refl node is
-head_lie heads.Ring is = refl
-
-pub head_field : IsField read_head head_body FitsHead 32 102
-unfolding read_head
-head_field = record {
-  takes = λ line head e. first_takes head_body FitsHead head_forms (cond (bytes_eq line (codes "R"))
-      (Some heads.Ring) None) line head head_kinds_take (bare_head line head) e;
-  again = head_again;
-  lie = head_lie;
-}
-
--- texts of sections and of lists that grow
+-- a list of texts with one more
 push : {X : Type 0} (f : X → List ℕ) (xs : List X) (x : X)
     → flat_map f (xs ++ x ∷ []) ≡ flat_map f xs ++ f x
 push f xs x = sym (flat_map_more f [] xs x)
 
-section_more : (log : ControllerLog) (entry : Entry) → controller_section (log_with_entry log entry)
-    ≡ controller_section log ++ controller_line entry
-section_more log entry =
-    ap (λ (t : List ℕ). codes "C " ++ decimal log.node ++ codes "\n" ++ t)
-    (push controller_line log.entries entry)
-    ∙ sym (append_assoc (codes "C " ++ decimal log.node ++ codes "\n")
-    (flat_map controller_line log.entries) (controller_line entry))
-
-host_section_more : (log : HostLog) (entry : HostEntry)
-    → host_section (host_log_with_entry log entry) ≡ host_section log ++ host_line entry
-host_section_more log entry =
-    ap (λ (t : List ℕ). codes "H " ++ decimal log.node ++ codes "\n" ++ t)
-    (push host_line log.entries entry)
-    ∙ sym (append_assoc (codes "H " ++ decimal log.node ++ codes "\n")
-    (flat_map host_line log.entries) (host_line entry))
-
-sections_more : (done : List ControllerLog) (log : ControllerLog) (entry : Entry)
-    → flat_map controller_section (done ++ log_with_entry log entry ∷ [])
-    ≡ flat_map controller_section (done ++ log ∷ []) ++ controller_line entry
-sections_more done log entry =
-    push controller_section done (log_with_entry log entry)
-    ∙ ap (λ (t : List ℕ). flat_map controller_section done ++ t) (section_more log entry)
-    ∙ sym (append_assoc (flat_map controller_section done) (controller_section log)
-    (controller_line entry))
-    ∙ ap (λ (t : List ℕ). t ++ controller_line entry) (sym (push controller_section done log))
-
-host_sections_more : (done : List HostLog) (log : HostLog) (entry : HostEntry)
-    → flat_map host_section (done ++ host_log_with_entry log entry ∷ [])
-    ≡ flat_map host_section (done ++ log ∷ []) ++ host_line entry
-host_sections_more done log entry =
-    push host_section done (host_log_with_entry log entry)
-    ∙ ap (λ (t : List ℕ). flat_map host_section done ++ t) (host_section_more log entry)
-    ∙ sym (append_assoc (flat_map host_section done) (host_section log) (host_line entry))
-    ∙ ap (λ (t : List ℕ). t ++ host_line entry) (sym (push host_section done log))
-
 -- a section of nothing is its head
-new_section : (node : ℕ)
-    → controller_section (new_log node) ≡ with_feed (head_body (heads.Controller node))
-new_section node = append-nil (codes "C " ++ decimal node ++ codes "\n")
+new_text : (head : Head) → section_text (new_section head) ≡ with_feed (head_body head)
+new_text (heads.Controller node) = append-nil (with_feed (codes "C " ++ decimal node))
+new_text (heads.Host node) = append-nil (with_feed (codes "H " ++ decimal node))
+new_text (heads.Bridge left right) =
+    append-nil (codes "W " ++ decimal left ++ codes " " ++ decimal right ++ codes "\n")
+    ∙ parts (codes "W ") (decimal left) (decimal right)
+new_text (heads.Ring network) = append-nil (with_feed (ring_head network))
 
-new_host_section : (node : ℕ)
-    → host_section (new_host_log node) ≡ with_feed (head_body (heads.Host node))
-new_host_section node = append-nil (codes "H " ++ decimal node ++ codes "\n")
+new_is : (head : Head) → FitsHead head → IsSection (new_section head)
+new_is (heads.Controller node) fits = (fits, All-nil IsEntry)
+new_is (heads.Host node) fits = (fits, All-nil IsHostEntry)
+new_is (heads.Bridge left right) fits = (fits, All-nil IsBridgeEntry)
+new_is (heads.Ring network) fits = (fits, All-nil IsRingEntry)
 
--- a line was added, and what is read can be told
+new_head : (head : Head) → head_of (new_section head) ≡ head
+new_head (heads.Controller node) = refl
+new_head (heads.Host node) = refl
+new_head (heads.Bridge left right) = refl
+new_head (heads.Ring network) = refl
+
+-- what a line adds to a section
+pub record Enters (section : Section) (line : List ℕ) (next : Section) : Type 0 where
+  pub text : section_text next ≡ section_text section ++ with_feed line
+  pub head : head_of section ≡ head_of next
+  pub is : IsSection next
+
+module _ {X : Type 0} {read : List ℕ → Option X} {body : X → List ℕ} {Is : X → Type 0}
+    {low high : ℕ} (field : IsField read body Is low high) (told : X → List ℕ)
+    (ended : (x : X) → told x ≡ with_feed (body x)) (make : List X → Section) where
+  entered : (front : List ℕ) (F : Type 0)
+      → ((xs : List X) → section_text (make xs) ≡ front ++ flat_map told xs)
+      → ((xs ys : List X) → head_of (make xs) ≡ head_of (make ys))
+      → ((xs : List X) → F × All Is xs → IsSection (make xs))
+      → (xs : List X) (line : List ℕ) (next : Section) → F × All Is xs
+      → read_as (λ x. make (xs ++ x ∷ [])) read line ≡ Some next → Enters (make xs) line next
+  entered front F text head into xs line next is e =
+      let p = bind_some (read line) (λ x. Some (make (xs ++ x ∷ []))) next e in
+      let t = field.takes line p.0 p.1 in
+      subst (λ (s : Section). Enters (make xs) line s) (some_is (make (xs ++ p.0 ∷ [])) next p.2)
+      (record {
+        text = text (xs ++ p.0 ∷ []) ∙ ap (λ (t : List ℕ). front ++ t) (push told xs p.0)
+            ∙ sym (append_assoc front (flat_map told xs) (told p.0))
+            ∙ (λ i. sym (text xs) i ++ (ended p.0 ∙ ap with_feed (sym t.0)) i);
+        head = head xs (xs ++ p.0 ∷ []);
+        is = into (xs ++ p.0 ∷ []) (is.0, All-push Is xs p.0 is.1 t.1);
+      })
+
+enters : (section : Section) (line : List ℕ) (next : Section) → IsSection section
+    → with_line section line ≡ Some next → Enters section line next
+enters (sections.Controller log) line next is e =
+    entered entry_field controller_line entry_ended
+    (λ xs. sections.Controller (record { node = log.node; entries = xs }))
+    (with_feed (codes "C " ++ decimal log.node)) (FitsHead (heads.Controller log.node))
+    (λ xs. refl) (λ xs ys. refl) (λ xs of. of) log.entries line next is e
+enters (sections.Host log) line next is e =
+    entered host_field host_line host_ended
+    (λ xs. sections.Host (record { node = log.node; entries = xs }))
+    (with_feed (codes "H " ++ decimal log.node)) (FitsHead (heads.Host log.node))
+    (λ xs. refl) (λ xs ys. refl) (λ xs of. of) log.entries line next is e
+enters (sections.Bridge log) line next is e =
+    entered bridge_field bridge_line bridge_ended
+    (λ xs. sections.Bridge (record { left = log.left; right = log.right; entries = xs }))
+    (codes "W " ++ decimal log.left ++ codes " " ++ decimal log.right ++ codes "\n")
+    (FitsHead (heads.Bridge log.left log.right))
+    (λ xs. refl) (λ xs ys. refl) (λ xs of. of) log.entries line next is e
+enters (sections.Ring log) line next is e =
+    entered ring_field ring_line ring_ended
+    (λ xs. sections.Ring (record { network = log.network; entries = xs }))
+    (with_feed (ring_head log.network)) (FitsHead (heads.Ring log.network))
+    (λ xs. refl) (λ xs ys. refl) (λ xs of. of) log.entries line next is e
+
+-- what a line adds to what is read
 pub record Adds (old new : Draft) (line : List ℕ) : Type 0 where
   pub text : text_of new ≡ text_of old ++ with_feed line
   pub good : IsGood new
 
--- logs with one more, and with one entry more
-one_log : (node : ℕ) → IsSmall node → AreControllers (new_log node ∷ [])
-one_log node less = record {
-  rise = tt;
-  fit = All-cons FitsLog (new_log node) [] (less, All-nil FitsEntry) (All-nil FitsLog);
-  plain = All-cons PlainLog (new_log node) [] (All-nil IsPlainEntry) (All-nil PlainLog);
-}
-
-one_host : (node : ℕ) → IsSmall node → AreHosts (new_host_log node ∷ [])
-one_host node less = record {
-  rise = tt;
-  fit = All-cons FitsHostLog (new_host_log node) [] (less, All-nil FitsHostEntry)
-      (All-nil FitsHostLog);
-  plain = All-cons PlainHostLog (new_host_log node) [] (All-nil IsPlainHostEntry)
-      (All-nil PlainHostLog);
-}
-
-more_logs : (done : List ControllerLog) (log : ControllerLog) (node : ℕ)
-    → AreControllers (done ++ log ∷ []) → log.node < node → IsSmall node
-    → AreControllers ((done ++ log ∷ []) ++ new_log node ∷ [])
-more_logs done log node are above less = record {
-  rise = rises_more controller_node done log (new_log node) are.rise above;
-  fit = All-push FitsLog (done ++ log ∷ []) (new_log node) are.fit (less, All-nil FitsEntry);
-  plain = All-push PlainLog (done ++ log ∷ []) (new_log node) are.plain (All-nil IsPlainEntry);
-}
-
-more_hosts : (done : List HostLog) (log : HostLog) (node : ℕ) → AreHosts (done ++ log ∷ [])
-    → log.node < node → IsSmall node
-    → AreHosts ((done ++ log ∷ []) ++ new_host_log node ∷ [])
-more_hosts done log node are above less = record {
-  rise = rises_more host_node done log (new_host_log node) are.rise above;
-  fit = All-push FitsHostLog (done ++ log ∷ []) (new_host_log node) are.fit
-      (less, All-nil FitsHostEntry);
-  plain = All-push PlainHostLog (done ++ log ∷ []) (new_host_log node) are.plain
-      (All-nil IsPlainHostEntry);
-}
-
-more_entries : (done : List ControllerLog) (log : ControllerLog) (entry : Entry)
-    → AreControllers (done ++ log ∷ []) → IsEntry entry
-    → AreControllers (done ++ log_with_entry log entry ∷ [])
-more_entries done log entry are is =
-    let fit = All-head FitsLog log [] (all_back FitsLog done (log ∷ []) are.fit) in
-    let plain = All-head PlainLog log [] (all_back PlainLog done (log ∷ []) are.plain) in
-    record {
-      rise = subst Rises
-          (same_last controller_node done log (log_with_entry log entry) refl) are.rise;
-      fit = All-push FitsLog done (log_with_entry log entry) (all_front FitsLog done
-          (log ∷ []) are.fit) (fit.0, All-push FitsEntry log.entries entry fit.1 is.0);
-      plain = All-push PlainLog done (log_with_entry log entry) (all_front PlainLog done
-          (log ∷ []) are.plain) (All-push IsPlainEntry log.entries entry plain is.1);
-    }
-
-more_host_entries : (done : List HostLog) (log : HostLog) (entry : HostEntry)
-    → AreHosts (done ++ log ∷ []) → IsHostEntry entry
-    → AreHosts (done ++ host_log_with_entry log entry ∷ [])
-more_host_entries done log entry are is =
-    let fit = All-head FitsHostLog log [] (all_back FitsHostLog done (log ∷ []) are.fit) in
-    let plain = All-head PlainHostLog log [] (all_back PlainHostLog done (log ∷ []) are.plain) in
-    record {
-      rise = subst Rises
-          (same_last host_node done log (host_log_with_entry log entry) refl) are.rise;
-      fit = All-push FitsHostLog done (host_log_with_entry log entry)
-          (all_front FitsHostLog done (log ∷ []) are.fit)
-          (fit.0, All-push FitsHostEntry log.entries entry fit.1 is.0);
-      plain = All-push PlainHostLog done (host_log_with_entry log entry)
-          (all_front PlainHostLog done (log ∷ []) are.plain)
-          (All-push IsPlainHostEntry log.entries entry plain is.1);
-    }
-
--- the first line, and the first section
+-- the first line
 start_adds : (line : List ℕ) (new : Draft) → start_line line ≡ Some new → Adds drafts.Start new line
 unfolding start_line
 start_adds line new e =
@@ -233,219 +133,141 @@ start_adds line new e =
       | inr apart ↦ none_some (Adds drafts.Start new line) new apart.1
     ]
 
-first_adds : (head : Head) (line : List ℕ) (new : Draft) → line ≡ head_body head → FitsHead head
-    → first_section head ≡ Some new → Adds drafts.Open new line
-unfolding first_section
-first_adds (heads.Controller node) line new is fits e =
+-- the first section, or the last line
+one_text : (head : Head) (line : List ℕ) → line ≡ head_body head
+    → flat_map section_text (new_section head ∷ []) ≡ with_feed line
+one_text head line is =
+    flat_map-cons section_text (new_section head) [] ∙ append-nil (section_text (new_section head))
+    ∙ new_text head ∙ ap with_feed (sym is)
+
+first_adds : (line : List ℕ) (new : Draft) → first_head line ≡ Some new → Adds drafts.Open new line
+unfolding first_head
+first_adds line new e =
+    let p = bind_some (read_head line)
+    (λ head. Some (drafts.Inside no_sections (new_section head))) new e in
+    let h = head_field.takes line p.0 p.1 in
     subst (λ (d : Draft). Adds drafts.Open d line)
-    (some_is (drafts.Controller [] (new_log node)) new e) (record {
-      text = ap (λ (t : List ℕ). codes "%JOURNAL\n" ++ t)
-          (flat_map-cons controller_section (new_log node) [] ∙ append-nil
-          (controller_section (new_log node)) ∙ new_section node ∙ ap with_feed (sym is));
-      good = one_log node fits;
-    })
-first_adds (heads.Host node) line new is fits e =
-    subst (λ (d : Draft). Adds drafts.Open d line)
-    (some_is (drafts.Host [] [] (new_host_log node)) new e) (record {
-      text = ap (λ (t : List ℕ). codes "%JOURNAL\n" ++ t)
-          (flat_map-cons host_section (new_host_log node) [] ∙ append-nil
-          (host_section (new_host_log node)) ∙ new_host_section node ∙ ap with_feed (sym is));
-      good = (no_logs, one_host node fits);
-    })
-first_adds heads.Ring line new is fits e =
-    subst (λ (d : Draft). Adds drafts.Open d line)
-    (some_is (drafts.Ring (ring_from [] [])) new e) (record {
-      text = ap (λ (t : List ℕ). codes "%JOURNAL\n" ++ t) (ap with_feed (sym is));
-      good = record { controllers = no_logs; hosts = no_hosts; ring = no_ring };
+    (some_is (drafts.Inside no_sections (new_section p.0)) new p.2) (record {
+      text = ap (λ (t : List ℕ). codes "%JOURNAL\n" ++ t) (one_text p.0 line h.0);
+      good = (new_is p.0 h.1, tt, tt);
     })
 
 open_adds : (line : List ℕ) (new : Draft) → open_line line ≡ Some new → Adds drafts.Open new line
 unfolding open_line
 open_adds line new e =
-    let p = bind_some (read_head line) first_section new e in
-    let h = head_field.takes line p.0 p.1 in
-    first_adds p.0 line new h.0 h.1 p.2
+    elim (chosen (bytes_eq line (codes "%END")) (Some (drafts.End no_sections)) (first_head line)
+    (Some new) e) [
+      | inl last ↦
+          subst (λ (d : Draft). Adds drafts.Open d line)
+          (some_is (drafts.End no_sections) new last.1) (record {
+            text = ap (λ (t : List ℕ). codes "%JOURNAL\n" ++ with_feed t)
+                (sym (text_is line (codes "%END") last.0));
+            good = no_history;
+          })
+      | inr more ↦ first_adds line new more.1
+    ]
 
--- a head, or an entry
+-- in a section: the last line, a head, or an entry
+ended_text : (done : Joint) (section : Section) → AreSections (sections_of done ++ section ∷ [])
+    → journal (with_section done section)
+    ≡ text_of (drafts.Inside done section) ++ with_feed (codes "%END")
+ended_text done section are =
+    let list = sections_of done ++ section ∷ [] in
+    journal_is (with_section done section)
+    ∙ ap (λ (l : List Section). codes "%JOURNAL\n" ++ (flat_map section_text l ++ codes "%END\n"))
+    (pushed done section are)
+    ∙ sym (append_assoc (codes "%JOURNAL\n") (flat_map section_text list) (codes "%END\n"))
+
+end_adds : (done : Joint) (section : Section) (line : List ℕ)
+    → AreSections (sections_of done ++ section ∷ []) → line ≡ codes "%END"
+    → Adds (drafts.Inside done section) (drafts.End (with_section done section)) line
+end_adds done section line are is = record {
+  text = ended_text done section are
+      ∙ ap (λ (t : List ℕ). text_of (drafts.Inside done section) ++ with_feed t) (sym is);
+  good = history_of_sections (with_section done section)
+      (subst AreSections (sym (pushed done section are)) are);
+}
+
+-- more text behind what is read
+behind_text : (list : List Section) (section : Section) (line before : List ℕ)
+    → flat_map section_text (list ++ section ∷ [])
+    ≡ before ++ with_feed line
+    → codes "%JOURNAL\n" ++ flat_map section_text (list ++ section ∷ [])
+    ≡ (codes "%JOURNAL\n" ++ before) ++ with_feed line
+behind_text list section line before is =
+    ap (λ (t : List ℕ). codes "%JOURNAL\n" ++ t) is
+    ∙ sym (append_assoc (codes "%JOURNAL\n") before (with_feed line))
+
+turn_adds : (done : Joint) (section : Section) (head : Head) (line : List ℕ) (new : Draft)
+    → AreSections (sections_of done ++ section ∷ []) → line ≡ head_body head → FitsHead head
+    → next_section done section head ≡ Some new → Adds (drafts.Inside done section) new line
+unfolding next_section
+turn_adds done section head line new are is fits e =
+    let next = new_section head in
+    let list = sections_of done ++ section ∷ [] in
+    let now = with_section done section in
+    elim (chosen (goes_before (head_of section) head) (Some (drafts.Inside now next)) None
+    (Some new) e) [
+      | inl passed ↦
+          let before : goes_before (head_of section) (head_of next) ≡ true =
+          ap (goes_before (head_of section)) (new_head head) ∙ passed.0 in
+          let same = sym (pushed done section are) in
+          subst (λ (d : Draft). Adds (drafts.Inside done section) d line)
+          (some_is (drafts.Inside now next) new passed.1) (record {
+            text = behind_text (sections_of now) next line (flat_map section_text list)
+                (push section_text (sections_of now) next
+                ∙ (λ i. flat_map section_text (sym same i)
+                ++ (new_text head ∙ ap with_feed (sym is)) i));
+            good = subst (λ (l : List Section). AreSections (l ++ next ∷ [])) same
+                (are_more (sections_of done) section next are before (new_is head fits));
+          })
+      | inr apart ↦ none_some (Adds (drafts.Inside done section) new line) new apart.1
+    ]
+
+entry_adds : (done : Joint) (section : Section) (line : List ℕ) (new : Draft)
+    → AreSections (sections_of done ++ section ∷ []) → next_entry done section line ≡ Some new
+    → Adds (drafts.Inside done section) new line
+unfolding next_entry
+entry_adds done section line new are e =
+    let p = bind_some (with_line section line) (λ more. Some (drafts.Inside done more)) new e in
+    let list = sections_of done in
+    let is = enters section line p.0 (last_is list section are) p.1 in
+    subst (λ (d : Draft). Adds (drafts.Inside done section) d line)
+    (some_is (drafts.Inside done p.0) new p.2) (record {
+      text = behind_text list p.0 line (flat_map section_text (list ++ section ∷ []))
+          (push section_text list p.0
+          ∙ ap (λ (t : List ℕ). flat_map section_text list ++ t) is.text
+          ∙ sym (append_assoc (flat_map section_text list) (section_text section) (with_feed line))
+          ∙ ap (λ (t : List ℕ). t ++ with_feed line) (sym (push section_text list section)));
+      good = same_last list section p.0 are is.head is.is;
+    })
+
 headed_some : {V : Type 0} (o : Option Head) (turn : Head → Option V) (other : Option V) (v : V)
     → headed o turn other ≡ Some v
     → ((head : Head) × (o ≡ Some head) × (turn head ≡ Some v)) ⊎ (other ≡ Some v)
 headed_some (Some head) turn other v e = inl (head, refl, e)
 headed_some None turn other v e = inr e
 
-above_of : (a b : ℕ) → nat_lt a b ≡ true → a < b
-above_of a b e = grind (arith, nat_tests)
-
--- behind a controller's section
-turn_adds : (done : List ControllerLog) (log : ControllerLog) (head : Head) (line : List ℕ)
-    (new : Draft) → AreControllers (done ++ log ∷ []) → line ≡ head_body head → FitsHead head
-    → after_controller done log head ≡ Some new → Adds (drafts.Controller done log) new line
-unfolding after_controller
-turn_adds done log (heads.Controller node) line new are is fits e =
-    elim (chosen (nat_lt log.node node) (Some (drafts.Controller (done ++ log ∷ []) (new_log node)))
-    None (Some new) e) [
-      | inl passed ↦
-          subst (λ (d : Draft). Adds (drafts.Controller done log) d line)
-          (some_is (drafts.Controller (done ++ log ∷ []) (new_log node)) new passed.1) (record {
-            text = ap (λ (t : List ℕ). codes "%JOURNAL\n" ++ t)
-                (push controller_section (done ++ log ∷ []) (new_log node)
-                ∙ ap (λ (t : List ℕ). flat_map controller_section (done ++ log ∷ []) ++ t)
-                (new_section node ∙ ap with_feed (sym is)));
-            good = more_logs done log node are (above_of log.node node passed.0) fits;
-          })
-      | inr apart ↦ none_some (Adds (drafts.Controller done log) new line) new apart.1
-    ]
-turn_adds done log (heads.Host node) line new are is fits e =
-    subst (λ (d : Draft). Adds (drafts.Controller done log) d line)
-    (some_is (drafts.Host (done ++ log ∷ []) [] (new_host_log node)) new e) (record {
-      text = ap (λ (t : List ℕ).
-          codes "%JOURNAL\n" ++ (flat_map controller_section (done ++ log ∷ []) ++ t))
-          (flat_map-cons host_section (new_host_log node) [] ∙ append-nil
-          (host_section (new_host_log node)) ∙ new_host_section node ∙ ap with_feed (sym is));
-      good = (are, one_host node fits);
-    })
-turn_adds done log heads.Ring line new are is fits e =
-    subst (λ (d : Draft). Adds (drafts.Controller done log) d line)
-    (some_is (drafts.Ring (ring_from (done ++ log ∷ []) [])) new e) (record {
-      text = ap (λ (t : List ℕ). codes "%JOURNAL\n"
-          ++ (flat_map controller_section (done ++ log ∷ []) ++ t)) (ap with_feed (sym is));
-      good = record { controllers = are; hosts = no_hosts; ring = no_ring };
-    })
-
-controller_adds : (done : List ControllerLog) (log : ControllerLog) (line : List ℕ) (new : Draft)
-    → AreControllers (done ++ log ∷ [])
-    → controller_step done log line ≡ Some new → Adds (drafts.Controller done log) new line
-unfolding controller_step log_line
-controller_adds done log line new are e =
-    elim (headed_some (read_head line) (after_controller done log)
-    (read_entry line >>= λ entry. Some (drafts.Controller done (log_with_entry log entry))) new e) [
-      | inl found ↦
-          let h = head_field.takes line found.0 found.1 in
-          turn_adds done log found.0 line new are h.0 h.1 found.2
-      | inr other ↦
-          let p = bind_some (read_entry line)
-          (λ entry. Some (drafts.Controller done (log_with_entry log entry))) new other in
-          let t = entry_field.takes line p.0 p.1 in
-          subst (λ (d : Draft). Adds (drafts.Controller done log) d line)
-          (some_is (drafts.Controller done (log_with_entry log p.0)) new p.2) (record {
-            text = ap (λ (t : List ℕ). codes "%JOURNAL\n" ++ t)
-                (sections_more done log p.0
-                ∙ ap (λ (t : List ℕ). flat_map controller_section (done ++ log ∷ []) ++ t)
-                (entry_ended p.0 ∙ ap with_feed (sym t.0)));
-            good = more_entries done log p.0 are t.1;
-          })
-    ]
-
--- behind a host's section
-host_turn_adds : (controllers : List ControllerLog) (done : List HostLog) (log : HostLog)
-    (head : Head) (line : List ℕ) (new : Draft) → AreControllers controllers
-    → AreHosts (done ++ log ∷ []) → line ≡ head_body head → FitsHead head
-    → after_host controllers done log head ≡ Some new
-    → Adds (drafts.Host controllers done log) new line
-unfolding after_host
-host_turn_adds controllers done log (heads.Controller node) line new are hosts is fits e =
-    none_some (Adds (drafts.Host controllers done log) new line) new e
-host_turn_adds controllers done log (heads.Host node) line new are hosts is fits e =
-    elim (chosen (nat_lt log.node node)
-    (Some (drafts.Host controllers (done ++ log ∷ []) (new_host_log node))) None (Some new) e) [
-      | inl passed ↦
-          subst (λ (d : Draft). Adds (drafts.Host controllers done log) d line) (some_is
-          (drafts.Host controllers (done ++ log ∷ []) (new_host_log node)) new passed.1) (record {
-            text = ap (λ (t : List ℕ). codes "%JOURNAL\n" ++ t)
-                (ap (λ (t : List ℕ). flat_map controller_section controllers ++ t)
-                (push host_section (done ++ log ∷ []) (new_host_log node)
-                ∙ ap (λ (t : List ℕ). flat_map host_section (done ++ log ∷ []) ++ t)
-                (new_host_section node ∙ ap with_feed (sym is)))
-                ∙ sym (append_assoc (flat_map controller_section controllers)
-                (flat_map host_section (done ++ log ∷ [])) (with_feed line)));
-            good = (are, more_hosts done log node hosts (above_of log.node node passed.0) fits);
-          })
-      | inr apart ↦ none_some (Adds (drafts.Host controllers done log) new line) new apart.1
-    ]
-host_turn_adds controllers done log heads.Ring line new are hosts is fits e =
-    subst (λ (d : Draft). Adds (drafts.Host controllers done log) d line)
-    (some_is (drafts.Ring (ring_from controllers (done ++ log ∷ []))) new e) (record {
-      text = ap (λ (t : List ℕ). codes "%JOURNAL\n" ++ t)
-          (ap (λ (t : List ℕ). flat_map controller_section controllers
-          ++ (flat_map host_section (done ++ log ∷ []) ++ t)) (ap with_feed (sym is))
-          ∙ sym (append_assoc (flat_map controller_section controllers)
-          (flat_map host_section (done ++ log ∷ [])) (with_feed line)));
-      good = record { controllers = are; hosts = hosts; ring = no_ring };
-    })
-
-host_adds : (controllers : List ControllerLog) (done : List HostLog) (log : HostLog) (line : List ℕ)
-    (new : Draft) → AreControllers controllers → AreHosts (done ++ log ∷ [])
-    → host_step controllers done log line ≡ Some new
-    → Adds (drafts.Host controllers done log) new line
-unfolding host_step host_log_line
-host_adds controllers done log line new are hosts e =
-    elim (headed_some (read_head line) (after_host controllers done log) (read_host_entry line
-    >>= λ entry. Some (drafts.Host controllers done (host_log_with_entry log entry))) new e) [
-      | inl found ↦
-          let h = head_field.takes line found.0 found.1 in
-          host_turn_adds controllers done log found.0 line new are hosts h.0 h.1 found.2
-      | inr other ↦
-          let p = bind_some (read_host_entry line) (λ entry.
-          Some (drafts.Host controllers done (host_log_with_entry log entry))) new other in
-          let t = host_field.takes line p.0 p.1 in
-          subst (λ (d : Draft). Adds (drafts.Host controllers done log) d line)
-          (some_is (drafts.Host controllers done (host_log_with_entry log p.0)) new p.2) (record {
-            text = ap (λ (t : List ℕ). codes "%JOURNAL\n" ++ t)
-                (ap (λ (t : List ℕ). flat_map controller_section controllers ++ t)
-                (host_sections_more done log p.0
-                ∙ ap (λ (t : List ℕ). flat_map host_section (done ++ log ∷ []) ++ t)
-                (host_ended p.0 ∙ ap with_feed (sym t.0)))
-                ∙ sym (append_assoc (flat_map controller_section controllers)
-                (flat_map host_section (done ++ log ∷ [])) (with_feed line)));
-            good = (are, more_host_entries done log p.0 hosts t.1);
-          })
-    ]
-
--- in the ring's section
-four : (a b c d : List ℕ) → a ++ (b ++ (82 ∷ 10 ∷ (c ++ d))) ≡ (a ++ (b ++ (82 ∷ 10 ∷ c))) ++ d
-four a b c d =
-    ap (λ (t : List ℕ). a ++ t) (sym (append_assoc b (82 ∷ 10 ∷ c) d))
-    ∙ sym (append_assoc a (b ++ (82 ∷ 10 ∷ c)) d)
-
-ring_adds : (joint : Joint) (line : List ℕ) (new : Draft) → IsHistory joint
-    → ring_step joint line ≡ Some new → Adds (drafts.Ring joint) new line
-unfolding ring_step ring_log_line
-ring_adds joint line new is e =
-    elim (chosen (bytes_eq line (codes "%END")) (Some (drafts.End joint)) (read_ring_entry line
-    >>= λ entry. Some (drafts.Ring (joint_with_entry joint entry))) (Some new) e) [
+inside_adds : (done : Joint) (section : Section) (line : List ℕ) (new : Draft)
+    → AreSections (sections_of done ++ section ∷ []) → inside_step done section line ≡ Some new
+    → Adds (drafts.Inside done section) new line
+unfolding inside_step inside_line
+inside_adds done section line new are e =
+    elim (chosen (bytes_eq line (codes "%END")) (Some (drafts.End (with_section done section)))
+    (headed (read_head line) (next_section done section) (next_entry done section line))
+    (Some new) e) [
       | inl last ↦
-          subst (λ (d : Draft). Adds (drafts.Ring joint) d line)
-          (some_is (drafts.End joint) new last.1) (record {
-            text = journal_parts joint ∙ ap (λ (t : List ℕ). codes "%JOURNAL\n" ++ t)
-                (ap (λ (t : List ℕ). flat_map controller_section joint.controllers ++ (flat_map
-                host_section joint.hosts ++ (82 ∷ 10 ∷ (flat_map ring_line joint.ring ++ t))))
-                (ap with_feed (sym (text_is line (codes "%END") last.0)))
-                ∙ four (flat_map controller_section joint.controllers) (flat_map host_section
-                joint.hosts) (flat_map ring_line joint.ring) (with_feed line));
-            good = is;
-          })
-      | inr other ↦
-          let p = bind_some (read_ring_entry line)
-          (λ entry. Some (drafts.Ring (joint_with_entry joint entry))) new other.1 in
-          let t = ring_field.takes line p.0 p.1 in
-          subst (λ (d : Draft). Adds (drafts.Ring joint) d line)
-          (some_is (drafts.Ring (joint_with_entry joint p.0)) new p.2) (record {
-            text = ap (λ (t : List ℕ). codes "%JOURNAL\n" ++ t)
-                (ap (λ (t : List ℕ). flat_map controller_section joint.controllers
-                ++ (flat_map host_section joint.hosts ++ (82 ∷ 10 ∷ t)))
-                (push ring_line joint.ring p.0 ∙ ap (λ (t : List ℕ).
-                flat_map ring_line joint.ring ++ t) (ring_ended p.0 ∙ ap with_feed (sym t.0)))
-                ∙ four (flat_map controller_section joint.controllers) (flat_map host_section
-                joint.hosts) (flat_map ring_line joint.ring) (with_feed line));
-            good = record {
-              controllers = is.controllers;
-              hosts = is.hosts;
-              ring = record {
-                fit = All-push FitsRingEntry joint.ring p.0 is.ring.fit t.1.0;
-                plain = All-push IsPlainRing joint.ring p.0 is.ring.plain t.1.1;
-              };
-            };
-          })
+          subst (λ (d : Draft). Adds (drafts.Inside done section) d line)
+          (some_is (drafts.End (with_section done section)) new last.1)
+          (end_adds done section line are (text_is line (codes "%END") last.0))
+      | inr more ↦
+          elim (headed_some (read_head line) (next_section done section)
+          (next_entry done section line) new more.1) [
+            | inl found ↦
+                let h = head_field.takes line found.0 found.1 in
+                turn_adds done section found.0 line new are h.0 h.1 found.2
+            | inr other ↦ entry_adds done section line new are other
+          ]
     ]
 
 pub step_adds : (old new : Draft) (line : List ℕ) → IsGood old → step old line ≡ Some new
@@ -453,8 +275,6 @@ pub step_adds : (old new : Draft) (line : List ℕ) → IsGood old → step old 
 unfolding step
 step_adds drafts.Start new line good e = start_adds line new e
 step_adds drafts.Open new line good e = open_adds line new e
-step_adds (drafts.Controller done log) new line good e = controller_adds done log line new good e
-step_adds (drafts.Host controllers done log) new line good e =
-    host_adds controllers done log line new good.0 good.1 e
-step_adds (drafts.Ring joint) new line good e = ring_adds joint line new good e
+step_adds (drafts.Inside done section) new line good e =
+    inside_adds done section line new good e
 step_adds (drafts.End joint) new line good e = none_some (Adds (drafts.End joint) new line) new e

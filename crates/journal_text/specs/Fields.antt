@@ -37,6 +37,11 @@ id_text id = decimal id.node ++ codes "." ++ decimal id.path ++ codes "." ++ dec
 abbrev pub route_text : List ℕ → List ℕ
 route_text route = join_with_byte 46 (map decimal route)
 
+-- A route, or the dash that stands for none.
+abbrev pub route_or_dash : List ℕ → List ℕ
+route_or_dash [] = codes "-"
+route_or_dash (to ∷ rest) = route_text (to ∷ rest)
+
 -- An address behind a point.
 abbrev pub behind_point : ℕ → List ℕ
 behind_point address = codes "." ++ decimal address

@@ -1,5 +1,5 @@
 -- The journal of a joint history, as a text. This project's own.
-use Rattle.std.specs.Prelude.{codes, ◌≡◌, ◌≢◌, ℕ, List, [], ◌++◌, map}
+use Rattle.std.specs.Prelude.{codes, ◌≡◌, ◌≢◌, ◌==◌, if◌then◌else◌, ℕ, List, [], ◌++◌, map}
 use Rattle.std.specs.Fmt.{decimal}
 use Rattle.std.specs.List.{All, flat_map}
 use Rattle.std.specs.List.Sorted.{IsStrictlyIncreasing}
@@ -17,10 +17,14 @@ use Rattle.controller_core.specs.declared.entry.Entry.{Entry}
 use Rattle.controller_core.specs.declared.entry.Entry.TheVariants.{Collect}
 use Rattle.host_port.specs.declared.entry.HostEntry.{HostEntry}
 use Rattle.host_port.specs.declared.entry.HostEntry.TheVariants.{Ask}
+use Rattle.bridge_relay.specs.declared.entry.BridgeEntry.{BridgeEntry}
+use Rattle.bridge_relay.specs.declared.entry.BridgeEntry.TheVariants.{Forward}
 use Rattle.joint_history.specs.declared.joint.ControllerLog.{ControllerLog}
 use Rattle.joint_history.specs.declared.joint.HostLog.{HostLog}
+use Rattle.joint_history.specs.declared.joint.BridgeLog.{BridgeLog}
+use Rattle.joint_history.specs.declared.joint.RingLog.{RingLog}
 use Rattle.joint_history.specs.declared.joint.Joint.{Joint}
-use Rattle.journal_text.specs.Lines.{controller_line, host_line, ring_line}
+use Rattle.journal_text.specs.Lines.{controller_line, host_line, bridge_line, ring_line}
 
 -- The section of a station: its letter with its node, and its entries.
 abbrev pub controller_section : ControllerLog → List ℕ
@@ -30,12 +34,27 @@ controller_section log =
 abbrev pub host_section : HostLog → List ℕ
 host_section log = codes "H " ++ decimal log.node ++ codes "\n" ++ flat_map host_line log.entries
 
--- A journal: the sections of the controllers, those of the hosts, and that of the ring.
+-- The section of a bridge: its letter with its two ends, and its entries.
+abbrev pub bridge_section : BridgeLog → List ℕ
+bridge_section log =
+    codes "W " ++ decimal log.left ++ codes " " ++ decimal log.right ++ codes "\n"
+    ++ flat_map bridge_line log.entries
+
+-- The section of a ring: its letter with the number of its network, which alone stands for network
+-- 0, and its entries.
+abbrev pub ring_head : ℕ → List ℕ
+ring_head network = if network == 0 then codes "R" else codes "R " ++ decimal network
+
+abbrev pub ring_section : RingLog → List ℕ
+ring_section log = ring_head log.network ++ codes "\n" ++ flat_map ring_line log.entries
+
+-- A journal: the sections of the controllers, of the hosts, of the bridges, and of the rings.
 abbrev pub journal : Joint → List ℕ
 journal joint =
     codes "%JOURNAL\n" ++ flat_map controller_section joint.controllers
     ++ flat_map host_section joint.hosts
-    ++ codes "R\n" ++ flat_map ring_line joint.ring ++ codes "%END\n"
+    ++ flat_map bridge_section joint.bridges
+    ++ flat_map ring_section joint.rings ++ codes "%END\n"
 
 -- What a controller hands on to its own port asks nothing for another node.
 abbrev pub IsOwnOp : LocalOp → Type 0
@@ -61,6 +80,11 @@ abbrev pub IsPlainHostEntry : HostEntry → Type 0
 IsPlainHostEntry (Ask id route pdu) = route ≢ []
 IsPlainHostEntry _ = Unit {0}
 
+-- And so has a request that a bridge sends on.
+abbrev pub IsPlainBridgeEntry : BridgeEntry → Type 0
+IsPlainBridgeEntry (Forward side old id route request) = route ≢ []
+IsPlainBridgeEntry _ = Unit {0}
+
 -- A Reply goes to the node that asked, and no further.
 abbrev pub IsPlainReply : Frame → Type 0
 IsPlainReply frame = (frame.to ≡ frame.id.node) × (frame.rest ≡ [])
@@ -80,10 +104,14 @@ IsPlainRing (Post node frame) = IsPlainFrame frame.kind frame
 IsPlainRing (Take node frame) = IsPlainGot node frame.kind frame
 IsPlainRing _ = Unit {0}
 
--- A plain joint history: stations in rising node, and entries of which a journal tells all.
+-- A plain joint history: stations in rising node, bridges in rising left address, rings in rising
+-- network, and entries of which a journal tells all.
 pub record IsPlain (joint : Joint) : Type 0 where
   pub controllers : IsStrictlyIncreasing (map (λ log. log.node) joint.controllers)
   pub hosts : IsStrictlyIncreasing (map (λ log. log.node) joint.hosts)
+  pub bridges : IsStrictlyIncreasing (map (λ log. log.left) joint.bridges)
+  pub rings : IsStrictlyIncreasing (map (λ log. log.network) joint.rings)
   pub entries : All (λ log. All IsPlainEntry log.entries) joint.controllers
   pub asks : All (λ log. All IsPlainHostEntry log.entries) joint.hosts
-  pub ring : All IsPlainRing joint.ring
+  pub forwards : All (λ log. All IsPlainBridgeEntry log.entries) joint.bridges
+  pub frames : All (λ log. All IsPlainRing log.entries) joint.rings

@@ -22,8 +22,12 @@ use Rattle.host_port.specs.declared.entry.HostResult.{HostResult}
 use Rattle.host_port.specs.declared.entry.HostResult.TheVariants as host_results
 use Rattle.host_port.specs.declared.entry.HostEntry.{HostEntry}
 use Rattle.host_port.specs.declared.entry.HostEntry.TheVariants as host_entries
+use Rattle.bridge_relay.specs.declared.entry.RelayResult.{RelayResult}
+use Rattle.bridge_relay.specs.declared.entry.RelayResult.TheVariants as relay_results
+use Rattle.bridge_relay.specs.declared.entry.BridgeEntry.{BridgeEntry}
+use Rattle.bridge_relay.specs.declared.entry.BridgeEntry.TheVariants as bridge_entries
 use Rattle.journal_text.specs.Fields.{hex_word, hex_bytes, hex_words, id_text, op_text}
-use Rattle.journal_text.specs.Fields.{call_result_text, route_text}
+use Rattle.journal_text.specs.Fields.{call_result_text, route_text, route_or_dash}
 
 -- A call that a controller hands on: by a route to another node, or to its own port.
 abbrev pub kind_text : CallKind → List ℕ
@@ -73,6 +77,27 @@ host_line (host_entries.Answer id result) =
     codes "A " ++ id_text id ++ codes " " ++ answer_text result ++ codes "\n"
 host_line (host_entries.Served id request reply) = peer_line id request reply
 
+-- What came of a request that a bridge sent on.
+abbrev pub relay_text : RelayResult → List ℕ
+relay_text (relay_results.Reply pdu) = codes "R " ++ hex_bytes pdu
+relay_text (relay_results.Bad word) = codes "B " ++ hex_word word
+
+-- An event of a bridge, with the end that makes it.
+abbrev pub bridge_line : BridgeEntry → List ℕ
+bridge_line (bridge_entries.Accept side id route request) =
+    codes "T " ++ decimal side ++ codes " " ++ id_text id ++ codes " " ++ route_or_dash route
+    ++ codes " " ++ hex_bytes request ++ codes "\n"
+bridge_line (bridge_entries.Forward side old id route request) =
+    codes "U " ++ decimal side ++ codes " " ++ id_text old ++ codes " " ++ id_text id ++ codes " "
+    ++ route_text route ++ codes " " ++ hex_bytes request ++ codes "\n"
+bridge_line (bridge_entries.Finish side id result) =
+    codes "A " ++ decimal side ++ codes " " ++ id_text id ++ codes " " ++ relay_text result
+    ++ codes "\n"
+bridge_line (bridge_entries.Back side id reply) =
+    codes "V " ++ decimal side ++ codes " " ++ id_text id ++ codes " " ++ hex_bytes reply
+    ++ codes "\n"
+bridge_line (bridge_entries.Gone side) = codes "G " ++ decimal side ++ codes "\n"
+
 -- A frame by its letter, its name and its bytes.
 abbrev pub named_text : List ℕ → Frame → List ℕ
 named_text letter frame =
@@ -108,7 +133,7 @@ abbrev pub done_text : Bool → List ℕ
 done_text true = codes "1"
 done_text false = codes "0"
 
--- An entry of the ring.
+-- An entry of a ring.
 abbrev pub ring_line : RingEntry → List ℕ
 ring_line (ring.Post node frame) =
     codes "PO " ++ decimal node ++ codes " " ++ sent_text frame.kind frame ++ codes "\n"

@@ -26,10 +26,14 @@ use Rattle.host_port.specs.declared.entry.HostResult.{HostResult}
 use Rattle.host_port.specs.declared.entry.HostResult.TheVariants as host_results
 use Rattle.host_port.specs.declared.entry.HostEntry.{HostEntry}
 use Rattle.host_port.specs.declared.entry.HostEntry.TheVariants as host_entries
+use Rattle.bridge_relay.specs.declared.entry.RelayResult.{RelayResult}
+use Rattle.bridge_relay.specs.declared.entry.RelayResult.TheVariants as relay_results
+use Rattle.bridge_relay.specs.declared.entry.BridgeEntry.{BridgeEntry}
+use Rattle.bridge_relay.specs.declared.entry.BridgeEntry.TheVariants as bridge_entries
 use Rattle.journal_text.specs.Reading.{◌>>=◌, Form, cut, read_or, read_first, read_as, read_pair}
 use Rattle.journal_text.specs.Reading.{read_parts, read_route, read_way, read_small}
 use Rattle.journal_text.specs.Reading.{read_word, read_id, read_pdu, read_hex_words, read_hex_word}
-use Rattle.journal_text.specs.Reading.{read_block, read_long}
+use Rattle.journal_text.specs.Reading.{read_block, read_long, read_route_or_dash}
 
 -- What is asked of a port: for the own station, and for another one too.
 abbrev pub read_put_global : List ℕ → Option LocalOp
@@ -166,6 +170,53 @@ host_forms =
 unfoldable pub read_host_entry : List ℕ → Option HostEntry
 read_host_entry line = read_first host_forms None line
 
+-- The lines of a bridge.
+abbrev pub relay_forms : List (Form RelayResult)
+relay_forms =
+    (codes "R ", read_as (λ pdu. relay_results.Reply pdu) read_pdu)
+    ∷ (codes "B ", read_as (λ word. relay_results.Bad word) read_hex_word)
+    ∷ []
+
+unfoldable pub read_relay : List ℕ → Option RelayResult
+read_relay text = read_first relay_forms None text
+
+-- A request that a bridge takes: its name, what is left of its route, and its bytes.
+unfoldable pub read_coming : List ℕ → Option (CallId × (List ℕ × List ℕ))
+read_coming text = read_pair read_id (read_pair read_route_or_dash read_pdu 32) 32 text
+
+abbrev pub read_accept : List ℕ → Option BridgeEntry
+read_accept text =
+    read_as (λ parts. bridge_entries.Accept parts.0 parts.1.0 parts.1.1.0 parts.1.1.1)
+    (read_pair read_small read_coming 32) text
+
+abbrev pub read_forward : List ℕ → Option BridgeEntry
+read_forward text =
+    read_as (λ parts.
+    bridge_entries.Forward parts.0 parts.1.0 parts.1.1.0 parts.1.1.1.0 parts.1.1.1.1)
+    (read_pair read_small (read_pair read_id read_asked 32) 32) text
+
+abbrev pub read_relayed : List ℕ → Option BridgeEntry
+read_relayed text =
+    read_as (λ parts. bridge_entries.Finish parts.0 parts.1.0 parts.1.1)
+    (read_pair read_small (read_pair read_id read_relay 32) 32) text
+
+abbrev pub read_back : List ℕ → Option BridgeEntry
+read_back text =
+    read_as (λ parts. bridge_entries.Back parts.0 parts.1.0 parts.1.1)
+    (read_pair read_small read_named 32) text
+
+abbrev pub bridge_forms : List (Form BridgeEntry)
+bridge_forms =
+    (codes "T ", read_accept)
+    ∷ (codes "U ", read_forward)
+    ∷ (codes "A ", read_relayed)
+    ∷ (codes "V ", read_back)
+    ∷ (codes "G ", read_as (λ side. bridge_entries.Gone side) read_small)
+    ∷ []
+
+unfoldable pub read_bridge_entry : List ℕ → Option BridgeEntry
+read_bridge_entry line = read_first bridge_forms None line
+
 -- The frames that are posted and taken: a Reply goes to the node that asked, and a Request is taken
 -- by its target.
 abbrev pub sent_request : CallId × ((ℕ × List ℕ) × List ℕ) → Frame
@@ -259,7 +310,7 @@ read_done text =
     else if bytes_eq text (codes "0") then Some false
     else None
 
--- The lines of the ring.
+-- The lines of a ring.
 abbrev pub read_post : List ℕ → Option RingEntry
 read_post text =
     read_as (λ parts. ring.Post parts.0 parts.1) (read_pair read_small read_sent 32) text

@@ -103,6 +103,10 @@ if_route addresses = if nat_le (length addresses) route_limit then Some addresse
 unfoldable pub read_route : List ℕ → Option (List ℕ)
 read_route text = read_addresses text >>= if_route
 
+-- A route, where a dash stands for none.
+unfoldable pub read_route_or_dash : List ℕ → Option (List ℕ)
+read_route_or_dash text = if bytes_eq text (codes "-") then Some [] else read_route text
+
 -- Where a frame goes, and a route from there on.
 abbrev pub way_from : List ℕ → Option (ℕ × List ℕ)
 way_from [] = None

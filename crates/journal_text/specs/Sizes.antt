@@ -22,8 +22,14 @@ use Rattle.host_port.specs.declared.entry.HostResult.{HostResult}
 use Rattle.host_port.specs.declared.entry.HostResult.TheVariants as host_results
 use Rattle.host_port.specs.declared.entry.HostEntry.{HostEntry}
 use Rattle.host_port.specs.declared.entry.HostEntry.TheVariants as host_entries
+use Rattle.bridge_relay.specs.declared.entry.RelayResult.{RelayResult}
+use Rattle.bridge_relay.specs.declared.entry.RelayResult.TheVariants as relay_results
+use Rattle.bridge_relay.specs.declared.entry.BridgeEntry.{BridgeEntry}
+use Rattle.bridge_relay.specs.declared.entry.BridgeEntry.TheVariants as bridge_entries
 use Rattle.joint_history.specs.declared.joint.ControllerLog.{ControllerLog}
 use Rattle.joint_history.specs.declared.joint.HostLog.{HostLog}
+use Rattle.joint_history.specs.declared.joint.BridgeLog.{BridgeLog}
+use Rattle.joint_history.specs.declared.joint.RingLog.{RingLog}
 use Rattle.joint_history.specs.declared.joint.Joint.{Joint}
 
 -- A node, a path or a byte; a row, a length or a word; the number of a call.
@@ -97,6 +103,20 @@ FitsHostEntry (host_entries.Ask id route pdu) = IsId id × IsRoute route × IsPd
 FitsHostEntry (host_entries.Answer id result) = IsId id × FitsAnswer result
 FitsHostEntry (host_entries.Served id request reply) = IsId id × IsPdu request × IsPdu reply
 
+-- An entry of a bridge.
+abbrev pub FitsRelay : RelayResult → Type 0
+FitsRelay (relay_results.Reply pdu) = IsPdu pdu
+FitsRelay (relay_results.Bad word) = IsWord word
+
+abbrev pub FitsBridgeEntry : BridgeEntry → Type 0
+FitsBridgeEntry (bridge_entries.Accept side id route request) =
+    IsSmall side × IsId id × IsRoute route × IsPdu request
+FitsBridgeEntry (bridge_entries.Forward side old id route request) =
+    IsSmall side × IsId old × IsId id × IsRoute route × IsPdu request
+FitsBridgeEntry (bridge_entries.Finish side id result) = IsSmall side × IsId id × FitsRelay result
+FitsBridgeEntry (bridge_entries.Back side id reply) = IsSmall side × IsId id × IsPdu reply
+FitsBridgeEntry (bridge_entries.Gone side) = IsSmall side
+
 abbrev pub FitsFrame : Frame → Type 0
 FitsFrame frame = IsSmall frame.to × IsRoute frame.rest × IsId frame.id × IsPdu frame.pdu
 
@@ -105,7 +125,7 @@ abbrev pub FitsCause : LeaveCause → Type 0
 FitsCause (Down number) = IsLong number
 FitsCause _ = Unit {0}
 
--- An entry of the ring.
+-- An entry of a ring.
 abbrev pub FitsRingEntry : RingEntry → Type 0
 FitsRingEntry (ring.Post node frame) = IsSmall node × FitsFrame frame
 FitsRingEntry (ring.Send node heard) = IsSmall node
@@ -124,7 +144,14 @@ FitsLog log = IsSmall log.node × All FitsEntry log.entries
 abbrev pub FitsHostLog : HostLog → Type 0
 FitsHostLog log = IsSmall log.node × All FitsHostEntry log.entries
 
+abbrev pub FitsBridgeLog : BridgeLog → Type 0
+FitsBridgeLog log = IsSmall log.left × IsSmall log.right × All FitsBridgeEntry log.entries
+
+abbrev pub FitsRingLog : RingLog → Type 0
+FitsRingLog log = IsSmall log.network × All FitsRingEntry log.entries
+
 pub record FitsJoint (joint : Joint) : Type 0 where
   pub controllers : All FitsLog joint.controllers
   pub hosts : All FitsHostLog joint.hosts
-  pub ring : All FitsRingEntry joint.ring
+  pub bridges : All FitsBridgeLog joint.bridges
+  pub rings : All FitsRingLog joint.rings

@@ -3,7 +3,8 @@ ghost use Rattle.std.specs.Prelude.{◌≡◌};
 ghost use Rattle.mstr_block.specs.declared.call.MstrResult.TheVariants.{Bad, Good};
 ghost use Rattle.journal_text.specs.Reading.{Reads, read_block, read_as, read_small, read_word};
 ghost use Rattle.journal_text.specs.Reading.{read_hex_word, read_hex_words};
-ghost use Rattle.journal_text.specs.ReadLines.{read_asked, read_call, read_calls, read_get_global};
+ghost use Rattle.journal_text.specs.ReadLines.{read_asked, read_call, read_calls, read_coming};
+ghost use Rattle.journal_text.specs.ReadLines.{read_get_global};
 ghost use Rattle.journal_text.specs.ReadLines.{read_kind, read_put_global, read_local_kind};
 ghost use Rattle.journal_text.specs.ReadLines.{read_named, read_net_kind, read_op, read_own_op};
 ghost use Rattle.journal_text.specs.ReadLines.{read_result, read_served};
@@ -11,7 +12,7 @@ ghost use Rattle.journal_text.specs.ReadLines.{read_result, read_served};
 use crate::cutting::{
     LineFault, behind, cut, has_digit_first, is_text, parted, read_id, read_small, read_word,
 };
-use crate::routes_read::read_route;
+use crate::routes_read::{read_route, read_route_or_dash};
 use crate::words_read::{read_block, read_hex_word, read_hex_words, read_pdu};
 use controller_core::{Call, CallKind};
 use mstr_block::{CallId, MstrResult};
@@ -180,6 +181,19 @@ pub(crate) fn read_asked(alloc: Global, text: &[u8]) -> Result<(CallId, Route, P
     let id = read_id(id)?;
     let (route, pdu) = cut(rest, b' ')?;
     let route = read_route(alloc, route)?;
+    let pdu = read_pdu(alloc, pdu)?;
+    Ok((id, route, pdu))
+}
+
+/// A request that a bridge takes, with its name and what is left of its route.
+#[tactic(auto, unfolding(crate::specs::ReadLines::read_coming))]
+pub(crate) fn read_coming(alloc: Global, text: &[u8]) -> Result<(CallId, Route, Pdu), LineFault>
+    ensures { Reads (λ coming. (coming.0, (coming.1, coming.2))) result (read_coming text.now) }
+{
+    let (id, rest) = cut(text, b' ')?;
+    let id = read_id(id)?;
+    let (route, pdu) = cut(rest, b' ')?;
+    let route = read_route_or_dash(alloc, route)?;
     let pdu = read_pdu(alloc, pdu)?;
     Ok((id, route, pdu))
 }

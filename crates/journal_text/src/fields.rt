@@ -3,6 +3,7 @@ ghost use Rattle.std.specs.List.{flat_map};
 ghost use Rattle.std.specs.Prelude.{codes, ◌≡◌, ◌∷◌, ◌++◌, OnOk, Some, string_bytes};
 ghost use Rattle.journal_text.specs.Fields.{hex_byte, hex_bytes, hex_word, hex_words, id_text};
 ghost use Rattle.journal_text.specs.Fields.{behind_point, call_result_text, op_text, route_text};
+ghost use Rattle.journal_text.specs.Fields.{route_or_dash};
 
 use mstr_block::{CallId, MstrResult};
 use plant_types::Route;
@@ -115,6 +116,16 @@ pub(crate) fn push_route(text: &mut String, route: Route) -> Result<(), AllocErr
     match route.split_first() {
         Some((to, rest)) => push_way(text, to, rest),
         None => Ok(()),
+    }
+}
+
+/// A route, or the dash that stands for none.
+pub(crate) fn push_route_or_dash(text: &mut String, route: Route) -> Result<(), AllocError>
+    ensures { OnOk result (string_bytes text.new ≡ string_bytes text.old ++ route_or_dash route) }
+{
+    match route.split_first() {
+        Some((to, rest)) => push_way(text, to, rest),
+        None => text.push_str("-"),
     }
 }
 

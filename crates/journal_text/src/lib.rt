@@ -1,6 +1,8 @@
 //! The journal: a joint history as a text that a stranger can check. This project's own.
 #![tactic(auto)]
 
+mod bridge_read;
+mod bridges;
 mod calls_read;
 mod controllers;
 mod cutting;
@@ -14,6 +16,7 @@ mod reading;
 mod ring_read;
 mod rings;
 mod routes_read;
+mod section;
 mod sizes;
 mod stations_read;
 mod words_read;

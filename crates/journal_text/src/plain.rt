@@ -3,11 +3,12 @@ ghost use Rattle.std.specs.Prelude.{◌≡◌, true, All, map};
 ghost use Rattle.std.specs.List.Sorted.{IsStrictlyIncreasing};
 ghost use Rattle.journal_text.specs.Journal.{IsOwnOp, IsPlain, IsPlainCall, IsPlainEntry};
 ghost use Rattle.journal_text.specs.Journal.{IsPlainFrame, IsPlainGot, IsPlainHostEntry};
-ghost use Rattle.journal_text.specs.Journal.{IsPlainReply, IsPlainRing};
+ghost use Rattle.journal_text.specs.Journal.{IsPlainBridgeEntry, IsPlainReply, IsPlainRing};
 
+use bridge_relay::BridgeEntry;
 use controller_core::{Call, CallKind, Entry};
 use host_port::HostEntry;
-use joint_history::{ControllerLog, HostLog, Joint};
+use joint_history::{BridgeLog, ControllerLog, HostLog, Joint, RingLog};
 use ring_core::{Frame, FrameKind, LocalOp, RingEntry};
 
 fn is_own_op(op: &LocalOp) -> bool
@@ -138,6 +139,64 @@ fn hosts_rise(logs: &[HostLog]) -> bool
     true
 }
 
+fn is_plain_bridge_entry(entry: &BridgeEntry) -> bool
+    ensures only { result ≡ true → IsPlainBridgeEntry entry.now }
+    ensures all { IsPlainBridgeEntry entry.now → result ≡ true }
+{
+    match entry {
+        BridgeEntry::Forward { route, .. } => !route.addresses().is_empty(),
+        _ => true,
+    }
+}
+
+fn are_plain_bridge_entries(entries: &[BridgeEntry]) -> bool
+    ensures only { result ≡ true → All IsPlainBridgeEntry entries.now }
+    ensures all { All IsPlainBridgeEntry entries.now → result ≡ true }
+{
+    for at in 0..entries.len() {
+        if !is_plain_bridge_entry(&entries[at]) {
+            return false;
+        }
+    }
+    true
+}
+
+fn are_plain_bridge_logs(logs: &[BridgeLog]) -> bool
+    ensures only { result ≡ true → All (λ log. All IsPlainBridgeEntry log.entries) logs.now }
+    ensures all { All (λ log. All IsPlainBridgeEntry log.entries) logs.now → result ≡ true }
+{
+    for at in 0..logs.len() {
+        if !are_plain_bridge_entries(logs[at].entries.as_slice()) {
+            return false;
+        }
+    }
+    true
+}
+
+fn bridges_rise(logs: &[BridgeLog]) -> bool
+    ensures only { result ≡ true → IsStrictlyIncreasing (map (λ log. log.left) logs.now) }
+    ensures all { IsStrictlyIncreasing (map (λ log. log.left) logs.now) → result ≡ true }
+{
+    for at in 1..logs.len() {
+        if logs[at - 1].left >= logs[at].left {
+            return false;
+        }
+    }
+    true
+}
+
+fn rings_rise(logs: &[RingLog]) -> bool
+    ensures only { result ≡ true → IsStrictlyIncreasing (map (λ log. log.network) logs.now) }
+    ensures all { IsStrictlyIncreasing (map (λ log. log.network) logs.now) → result ≡ true }
+{
+    for at in 1..logs.len() {
+        if logs[at - 1].network >= logs[at].network {
+            return false;
+        }
+    }
+    true
+}
+
 fn is_plain_reply(frame: &Frame) -> bool
     ensures only { result ≡ true → IsPlainReply frame.now }
     ensures all { IsPlainReply frame.now → result ≡ true }
@@ -188,6 +247,18 @@ fn are_plain_ring(entries: &[RingEntry]) -> bool
     true
 }
 
+fn are_plain_ring_logs(logs: &[RingLog]) -> bool
+    ensures only { result ≡ true → All (λ log. All IsPlainRing log.entries) logs.now }
+    ensures all { All (λ log. All IsPlainRing log.entries) logs.now → result ≡ true }
+{
+    for at in 0..logs.len() {
+        if !are_plain_ring(logs[at].entries.as_slice()) {
+            return false;
+        }
+    }
+    true
+}
+
 /// Whether a joint history is plain, so that it has a journal.
 pub fn is_plain(joint: &Joint) -> bool
     ensures only { result ≡ true → IsPlain joint.now }
@@ -195,7 +266,10 @@ pub fn is_plain(joint: &Joint) -> bool
 {
     controllers_rise(joint.controllers.as_slice())
         && hosts_rise(joint.hosts.as_slice())
+        && bridges_rise(joint.bridges.as_slice())
+        && rings_rise(joint.rings.as_slice())
         && are_plain_logs(joint.controllers.as_slice())
         && are_plain_host_logs(joint.hosts.as_slice())
-        && are_plain_ring(joint.ring.as_slice())
+        && are_plain_bridge_logs(joint.bridges.as_slice())
+        && are_plain_ring_logs(joint.rings.as_slice())
 }

@@ -1,4 +1,4 @@
-//! The section of the ring.
+//! The section of a ring.
 ghost use Rattle.std.specs.Prelude.{codes, ◌≡◌, ◌++◌, OnOk, string_bytes};
 ghost use Rattle.std.specs.Fmt.{decimal};
 ghost use Rattle.std.specs.List.{flat_map};
@@ -7,8 +7,10 @@ ghost use Rattle.journal_text.specs.Fields.{call_result_text, hex_bytes, hex_wor
 ghost use Rattle.journal_text.specs.Fields.{op_text, route_text};
 ghost use Rattle.journal_text.specs.Lines.{done_text, got_text, heard_text, named_text, onward_text};
 ghost use Rattle.journal_text.specs.Lines.{request_text, ring_line, sent_text};
+ghost use Rattle.journal_text.specs.Journal.{ring_head, ring_section};
 
 use crate::fields::{HexWord, Name, push_bytes, push_op, push_result, push_way, push_words};
+use joint_history::RingLog;
 use mstr_block::{CallId, MstrResult};
 use plant_types::Route;
 use ring_core::{Frame, FrameKind, Heard, LeaveCause, LocalOp, RingEntry};
@@ -175,12 +177,41 @@ fn push_entry(text: &mut String, entry: &RingEntry) -> Result<(), AllocError>
     }
 }
 
-pub(crate) fn push_entries(text: &mut String, entries: &[RingEntry]) -> Result<(), AllocError>
+fn push_entries(text: &mut String, entries: &[RingEntry]) -> Result<(), AllocError>
     ensures { OnOk result (string_bytes text.new ≡ string_bytes text.old
         ++ flat_map ring_line entries.now) }
 {
     for entry in entries.iter() {
         push_entry(text, entry)?;
+    }
+    Ok(())
+}
+
+/// Network 0 has no number there.
+fn push_head(text: &mut String, network: u8) -> Result<(), AllocError>
+    ensures { OnOk result (string_bytes text.new ≡ string_bytes text.old ++ ring_head network) }
+{
+    if network == 0 {
+        text.push_str("R")
+    } else {
+        write!(text, "R {network}")
+    }
+}
+
+fn push_log(text: &mut String, log: &RingLog) -> Result<(), AllocError>
+    ensures { OnOk result (string_bytes text.new ≡ string_bytes text.old ++ ring_section log.now) }
+{
+    push_head(text, log.network)?;
+    text.push_str("\n")?;
+    push_entries(text, log.entries.as_slice())
+}
+
+pub(crate) fn push_logs(text: &mut String, logs: &[RingLog]) -> Result<(), AllocError>
+    ensures { OnOk result (string_bytes text.new ≡ string_bytes text.old
+        ++ flat_map ring_section logs.now) }
+{
+    for log in logs.iter() {
+        push_log(text, log)?;
     }
     Ok(())
 }

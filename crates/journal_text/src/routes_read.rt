@@ -1,8 +1,9 @@
 //! Routes that are read back.
 ghost use Rattle.std.specs.Prelude.{◌≡◌};
 ghost use Rattle.journal_text.specs.Reading.{Reads, if_route, read_addresses, read_route, read_way};
+ghost use Rattle.journal_text.specs.Reading.{read_route_or_dash};
 
-use crate::cutting::{LineFault, parted, read_small};
+use crate::cutting::{LineFault, is_text, parted, read_small};
 use plant_types::{List, ROUTE_LIMIT, Route};
 use std::alloc::Global;
 
@@ -44,6 +45,17 @@ pub(crate) fn read_route(alloc: Global, text: &[u8]) -> Result<Route, LineFault>
 {
     let addresses = read_addresses(alloc, text)?;
     if_route(addresses.as_slice())
+}
+
+/// A route, or the dash that stands for none.
+#[tactic(auto, unfolding(crate::specs::Reading::read_route_or_dash))]
+pub(crate) fn read_route_or_dash(alloc: Global, text: &[u8]) -> Result<Route, LineFault>
+    ensures { Reads (λ route. route) result (read_route_or_dash text.now) }
+{
+    if is_text(text, "-") {
+        return Ok(Route::of(&[]));
+    }
+    read_route(alloc, text)
 }
 
 /// Where a frame goes, and a route from there on.

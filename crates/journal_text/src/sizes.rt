@@ -1,15 +1,17 @@
 //! That a joint history has numbers and lists of its types. A call made for the prover alone.
 ghost use Rattle.std.specs.Prelude.{All};
+ghost use Rattle.bridge_relay.specs.declared.entry.BridgeEntry.TheVariants as bridge_entries;
 ghost use Rattle.journal_text.specs.Sizes.{AreWords, FitsAnswer, FitsCall, FitsCause, FitsEntry};
-ghost use Rattle.journal_text.specs.Sizes.{FitsFrame};
+ghost use Rattle.journal_text.specs.Sizes.{FitsBridgeEntry, FitsBridgeLog, FitsFrame, FitsRelay};
 ghost use Rattle.journal_text.specs.Sizes.{FitsHostEntry, FitsHostLog, FitsJoint, FitsKind};
-ghost use Rattle.journal_text.specs.Sizes.{FitsLog, FitsOp, FitsResult, FitsRingEntry};
+ghost use Rattle.journal_text.specs.Sizes.{FitsLog, FitsOp, FitsResult, FitsRingEntry, FitsRingLog};
 ghost use Rattle.journal_text.specs.Sizes.{AreBlockWords, IsId, IsLong, IsPdu, IsRoute, IsSmall};
 ghost use Rattle.journal_text.specs.Sizes.{IsWord};
 
+use bridge_relay::{BridgeEntry, RelayResult};
 use controller_core::{Call, CallKind, Entry};
 use host_port::{HostEntry, HostResult};
-use joint_history::{ControllerLog, HostLog, Joint};
+use joint_history::{BridgeLog, ControllerLog, HostLog, Joint, RingLog};
 use mstr_block::{CallId, MstrResult};
 use plant_types::{Block, Pdu, Route};
 use ring_core::{Frame, LeaveCause, LocalOp, RingEntry};
@@ -219,6 +221,85 @@ fn host_logs(logs: &[HostLog])
     }
 }
 
+fn relay(outcome: &RelayResult)
+    ensures { FitsRelay outcome.now }
+{
+    match outcome {
+        RelayResult::Reply(reply) => pdu(reply),
+        RelayResult::Bad(told) => word(*told),
+    }
+}
+
+fn forward(side: u8, old: CallId, id: CallId, route: Route, request: &Pdu)
+    ensures { FitsBridgeEntry (bridge_entries.Forward side old id route request.now) }
+{
+    small(side);
+    name(old);
+    name(id);
+    way(route);
+    pdu(request);
+}
+
+fn bridge_entry(entry: &BridgeEntry)
+    ensures { FitsBridgeEntry entry.now }
+{
+    match entry {
+        BridgeEntry::Accept {
+            side,
+            id,
+            route,
+            request,
+        } => {
+            small(*side);
+            name(*id);
+            way(*route);
+            pdu(request);
+        }
+        BridgeEntry::Forward {
+            side,
+            old,
+            id,
+            route,
+            request,
+        } => forward(*side, *old, *id, *route, request),
+        BridgeEntry::Finish { side, id, result } => {
+            small(*side);
+            name(*id);
+            relay(result);
+        }
+        BridgeEntry::Back { side, id, reply } => {
+            small(*side);
+            name(*id);
+            pdu(reply);
+        }
+        BridgeEntry::Gone { side } => small(*side),
+    }
+}
+
+fn bridge_entries(entries: &[BridgeEntry])
+    ensures { All FitsBridgeEntry entries.now }
+{
+    for at in 0..entries.len() {
+        bridge_entry(&entries[at]);
+    }
+}
+
+fn bridge_log(log: &BridgeLog)
+    ensures { FitsBridgeLog log.now }
+{
+    small(log.left);
+    small(log.right);
+    bridge_entries(log.entries.as_slice());
+}
+
+fn bridge_logs(logs: &[BridgeLog])
+    ensures { All FitsBridgeLog logs.now }
+{
+    for at in 0..logs.len() {
+        bridge_log(&logs[at]);
+    }
+}
+
 fn frame(frame: &Frame)
     ensures { FitsFrame frame.now }
 {
@@ -284,6 +365,21 @@ fn ring_entries(entries: &[RingEntry])
     }
 }
 
+fn ring_log(log: &RingLog)
+    ensures { FitsRingLog log.now }
+{
+    small(log.network);
+    ring_entries(log.entries.as_slice());
+}
+
+fn ring_logs(logs: &[RingLog])
+    ensures { All FitsRingLog logs.now }
+{
+    for at in 0..logs.len() {
+        ring_log(&logs[at]);
+    }
+}
+
 /// A joint history fits its types: no number is beyond its type, and no list too long. It is called
 /// for that clause alone; it changes nothing, and takes time in proportion to the entries.
 pub fn fits_its_types(joint: &Joint)
@@ -291,5 +387,6 @@ pub fn fits_its_types(joint: &Joint)
 {
     logs(joint.controllers.as_slice());
     host_logs(joint.hosts.as_slice());
-    ring_entries(joint.ring.as_slice());
+    bridge_logs(joint.bridges.as_slice());
+    ring_logs(joint.rings.as_slice());
 }

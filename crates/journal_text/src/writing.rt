@@ -2,7 +2,7 @@
 ghost use Rattle.std.specs.Prelude.{◌≡◌, IfOk};
 ghost use Rattle.journal_text.specs.Journal.{IsPlain, journal};
 
-use crate::{controllers, hosts, rings};
+use crate::{bridges, controllers, hosts, rings};
 use joint_history::Joint;
 use std::alloc::{AllocError, Global};
 
@@ -15,8 +15,8 @@ pub fn journal_text(alloc: Global, joint: &Joint) -> Result<Vec<u8>, AllocError>
     text.push_str("%JOURNAL\n")?;
     controllers::push_logs(&mut text, joint.controllers.as_slice())?;
     hosts::push_logs(&mut text, joint.hosts.as_slice())?;
-    text.push_str("R\n")?;
-    rings::push_entries(&mut text, joint.ring.as_slice())?;
+    bridges::push_logs(&mut text, joint.bridges.as_slice())?;
+    rings::push_logs(&mut text, joint.rings.as_slice())?;
     text.push_str("%END\n")?;
     Ok(text.into_bytes())
 }

@@ -1,6 +1,6 @@
 -- The plant of the tests can be judged.
 use Rattle.std.proofs.Common.{◌≡◌, ℕ, zero, suc, ◌≤◌, [], ◌∷◌, refl, arith}
-use Rattle.std.specs.List.{All}
+use Rattle.std.specs.List.{All, Contains}
 use Rattle.std.specs.List.Sorted.{IsStrictlyIncreasing}
 use Rattle.std.proofs.lemmas.List.Sorted.{IsPermutation-refl}
 use Rattle.plant_types.specs.FirstFault.{tests_behind}
@@ -8,7 +8,8 @@ use Rattle.plant_types.specs.Pairs.{no_two}
 use Rattle.plant_types.specs.declared.net.HostPlan.{HostPlan}
 use Rattle.plant_types.specs.declared.plan.ControllerPlan.{ControllerPlan}
 use Rattle.plant_types.specs.Plans.{IsAskOf, IsFromTo, IsHostPlan, IsNetPlan, IsNode}
-use Rattle.plant_types.specs.Plans.{PassesTests}
+use Rattle.plant_types.specs.Plans.{PassesTests, net_numbers}
+use Rattle.plant_types.proofs.OneNet.{IsOnNet, net-of, of-one-net, on-a-net, stations-once}
 use Rattle.controller_core.specs.Machine.{IsRunnable}
 use Rattle.joint_history.specs.JointLaws.{fixed_of}
 use Rattle.judge_tests.specs.Example.{controller_plan, example_plant, host_plan, net_plan}
@@ -85,23 +86,44 @@ controller-runs scans from to = record {
   scans = omega arith;
 }
 
+on-example : IsOnNet example_plant net_plan
+on-example = record {
+  only = refl;
+  no_bridges = refl;
+  plan = net-sound;
+  alone = refl;
+  no_bridge = refl;
+  controllers_there = all-one (λ (plan : ControllerPlan). plan.network ≡ 0) controller_plan refl;
+  hosts_there = all-one (λ (plan : HostPlan). plan.network ≡ 0) host_plan refl;
+  members = IsPermutation-refl (1 ∷ 2 ∷ []);
+}
+
+there : Contains (net_numbers example_plant) 0
+there = on-a-net example_plant net_plan on-example 0 refl
+
 pub example-judged : (scans : ℕ) → 1 ≤ scans → scans ≤ 2000 → CanBeJudged example_plant scans
 example-judged scans from to = record {
   sound = record {
     scan_time = from-to 1 1000 10 (omega arith) (omega arith);
     watchdog = from-to 1 10000 500 (omega arith) (omega arith);
-    net = net-sound;
-    alone = refl;
-    no_bridge = refl;
+    alone = of-one-net example_plant net_plan on-example;
+    nets = net-of example_plant net_plan on-example (omega arith);
+    nets_rise = one-rises 0;
     count = from-to 1 16 1 (omega arith) (omega arith);
     controllers = all-one PassesTests controller_plan controller-passes;
-    controllers_there = all-one (λ (plan : ControllerPlan). plan.network ≡ 0) controller_plan refl;
+    controllers_there =
+        all-one (λ (plan : ControllerPlan). Contains (net_numbers example_plant) plan.network)
+        controller_plan there;
     controllers_rise = one-rises 1;
     few = omega arith;
     hosts = all-one IsHostPlan host_plan host-sound;
-    hosts_there = all-one (λ (plan : HostPlan). plan.network ≡ 0) host_plan refl;
+    hosts_there = all-one (λ (plan : HostPlan). Contains (net_numbers example_plant) plan.network)
+        host_plan there;
     hosts_rise = one-rises 2;
-    members = IsPermutation-refl (1 ∷ 2 ∷ []);
+    few_bridges = omega arith;
+    bridges = λ k d low. absurd (omega arith);
+    bridges_rise = none-rises;
+    once = stations-once example_plant net_plan on-example;
   };
   runs =
       all-one (λ plan. IsRunnable (fixed_of example_plant scans plan)) controller_plan

@@ -48,7 +48,8 @@ abbrev pub example_plant : Plant
 example_plant = record {
   scan_time = 10;
   watchdog = 500;
-  net = net_plan;
+  nets = net_plan ∷ [];
   controllers = controller_plan ∷ [];
   hosts = host_plan ∷ [];
+  bridges = [];
 }

@@ -6,7 +6,7 @@ ghost use Rattle.joint_law.specs.Spots.{CanBeJudged};
 
 use controller_core::Entry;
 use host_port::{HostEntry, HostResult};
-use joint_history::{ControllerLog, HostLog, Joint};
+use joint_history::{BridgeLog, ControllerLog, HostLog, Joint, RingLog};
 use joint_law::{Judgement, Spot, Verdict, judge, judge_noted};
 use mstr_block::CallId;
 use plant_types::{
@@ -21,6 +21,9 @@ enum Change {
     Nothing,
     NoHost,
     AnotherHost,
+    ABridge,
+    NoRing,
+    AnotherNetwork,
     NoBegin,
     AnotherReply,
     AnotherName,
@@ -177,6 +180,14 @@ fn net(alloc: Global) -> Result<NetPlan, AllocError>
     })
 }
 
+fn nets(alloc: Global) -> Result<List<NetPlan>, AllocError>
+    ensures { IfOk result (λ nets. nets ≡ net_plan ∷ []) }
+{
+    let mut nets = List::new(alloc);
+    nets.push(net(alloc)?)?;
+    Ok(nets)
+}
+
 fn plant(alloc: Global) -> Result<Plant, AllocError>
     ensures { IfOk result (λ plant. (scans : ℕ) → 1 ≤ scans → scans ≤ 2000
         → CanBeJudged plant scans) }
@@ -184,9 +195,10 @@ fn plant(alloc: Global) -> Result<Plant, AllocError>
     Ok(Plant {
         scan_time: 10,
         watchdog: 500,
-        net: net(alloc)?,
+        nets: nets(alloc)?,
         controllers: controllers(alloc)?,
         hosts: hosts(alloc)?,
+        bridges: List::new(alloc),
     })
 }
 
@@ -428,16 +440,46 @@ fn host_logs(alloc: Global, change: Change) -> Result<List<HostLog>, AllocError>
     Ok(logs)
 }
 
+/// The plant has no bridge.
+fn bridge_logs(alloc: Global, change: Change) -> Result<List<BridgeLog>, AllocError> {
+    let mut logs = List::new(alloc);
+    if change == Change::ABridge {
+        logs.push(BridgeLog {
+            left: 3,
+            right: 4,
+            entries: List::new(alloc),
+        })?;
+    }
+    Ok(logs)
+}
+
+/// Its one network has the number 0.
+fn ring_logs(alloc: Global, change: Change) -> Result<List<RingLog>, AllocError> {
+    let mut logs = List::new(alloc);
+    if change == Change::NoRing {
+        return Ok(logs);
+    }
+    let network = if change == Change::AnotherNetwork {
+        1
+    } else {
+        0
+    };
+    let entries = ring(alloc, change)?;
+    logs.push(RingLog { network, entries })?;
+    Ok(logs)
+}
+
 fn joint(alloc: Global, change: Change) -> Result<Joint, AllocError> {
     let mut controllers = List::new(alloc);
     let entries = scan(alloc, change)?;
     controllers.push(ControllerLog { node: 1, entries })?;
     let hosts = host_logs(alloc, change)?;
-    let ring = ring(alloc, change)?;
+    let rings = ring_logs(alloc, change)?;
     Ok(Joint {
         controllers,
         hosts,
-        ring,
+        bridges: bridge_logs(alloc, change)?,
+        rings,
     })
 }
 
@@ -448,15 +490,30 @@ fn judged(alloc: Global, change: Change) -> Result<Verdict, AllocError> {
 }
 
 /// What each change comes to.
-const SPOTS: [(Change, Spot); 21] = [
+const SPOTS: [(Change, Spot); 24] = [
     (Change::NoHost, Spot::Sections),
     (Change::AnotherHost, Spot::Sections),
+    (Change::ABridge, Spot::Sections),
+    (Change::NoRing, Spot::Sections),
+    (Change::AnotherNetwork, Spot::Sections),
     (Change::NoBegin, Spot::Controller { node: 1, entry: 2 }),
     (Change::AnotherReply, Spot::Controller { node: 1, entry: 2 }),
     (Change::AnotherName, Spot::Host { node: 2, entry: 1 }),
     (Change::TwoAnswers, Spot::Host { node: 2, entry: 3 }),
-    (Change::AnotherHolder, Spot::Ring(1)),
-    (Change::NothingHeard, Spot::Ring(3)),
+    (
+        Change::AnotherHolder,
+        Spot::Ring {
+            network: 0,
+            entry: 1,
+        },
+    ),
+    (
+        Change::NothingHeard,
+        Spot::Ring {
+            network: 0,
+            entry: 3,
+        },
+    ),
     (
         Change::NoAsk,
         Spot::Law {
@@ -532,7 +589,13 @@ const SPOTS: [(Change, Spot); 21] = [
             place: 1,
         },
     ),
-    (Change::OnwardTaken, Spot::Ring(8)),
+    (
+        Change::OnwardTaken,
+        Spot::Ring {
+            network: 0,
+            entry: 8,
+        },
+    ),
 ];
 
 #[test]

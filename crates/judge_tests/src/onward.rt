@@ -2,7 +2,7 @@
 use crate::histories::{CALL, REPLY, REQUEST, pdu_of};
 use controller_core::Entry;
 use host_port::{HostEntry, HostResult};
-use joint_history::{ControllerLog, HostLog, Joint};
+use joint_history::{ControllerLog, HostLog, Joint, RingLog};
 use joint_law::{Spot, broken_law};
 use mstr_block::MstrResult;
 use plant_types::{Block, List, Route};
@@ -100,6 +100,19 @@ fn ring(
     Ok(ring)
 }
 
+fn rings(
+    alloc: Global,
+    asked: &Asked<'_>,
+    rest: Route,
+    by_port: bool,
+) -> Result<List<RingLog>, AllocError> {
+    let network = 0;
+    let entries = ring(alloc, asked, rest, by_port)?;
+    let mut logs = List::new(alloc);
+    logs.push(RingLog { network, entries })?;
+    Ok(logs)
+}
+
 /// The law that is broken where node 1 takes a request with these addresses behind it.
 fn broken(
     alloc: Global,
@@ -110,7 +123,8 @@ fn broken(
     let joint = Joint {
         controllers: controllers(alloc, asked, by_port)?,
         hosts: hosts(alloc, asked)?,
-        ring: ring(alloc, asked, rest, by_port)?,
+        bridges: List::new(alloc),
+        rings: rings(alloc, asked, rest, by_port)?,
     };
     broken_law(alloc, &joint)
 }

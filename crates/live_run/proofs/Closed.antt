@@ -2,7 +2,7 @@
 use Rattle.std.proofs.Common.{◌≡◌, ℕ, zero, suc, ◌<◌, List, [], ◌∷◌, ◌++◌, All, Contains, ⊎_elim}
 use Rattle.std.proofs.Common.{Bool, true, false, get_or}
 use Rattle.std.proofs.Common.{length, map, sym, ap, subst, ◌∙◌, arith}
-use Rattle.std.proofs.lemmas.List.Elements.{All-contains, Contains-append_cases}
+use Rattle.std.proofs.lemmas.List.Elements.{All-contains, All-nil, Contains-append_cases}
 use Rattle.std.proofs.lemmas.List.Sorted.{Contains-permutation, IsPermutation-sym}
 use Rattle.std.specs.List.{AllZip}
 use Rattle.turn_gate.specs.Known.{Owns, PassFacts, StartsWith, made_by}
@@ -10,16 +10,21 @@ use Rattle.plant_types.specs.declared.net.HostPlan.{HostPlan}
 use Rattle.plant_types.specs.declared.net.NetPlan.{NetPlan}
 use Rattle.plant_types.specs.declared.plan.ControllerPlan.{ControllerPlan}
 use Rattle.plant_types.specs.declared.plan.Plant.{Plant}
-use Rattle.plant_types.specs.Plans.{IsPlant, controller_nodes, host_nodes}
+use Rattle.plant_types.specs.Plans.{IsPlant, controller_nodes, first_net, host_nodes}
+use Rattle.plant_types.proofs.OneNet.{on-net}
 use Rattle.ring_core.specs.declared.entry.RingEntry.{RingEntry}
 use Rattle.ring_core.specs.Legal.{IsLegalRing}
 use Rattle.ring_core.specs.Words.{maker}
 use Rattle.joint_history.specs.declared.joint.ControllerLog.{ControllerLog}
 use Rattle.joint_history.specs.declared.joint.HostLog.{HostLog}
 use Rattle.joint_history.specs.declared.joint.Joint.{Joint}
-use Rattle.joint_history.specs.JointLaws.{IsJoint, IsLegalHostLog, IsLegalJoint, IsLegalLog}
+use Rattle.joint_history.specs.Complete.{IsCompleteBridgeLog}
+use Rattle.joint_history.specs.JointLaws.{IsJoint, IsLegalBridgeLog, IsLegalHostLog, IsLegalJoint}
+use Rattle.joint_history.specs.JointLaws.{IsLegalLog, IsLegalRingLog, IsTiedBridge}
 use Rattle.joint_history.specs.JointLaws.{IsTiedController, IsTiedHost, fixed_of}
+use Rattle.joint_history.specs.Nets.{noted_on_rings}
 use Rattle.joint_history.specs.Reading.{host_items_of, is_off_at}
+use Rattle.joint_history.proofs.OneRing.{bridges-zip, ring_log, rings-legal}
 use Rattle.tied_lists.specs.Items.{AHost}
 use Rattle.tied_lists.specs.Own.{own}
 use Rattle.tied_lists.specs.Tied.{Tied}
@@ -73,39 +78,40 @@ out-kept stays net n seen rest none out =
     let no' : false ≡ true = ap (is_out_of_ring stays) (sym asks) ∙ out in absurd (cc))) ∙ out
 
 ended : (plant : Plant) (scans : ℕ) (plan : ControllerPlan) (log : ControllerLog)
-    (h seen rest : List RingEntry) → IsLegalRing plant.net h → h ≡ seen ++ rest
+    (h seen rest : List RingEntry) → IsLegalRing (first_net plant) h → h ≡ seen ++ rest
     → own plan.node rest ≡ [] → CameToEnd plant scans plan log seen → EndedOn plant scans h plan log
 ended plant scans plan log h seen rest legal is none c =
     subst (λ l. EndedOn plant scans l plan log) (sym is) (
     let f = fixed_of plant scans plan in
+    let net = first_net plant in
     let mine = subst (λ n. own n rest ≡ []) (sym c.node) none in
-    let good = subst (IsLegalRing plant.net) is legal in
+    let good = subst (IsLegalRing net) is legal in
     record {
       node = c.node;
       finished = record {
-        stands = stands-others f plant.net log.node log.entries seen rest good mine
+        stands = stands-others f net log.node log.entries seen rest good mine
             c.finished.stands;
-        keeps = others f plant.net log.node log.entries seen rest true mine
+        keeps = others f net log.node log.entries seen rest true mine
             c.finished.keeps;
         ended = c.finished.ended;
         collected = c.finished.collected;
-        out = out-kept (is_off_at f log.entries) plant.net log.node seen rest mine c.finished.out;
+        out = out-kept (is_off_at f log.entries) net log.node seen rest mine c.finished.out;
       };
       unspent = subst NoneSpent (sym (own-found plan.node seen rest none)) c.unspent;
     })
 
 host-ended : (plant : Plant) (plan : HostPlan) (log : HostLog) (h seen rest : List RingEntry)
-    → IsLegalRing plant.net h → h ≡ seen ++ rest
+    → IsLegalRing (first_net plant) h → h ≡ seen ++ rest
     → own plan.node rest ≡ [] → HostCameToEnd plant plan log seen → HostEndedOn plant h plan log
 host-ended plant plan log h seen rest legal is none c =
     subst (λ l. HostEndedOn plant l plan log) (sym is) (
-    let good = subst (IsLegalRing plant.net) is legal in
+    let good = subst (IsLegalRing (first_net plant)) is legal in
     record {
       finished = record {
         node = c.finished.node;
-        stands = host-stands-others plan plant.net log.entries seen rest good none
+        stands = host-stands-others plan (first_net plant) log.entries seen rest good none
             c.finished.stands;
-        keeps = host-others plan plant.net log.entries seen rest true none
+        keeps = host-others plan (first_net plant) log.entries seen rest true none
             c.finished.keeps;
       };
       unspent = subst NoneSpent (sym (own-found plan.node seen rest none)) c.unspent;
@@ -141,24 +147,31 @@ pub record Closes (plant : Plant) (scans : ℕ) (joint : Joint) : Type 0 where
   pub legal : IsLegalJoint plant scans joint
   pub ties : IsJoint joint
   pub timely : StationsAreInTime joint
-  pub controllers : AllZip (HasFinished plant scans joint.ring) plant.controllers joint.controllers
-  pub hosts : AllZip (HostHasFinished plant joint.ring) plant.hosts joint.hosts
-  pub unspent : NoneSpent joint.ring
+  pub controllers : AllZip (HasFinished plant scans (noted_on_rings joint)) plant.controllers
+      joint.controllers
+  pub hosts : AllZip (HostHasFinished plant (noted_on_rings joint)) plant.hosts joint.hosts
+  pub bridges : AllZip (IsCompleteBridgeLog plant (noted_on_rings joint)) plant.bridges
+      joint.bridges
+  pub unspent : NoneSpent (noted_on_rings joint)
 
 pub closes : (plant : Plant) (scans : ℕ) (joint : Joint) (p : PassFacts RingEntry) → IsPlant plant
-    → p.gate.opening ≡ [] → Owns maker p joint.ring
-    → All (StartsWith joint.ring) p.heard → IsLegalRing plant.net joint.ring
+    → joint.bridges ≡ [] → joint.rings ≡ ring_log (first_net plant) (noted_on_rings joint) ∷ []
+    → p.gate.opening ≡ [] → Owns maker p (noted_on_rings joint)
+    → All (StartsWith (noted_on_rings joint)) p.heard
+    → IsLegalRing (first_net plant) (noted_on_rings joint)
     → AreBrought p.joined p.heard (λ plan. plan.node) (CameToEnd plant scans) plant.controllers
     joint.controllers
     → AreBrought p.joined p.heard (λ plan. plan.node) (HostCameToEnd plant) plant.hosts joint.hosts
     → Closes plant scans joint
-closes plant scans joint p sound unopened owns heard legal one two = record {
+closes plant scans joint p sound none only unopened owns heard legal one two = record {
   legal = record {
     controllers = zip-each (EndedOn plant scans h) (IsLegalLog plant scans)
         (λ a b e. (e.node, e.finished.stands.legal)) plant.controllers joint.controllers ran;
     hosts = zip-each (HostEndedOn plant h) IsLegalHostLog
         (λ a b e. (e.finished.node, e.finished.stands.legal)) plant.hosts joint.hosts served;
-    ring = legal;
+    bridges = subst (AllZip IsLegalBridgeLog plant.bridges) (sym none)
+        (bridges-zip IsLegalBridgeLog plant sound);
+    rings = subst (AllZip IsLegalRingLog plant.nets) (sym only) (rings-legal plant h sound legal);
   };
   ties = record {
     controllers = zip-second (EndedOn plant scans h) (IsTiedController h)
@@ -166,6 +179,7 @@ closes plant scans joint p sound unopened owns heard legal one two = record {
     hosts = zip-second (HostEndedOn plant h) (IsTiedHost h)
         (λ a b e. subst (λ n. Tied AHost (host_items_of b.entries) (own n h))
         (sym e.finished.node) e.finished.stands.tied) plant.hosts joint.hosts served;
+    bridges = subst (All (IsTiedBridge h)) (sym none) (All-nil (IsTiedBridge h));
   };
   timely = record {
     controllers = zip-second (EndedOn plant scans h) (IsControllerInTime h)
@@ -178,14 +192,16 @@ closes plant scans joint p sound unopened owns heard legal one two = record {
       (λ a b e. e.finished) plant.controllers joint.controllers ran;
   hosts = zip-each (HostEndedOn plant h) (HostHasFinished plant h) (λ a b e. e.finished) plant.hosts
       joint.hosts served;
-  unspent = nobody-spends plant.net h legal (λ n member. unspent n
-      (Contains-permutation plant.net.members (controller_nodes plant ++ host_nodes plant) n
+  bridges = subst (AllZip (IsCompleteBridgeLog plant h) plant.bridges) (sym none)
+      (bridges-zip (IsCompleteBridgeLog plant h) plant sound);
+  unspent = nobody-spends (first_net plant) h legal (λ n member. unspent n
+      (Contains-permutation (first_net plant).members (controller_nodes plant ++ host_nodes plant) n
       (IsPermutation-sym (controller_nodes plant ++ host_nodes plant)
-      plant.net.members sound.members) member));
+      (first_net plant).members (on-net plant sound).members) member));
 }
   where
     h : List RingEntry
-    h = joint.ring
+    h = noted_on_rings joint
 
     ran : AllZip (EndedOn plant scans h) plant.controllers joint.controllers
     ran = zip-each (λ plan log. IsBrought p.joined p.heard plan.node

@@ -6,6 +6,7 @@ use Rattle.std.proofs.lemmas.List.Elements.{filter-append}
 use Rattle.turn_gate.specs.Known.{GateFacts, Owns, PassFacts, StartsWith, made_by}
 use Rattle.plant_types.specs.declared.plan.ControllerPlan.{ControllerPlan}
 use Rattle.plant_types.specs.declared.plan.Plant.{Plant}
+use Rattle.plant_types.specs.Plans.{first_net}
 use Rattle.ring_core.specs.declared.entry.RingEntry.{RingEntry}
 use Rattle.controller_core.specs.declared.entry.Entry.{Entry}
 use Rattle.controller_core.specs.declared.fixed.Fixed.{Fixed}
@@ -42,7 +43,7 @@ pub came-to-end : {Q : Type 0} (plant : Plant) (scans : ℕ) (plan : ControllerP
     (gate : GateFacts Entry Fixed) (w : WorkerIs) (side : RingSideIs Q)
     (ring : List RingEntry) (p : PassFacts Entry) (h : List Entry) (log : ControllerLog)
     → gate.name.opening ≡ [] → gate.fixed ≡ fixed_of plant scans plan
-    → w.node ≡ plan.node → side.net ≡ plant.net → IsBack gate w side ring p true
+    → w.node ≡ plan.node → side.net ≡ first_net plant → IsBack gate w side ring p true
     → All (StartsWith h) p.heard → Owns maker_number p h
     → IsLegal (fixed_of plant scans plan) h → log ≡ record { node = plan.node; entries = h }
     → CameToEnd plant scans plan log ring

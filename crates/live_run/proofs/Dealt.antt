@@ -12,7 +12,8 @@ use Rattle.ring_core.specs.declared.entry.RingEntry.{RingEntry}
 use Rattle.live_run.specs.Sides.{GatedRingIs}
 use Rattle.plant_types.specs.declared.net.NetPlan.{NetPlan}
 use Rattle.plant_types.specs.declared.plan.Plant.{Plant}
-use Rattle.plant_types.specs.Plans.{IsPlant, controller_nodes, host_nodes}
+use Rattle.plant_types.specs.Plans.{IsPlant, controller_nodes, first_net, host_nodes}
+use Rattle.plant_types.proofs.OneNet.{IsOnNet, on-net}
 use Rattle.effect_laws.proofs.Counts.{count_cons, once_rising}
 use Rattle.live_run.specs.Dealing.{AreNew, fresh_station}
 
@@ -141,22 +142,27 @@ positive whole k d within none (suc n) is = omega (arith, is)
 pub plant-new : (plant : Plant) → IsPlant plant → AreNew [] (controller_nodes plant)
     × AreNew (reverse (controller_nodes plant) ++ []) (host_nodes plant)
 plant-new plant sound =
-    let all = controller_nodes plant ++ host_nodes plant in
-    let same : (m : ℕ) → count_by (λ n. m == n) all ≡ count_by (λ n. m == n) plant.net.members =
-    λ m. sym (sum_by-IsPermutation (λ n. cond (m == n) 1 0) all plant.net.members sound.members) in
     new-parts [] (controller_nodes plant) (host_nodes plant)
-    (new-all [] all high (λ m. let o = once_rising m plant.net.members
-    (AllPairs-from_increasing plant.net.members sound.net.members.rise) in
+    (new-all [] whole high (λ m. let o = once_rising m members
+    (AllPairs-from_increasing members on.plan.members.rise) in
     let s = same m in omega (arith, o, s)))
   where
-    high : All (λ n. 1 ≤ n) (controller_nodes plant ++ host_nodes plant)
+    on : IsOnNet plant (first_net plant)
+    on = on-net plant sound
+
+    members : List ℕ
+    members = (first_net plant).members
+
+    whole : List ℕ
+    whole = controller_nodes plant ++ host_nodes plant
+
+    same : (m : ℕ) → count_by (λ n. m == n) whole ≡ count_by (λ n. m == n) members
+    same m = sym (sum_by-IsPermutation (λ n. cond (m == n) 1 0) whole members on.members)
+
+    high : All (λ n. 1 ≤ n) whole
     high k d within =
-        let whole = controller_nodes plant ++ host_nodes plant in
-        let same : count_by (λ n. 0 == n) (controller_nodes plant ++ host_nodes plant)
-        ≡ count_by (λ n. 0 == n) plant.net.members =
-        sym (sum_by-IsPermutation (λ n. cond (0 == n) 1 0) whole plant.net.members sound.members) in
-        positive whole k d within (same ∙ zero-none plant.net.members
-        (λ k d within. (sound.net.members.each k d within).from)) (get_or whole k d) refl
+        positive whole k d within (same 0 ∙ zero-none members
+        (λ k d within. (on.plan.members.each k d within).from)) (get_or whole k d) refl
 
 -- the station over a pass that was split off
 pub seat-of : {L : Type 0} (gate : GateFacts RingEntry NetPlan) (side : GatedRingIs)

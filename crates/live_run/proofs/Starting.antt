@@ -5,7 +5,7 @@ use Rattle.std.specs.List.{All}
 use Rattle.plant_types.specs.declared.net.HostPlan.{HostPlan}
 use Rattle.plant_types.specs.declared.net.NetPlan.{NetPlan}
 use Rattle.plant_types.specs.declared.plan.Plant.{Plant}
-use Rattle.plant_types.specs.Plans.{IsNetPlan}
+use Rattle.plant_types.specs.Plans.{IsNetPlan, first_net}
 use Rattle.ring_core.specs.declared.entry.RingEntry.{RingEntry}
 use Rattle.ring_core.specs.Legal.{IsMember}
 use Rattle.ring_core.specs.Machine.{addresses, is_in}
@@ -48,7 +48,8 @@ serves-as : (writer : Option ℕ) (n : ℕ) → writer ≡ Some n → MayWrite w
 serves-as writer n is = subst (λ w. MayWrite w n) (sym is) refl
 
 host-talks : {Q : Type 0} (plan : HostPlan) (net : NetPlan) (side : RingSideIs Q) → IsNetPlan net
-    → IsMember net plan.node → IsNoBridge net plan.node → side.net ≡ net → side.writer ≡ Some plan.node
+    → IsMember net plan.node → IsNoBridge net plan.node → side.net ≡ net
+    → side.writer ≡ Some plan.node
     → AttendsOn (record { node = plan.node; budget = false; passes = 0 })
     (record { plan = plan; history = [] }) side [] false
 host-talks plan net side sound member station same writer =
@@ -88,7 +89,7 @@ attends-start plant plan w host side ring u host_is worker_is =
     subst (λ l. AttendsOn w host side l false) (sym u.nothing)
     (subst (λ h. AttendsOn w h side [] false) (sym host_is)
     (subst (λ v. AttendsOn v (record { plan = plan; history = [] }) side [] false) (sym worker_is)
-    (host-talks plan plant.net side u.sound u.member u.no_bridge u.net u.writer)))
+    (host-talks plan (first_net plant) side u.sound u.member u.no_bridge u.net u.writer)))
 
 controller-talks : {P Q : Type 0} (n : ℕ) (net : NetPlan) (ram : RamSideIs P) (side : RingSideIs Q)
     → ram.fixed.plan.node ≡ n → IsNetPlan net → IsMember net n → IsNoBridge net n
@@ -121,9 +122,10 @@ controller-talks n net ram side node sound member station same writer =
 pub talks-start : {P Q : Type 0} (plant : Plant) (n : ℕ) (w : WorkerIs) (ram : RamSideIs P)
     (known : List Entry) (side : RingSideIs Q) (ring : List RingEntry)
     → ram.fixed.plan.node ≡ n → known ≡ [] → IsUnused plant n side ring
-    → w ≡ new_worker n plant.net false → TalksOn w ram known side ring There
+    → w ≡ new_worker n (first_net plant) false → TalksOn w ram known side ring There
 talks-start plant n w ram known side ring node none u worker_is =
+    let net = first_net plant in
     subst (λ l. TalksOn w ram known side l There) (sym u.nothing)
     (subst (λ l. TalksOn w ram l side [] There) (sym none)
     (subst (λ v. TalksOn v ram [] side [] There) (sym worker_is)
-    (controller-talks n plant.net ram side node u.sound u.member u.no_bridge u.net u.writer)))
+    (controller-talks n net ram side node u.sound u.member u.no_bridge u.net u.writer)))

@@ -9,7 +9,7 @@ use Rattle.std.specs.List.{AllZip}
 use Rattle.turn_gate.specs.Known.{GateFacts, HasAllBack, PassFacts, is_among, made_by}
 use Rattle.plant_types.specs.declared.net.NetPlan.{NetPlan}
 use Rattle.plant_types.specs.declared.plan.Plant.{Plant}
-use Rattle.plant_types.specs.Plans.{IsNetPlan}
+use Rattle.plant_types.specs.Plans.{IsNetPlan, first_net}
 use Rattle.ring_core.specs.declared.entry.RingEntry.{RingEntry}
 use Rattle.ring_core.specs.Legal.{IsMember}
 use Rattle.ring_core.specs.Words.{maker}
@@ -34,9 +34,9 @@ pub record IsSeatOf {L : Type 0} (gate : GateFacts RingEntry NetPlan) (node : �
   pub number : seat.ring.number ≡ node
 
 module _ {P : Type 0} (gate : GateFacts RingEntry NetPlan) (node_of : P → ℕ) where
-  pub fresh-all : (L : Type 0) (plant : Plant) (plans : List P) → IsNetPlan plant.net
-      → plant.net.bridges ≡ [] → gate.fixed ≡ plant.net → gate.name.opening ≡ []
-      → All (λ n. IsMember plant.net n) (map node_of plans)
+  pub fresh-all : (L : Type 0) (plant : Plant) (plans : List P) → IsNetPlan (first_net plant)
+      → (first_net plant).bridges ≡ [] → gate.fixed ≡ first_net plant → gate.name.opening ≡ []
+      → All (λ n. IsMember (first_net plant) n) (map node_of plans)
       → AreFresh {L = L} seat_side seat_seen plant node_of plans
       (map (λ plan. fresh_station gate (node_of plan)) plans)
   fresh-all L plant [] sound none net unopened members = tt
@@ -45,7 +45,7 @@ module _ {P : Type 0} (gate : GateFacts RingEntry NetPlan) (node_of : P → ℕ)
       unused = record {
         sound = sound;
         member = members 0 (node_of p) (omega arith);
-        no_bridge = none-bridges plant.net (node_of p) none;
+        no_bridge = none-bridges (first_net plant) (node_of p) none;
         net = net;
         writer = refl;
         nothing = unopened;

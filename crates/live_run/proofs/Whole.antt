@@ -10,7 +10,8 @@ use Rattle.plant_types.specs.declared.net.HostPlan.{HostPlan}
 use Rattle.plant_types.specs.declared.net.NetPlan.{NetPlan}
 use Rattle.plant_types.specs.declared.plan.ControllerPlan.{ControllerPlan}
 use Rattle.plant_types.specs.declared.plan.Plant.{Plant}
-use Rattle.plant_types.specs.Plans.{IsPlant, controller_nodes, host_nodes}
+use Rattle.plant_types.specs.Plans.{IsPlant, controller_nodes, first_net, host_nodes}
+use Rattle.plant_types.proofs.OneNet.{on-net}
 use Rattle.ring_core.specs.declared.entry.RingEntry.{RingEntry}
 use Rattle.ring_core.specs.Legal.{IsMember}
 use Rattle.std.proofs.lemmas.List.Elements.{All-contains_itself}
@@ -32,19 +33,21 @@ all-parts P xs f k d low =
     f (Rattle.std.proofs.Common.get_or xs k d) (All-contains_itself xs k d low)
 
 pub controllers-members : (plant : Plant) → IsPlant plant
-    → All (λ n. IsMember plant.net n) (controller_nodes plant)
+    → All (λ n. IsMember (first_net plant) n) (controller_nodes plant)
 controllers-members plant sound =
-    all-parts (λ n. IsMember plant.net n) (controller_nodes plant)
-    (λ n there. Contains-permutation (controller_nodes plant ++ host_nodes plant) plant.net.members
-    n sound.members
+    let net = first_net plant in
+    all-parts (λ n. IsMember net n) (controller_nodes plant)
+    (λ n there. Contains-permutation (controller_nodes plant ++ host_nodes plant) net.members
+    n (on-net plant sound).members
     (Contains-append_left (controller_nodes plant) (host_nodes plant) n there))
 
 pub hosts-members : (plant : Plant) → IsPlant plant
-    → All (λ n. IsMember plant.net n) (host_nodes plant)
+    → All (λ n. IsMember (first_net plant) n) (host_nodes plant)
 hosts-members plant sound =
-    all-parts (λ n. IsMember plant.net n) (host_nodes plant)
-    (λ n there. Contains-permutation (controller_nodes plant ++ host_nodes plant) plant.net.members
-    n sound.members
+    let net = first_net plant in
+    all-parts (λ n. IsMember net n) (host_nodes plant)
+    (λ n there. Contains-permutation (controller_nodes plant ++ host_nodes plant) net.members
+    n (on-net plant sound).members
     (Contains-append_right (controller_nodes plant) (host_nodes plant) n there))
 
 -- the stations of controllers after their run

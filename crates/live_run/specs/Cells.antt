@@ -5,7 +5,7 @@ use Rattle.controller_core.specs.declared.entry.Maker.{Maker}
 use Rattle.controller_core.specs.declared.entry.Maker.TheVariants.{Scan, Communication}
 use Rattle.controller_core.specs.Controller.{ControllerIs}
 use Rattle.controller_core.specs.Event.{maker_of}
-use Rattle.ring_core.specs.Kept.{RingLog}
+use Rattle.ring_core.specs.Kept.{KeptRing}
 use Rattle.live_run.specs.declared.cells.RamCell.{RamCell}
 use Rattle.live_run.specs.declared.cells.RingCell.{RingCell}
 
@@ -18,11 +18,11 @@ abbrev pub with_controller : RamCell → ControllerIs → RamCell
 with_controller c x = record c { controller = x }
 
 -- The ring behind a gate.
-abbrev pub ring_in : RingCell → RingLog
+abbrev pub ring_in : RingCell → KeptRing
 ring_in c = c.ring
 
 -- The cell with another ring.
-abbrev pub with_ring : RingCell → RingLog → RingCell
+abbrev pub with_ring : RingCell → KeptRing → RingCell
 with_ring c x = record c { ring = x }
 
 -- Behind a controller's gate the scan makes entries under the number 1, its communication under 2.

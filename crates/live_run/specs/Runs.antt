@@ -1,5 +1,5 @@
 -- A run whose passes of the ring are all back. This project's own.
-use Rattle.std.specs.Prelude.{◌≡◌, ℕ, Bool, true, List, map}
+use Rattle.std.specs.Prelude.{◌≡◌, ℕ, Bool, true, List, [], map}
 use Rattle.std.specs.List.{AllZip, Contains}
 use Rattle.turn_gate.specs.Known.{GateFacts, HasAllBack, IsOutside, PassFacts, made_by}
 use Rattle.plant_types.specs.declared.net.NetPlan.{NetPlan}
@@ -9,6 +9,7 @@ use Rattle.ring_core.specs.Words.{maker}
 use Rattle.controller_core.specs.declared.notes.Notes.{Notes}
 use Rattle.joint_history.specs.declared.joint.ControllerLog.{ControllerLog}
 use Rattle.joint_history.specs.declared.joint.HostLog.{HostLog}
+use Rattle.joint_history.specs.declared.joint.RingLog.{RingLog}
 use Rattle.joint_history.specs.declared.noted.Noted.{Noted}
 use Rattle.live_run.specs.declared.runs.Outcome.{Outcome}
 use Rattle.live_run.specs.declared.stations.NotedLog.{NotedLog}
@@ -54,10 +55,12 @@ log_part noted = noted.log
 abbrev pub notes_part : NotedLog → Notes
 notes_part noted = noted.notes
 
--- A joint history has these closed lists, and the notes beside it are those of its controllers.
-pub record IsMadeOf (controllers : List NotedLog) (hosts : List HostLog) (ring : List RingEntry)
+-- A joint history has these closed lists and no bridge's, and the notes beside it are those of its
+-- controllers.
+pub record IsMadeOf (controllers : List NotedLog) (hosts : List HostLog) (rings : List RingLog)
     (noted : Noted) : Type 0 where
   pub controllers_are : noted.joint.controllers ≡ map log_part controllers
   pub hosts_are : noted.joint.hosts ≡ hosts
-  pub ring_is : noted.joint.ring ≡ ring
+  pub bridges_are : noted.joint.bridges ≡ []
+  pub rings_are : noted.joint.rings ≡ rings
   pub notes_are : noted.notes ≡ map notes_part controllers

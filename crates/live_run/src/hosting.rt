@@ -90,7 +90,7 @@ pub(crate) fn run_host<G: RingSide + Outside, M: Meet, R: Wait + Clock>(
         (λ log. HostCameToEnd run.now.plant.now plan.now log (G.known ring.new)) }
     ensures side { G.side ring.new ≡ G.side ring.old }
 {
-    let net = &run.plant.net;
+    let net = run.plant.first_net();
     let mut host = Host::new(run.alloc, plan, net)?;
     let mut worker = HostWorker::new(run.alloc, plan.node, net, false)?;
     if !attend(run.rt, run.crew, plan.node, &mut worker, &mut host, ring) {

@@ -4,9 +4,8 @@ ghost use Rattle.live_run.specs.Runs.{IsMadeOf, log_part, notes_part};
 
 use crate::stations::NotedLog;
 use controller_core::Notes;
-use joint_history::{ControllerLog, HostLog, Joint, Noted};
+use joint_history::{ControllerLog, HostLog, Joint, Noted, RingLog};
 use plant_types::List;
-use ring_core::RingEntry;
 use std::alloc::{AllocError, Global};
 
 /// The histories of controllers, and their notes, each in a list of their own.
@@ -32,15 +31,16 @@ pub(crate) fn noted_of(
     alloc: Global,
     controllers: Vec<NotedLog>,
     hosts: Vec<HostLog>,
-    ring: List<RingEntry>,
+    rings: List<RingLog>,
 ) -> Result<Noted, AllocError>
-    ensures { IfOk result (IsMadeOf controllers.items hosts.items ring) }
+    ensures { IfOk result (IsMadeOf controllers.items hosts.items rings) }
 {
     let (logs, notes) = apart(alloc, controllers)?;
     let joint = Joint {
         controllers: List::from_vec(logs),
         hosts: List::from_vec(hosts),
-        ring,
+        bridges: List::new(alloc),
+        rings,
     };
     Ok(Noted {
         joint,

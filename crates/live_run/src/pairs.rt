@@ -107,7 +107,7 @@ pub(crate) fn run_controller<
 {
     let plant = run.plant;
     let controller = Controller::new(run.alloc, plan, plant.scan_time, plant.watchdog, run.scans)?;
-    let mut worker = CommWorker::new(run.alloc, plan.node, &plant.net, false)?;
+    let mut worker = CommWorker::new(run.alloc, plan.node, plant.first_net(), false)?;
     let (gate, zero) = Gate::new(run.alloc, RamCell::new(controller))?;
     let (zero, done) = through_gate(run, &gate, zero, &mut worker, ring, plan.node);
     let controller = gate.close(zero).into_inner();

@@ -9,9 +9,10 @@ ghost use Rattle.live_run.specs.Dealing.{AreNew, fresh_station, IsAtGate, IsLogg
 ghost use Rattle.live_run.specs.Dealing.{GatheredInto};
 ghost use Rattle.std.specs.Prelude.{◌≤◌, IfOk};
 ghost use Rattle.plant_types.specs.Limits.{most_scans};
-ghost use Rattle.plant_types.specs.Plans.{IsPlant};
+ghost use Rattle.plant_types.specs.Plans.{IsPlant, first_net};
 ghost use Rattle.joint_history.specs.Complete.{IsComplete};
 ghost use Rattle.joint_history.specs.JointLaws.{IsJoint, IsLegalJoint};
+ghost use Rattle.joint_history.specs.Nets.{noted_on_rings};
 ghost use Rattle.joint_history.specs.Noted.{IsNoted};
 ghost use Rattle.effect_laws.specs.Effects.{EffectsAreRight};
 ghost use Rattle.entry_causes.specs.Joint.{IsInOneOrder};
@@ -29,7 +30,7 @@ use crate::stations::{NotedLog, Station, run_all};
 use controller_core::notes_ask_no_scans;
 use effect_laws::effects_are_right;
 use entry_causes::joint_is_in_one_order;
-use joint_history::{HostLog, Joint, Noted};
+use joint_history::{HostLog, Joint, Noted, one_ring};
 use plant_types::{ControllerPlan, HostPlan, Plant};
 use ring_core::Ring;
 use std::alloc::{AllocError, Global};
@@ -160,7 +161,7 @@ fn through_ring<M: Meet + Sync, R: Threads + Wait + Clock + Sync>(
     requires plant { IsPlant run.now.plant.now }
     requires runnable { CanRunAll run.now.plant.now run.now.scans run.now.plant.now.controllers }
     requires serving { CanServeAll run.now.plant.now.hosts }
-    requires net { gate.now.fixed ≡ run.now.plant.now.net }
+    requires net { gate.now.fixed ≡ first_net run.now.plant.now }
     requires opening { gate.now.name.opening ≡ [] }
     requires pass { pass ≡ first_pass gate.now.name }
     ensures { IsOutcome run.now.plant.now run.now.scans gate.now result }
@@ -209,7 +210,7 @@ pub fn live_noted<M: Meet + Sync, R: Threads + Wait + Clock + Sync>(
     ensures legal { IfOk result (λ noted. IsLegalJoint plant.now scans noted.joint) }
     ensures joint { IfOk result (λ noted. IsJoint noted.joint) }
     ensures complete { IfOk result (λ noted. IsComplete plant.now scans noted.joint) }
-    ensures unspent { IfOk result (λ noted. NoneSpent noted.joint.ring) }
+    ensures unspent { IfOk result (λ noted. NoneSpent (noted_on_rings noted.joint)) }
     ensures effects { IfOk result (λ noted. EffectsAreRight noted.joint) }
     ensures in_time { IfOk result (λ noted. IsInOneOrder noted.joint) }
     ensures noted { IfOk result (IsNoted plant.now) }
@@ -218,7 +219,8 @@ pub fn live_noted<M: Meet + Sync, R: Threads + Wait + Clock + Sync>(
     runs_complete();
     joint_is_in_one_order();
     notes_ask_no_scans();
-    let ring = Ring::new(alloc, &plant.net)?;
+    let net = plant.first_net();
+    let ring = Ring::new(alloc, net)?;
     let crew = Crew::new(alloc, plant, ring.holder())?;
     let (gate, pass) = Gate::new(alloc, RingCell::new(ring))?;
     let run = Run::new(rt, &crew, meet, plant, alloc, scans);
@@ -232,7 +234,8 @@ pub fn live_noted<M: Meet + Sync, R: Threads + Wait + Clock + Sync>(
     if !done {
         return Err(AllocError);
     }
-    noted_of(alloc, controllers, hosts, ring)
+    let rings = one_ring(alloc, net.number, ring)?;
+    noted_of(alloc, controllers, hosts, rings)
 }
 
 /// The joint history of a run in threads alone, as `live_noted` makes it.
@@ -248,7 +251,7 @@ pub fn live<M: Meet + Sync, R: Threads + Wait + Clock + Sync>(
     ensures legal { IfOk result (IsLegalJoint plant.now scans) }
     ensures joint { IfOk result IsJoint }
     ensures complete { IfOk result (IsComplete plant.now scans) }
-    ensures unspent { IfOk result (λ joint. NoneSpent joint.ring) }
+    ensures unspent { IfOk result (λ joint. NoneSpent (noted_on_rings joint)) }
     ensures effects { IfOk result EffectsAreRight }
     ensures in_time { IfOk result IsInOneOrder }
 {

@@ -4,7 +4,7 @@ mod tables;
 use plant_loader::{LoadEnd, load};
 use plant_types::{
     Cell, ControllerPlan, Element, Fate, HostAsk, HostPlan, IoDrop, Module, ModuleKind, MoveOp,
-    NetPlan, Network, OrderRow, Plant, PowerRow, Ref, RefKind, ScriptRow, Short,
+    Network, OrderRow, Plant, PowerRow, Ref, RefKind, ScriptRow, Short,
 };
 use std::alloc::{AllocError, Global};
 use std::process::Abort;
@@ -420,8 +420,12 @@ fn has_hosts(hosts: &[HostPlan]) -> bool {
         && other.network == 0
 }
 
-fn has_net(net: &NetPlan, fates: &[Fate]) -> bool {
-    net.number == 0
+fn has_net(plant: &Plant, fates: &[Fate]) -> bool {
+    let [net] = plant.nets.as_slice() else {
+        return false;
+    };
+    plant.bridges.as_slice().is_empty()
+        && net.number == 0
         && net.members.as_slice() == [1, 3, 9, 64].as_slice()
         && net.bridges.as_slice().is_empty()
         && net.fates.as_slice() == fates
@@ -437,16 +441,19 @@ fn is_read(plant: &Plant) -> bool {
     };
     plant.scan_time == 25
         && plant.watchdog == 1000
-        && has_net(&plant.net, &[Fate::D, Fate::L, Fate::A])
+        && has_net(plant, &[Fate::D, Fate::L, Fate::A])
         && low.node == 3
         && has_plan(high)
         && has_hosts(plant.hosts.as_slice())
 }
 
 fn is_small(plant: &Plant) -> bool {
-    plant.net.members.as_slice() == [7].as_slice()
-        && plant.net.fates.as_slice() == [Fate::D].as_slice()
-        && plant.net.holds == 100_000
+    let [net] = plant.nets.as_slice() else {
+        return false;
+    };
+    net.members.as_slice() == [7].as_slice()
+        && net.fates.as_slice() == [Fate::D].as_slice()
+        && net.holds == 100_000
 }
 
 const SMALL: &str = "version = 1\ncontroller = [{ node = 7 }]\nscan_time = 1\n";

@@ -1,12 +1,14 @@
 -- Turns one after another make one joint history.
 use Rattle.std.proofs.Common.{◌≡◌, ◌≢◌, ℕ, ◌≤◌, ◌==◌, Bool, true, false, not, List}
 use Rattle.std.proofs.Common.{[], ◌∷◌, ◌++◌, Option, Some, None, inl, inr, refl, sym, ap}
-use Rattle.std.proofs.Common.{subst, ◌∙◌, arith, append_assoc, append-nil}
+use Rattle.std.proofs.Common.{subst, ◌∙◌, arith, append_assoc, append-nil, map, set}
 use Rattle.std.specs.List.{AllByRecursion as Each, slice_get}
 use Rattle.std.proofs.lemmas.Bool.{cases_eq, eq-eqb, eqb-true}
 use Rattle.plant_types.specs.declared.net.HostPlan.{HostPlan}
+use Rattle.plant_types.specs.declared.net.NetPlan.{NetPlan}
 use Rattle.plant_types.specs.declared.plan.ControllerPlan.{ControllerPlan}
 use Rattle.plant_types.specs.declared.plan.Plant.{Plant}
+use Rattle.plant_types.specs.Plans.{IsPlant, first_net}
 use Rattle.ring_core.specs.declared.entry.RingEntry.{RingEntry}
 use Rattle.ring_core.specs.Legal.{IsLegalRing}
 use Rattle.ring_core.specs.Machine.{ring_after}
@@ -33,7 +35,9 @@ use Rattle.comm_port.specs.HostTurns.{HoldsHostTurn}
 use Rattle.joint_history.specs.JointLaws.{IsJoint, IsLegalJoint, IsLegalLog, IsTiedController}
 use Rattle.joint_history.specs.JointLaws.{fixed_of}
 use Rattle.joint_history.specs.Reading.{controller_at, is_off_at}
+use Rattle.joint_history.specs.Nets.{entries_of_rings, noted_on_rings}
 use Rattle.joint_history.proofs.Collected.{CallLaws}
+use Rattle.joint_history.proofs.OneRing.{legal-ring}
 use Rattle.serial_run.specs.declared.order.Turn.{Turn}
 use Rattle.serial_run.specs.declared.order.Turn.TheVariants.{Step, Hold, Visit, Away}
 use Rattle.serial_run.specs.Turns.{MakesHoldTurnAt, HostHoldsAt, IsControllerAt, MakesHold}
@@ -42,7 +46,7 @@ use Rattle.serial_run.specs.Turns.{MakesStep, MakesTurn, MakesTurns, MakesVisit,
 use Rattle.serial_run.specs.Turns.{VisitsIfDue, VisitsWhere, place_of_controller, empty_log}
 use Rattle.serial_run.specs.Turns.{place_of_host}
 use Rattle.serial_run.specs.Turns.{nothing_made, stepped_list, visit_is_due, with_host_list}
-use Rattle.serial_run.specs.Turns.{with_list}
+use Rattle.serial_run.specs.Turns.{MakesHoldOn, empty_ring_log, net_numbered, with_list, with_noted}
 use Rattle.serial_run.proofs.Lists.{position-none, zip-at-first}
 use Rattle.one_run.proofs.Fails.{IsNoSend, none-at-first}
 use Rattle.one_run.proofs.HostTurn.{host-goes, host-same}
@@ -60,8 +64,8 @@ use Rattle.one_run.proofs.Turn.{visit-goes, visit-none, visit-same}
 module _ (plant : Plant) (scans : ℕ) where
   -- of each controller no call has failed, and no more calls have ended than of its node
   pub record KeptAt (joint : Joint) (plan : ControllerPlan) (log : ControllerLog) : Type 0 where
-    pub none : NoneFails plant.net plan.node joint.ring
-    pub behind : Behind plan.node log.entries joint.ring
+    pub none : NoneFails (first_net plant) plan.node (noted_on_rings joint)
+    pub behind : Behind plan.node log.entries (noted_on_rings joint)
 
   abbrev pub Kept : Joint → Type 0
   Kept joint = (at : ℕ) (plan : ControllerPlan) (log : ControllerLog)
@@ -69,11 +73,11 @@ module _ (plant : Plant) (scans : ℕ) where
 
   pub record FineAt (joint : Joint) (plan : ControllerPlan) (log : ControllerLog) : Type 0 where
     pub legal : IsLegal (fixed_of plant scans plan) log.entries
-    pub meets : Meets plan.node log.entries joint.ring
+    pub meets : Meets plan.node log.entries (noted_on_rings joint)
 
   -- each list of a controller is legal, and tells what the list of its node does, as far as both go
   pub record Fine (joint : Joint) : Type 0 where
-    pub ring : IsLegalRing plant.net joint.ring
+    pub ring : IsLegalRing (first_net plant) (noted_on_rings joint)
     pub lists : (at : ℕ) (plan : ControllerPlan) (log : ControllerLog)
         → IsControllerAt plant joint at plan log → FineAt joint plan log
 
@@ -87,7 +91,7 @@ module _ (plant : Plant) (scans : ℕ) where
 
   pub record Grows (old new : Joint) : Type 0 where
     pub done : List RingEntry
-    pub ring_is : new.ring ≡ old.ring ++ done
+    pub ring_is : (noted_on_rings new) ≡ (noted_on_rings old) ++ done
     pub lists : (at : ℕ) (plan : ControllerPlan) (log : ControllerLog)
         → IsControllerAt plant old at plan log → WentOnAt new at plan log
 
@@ -95,7 +99,7 @@ module _ (plant : Plant) (scans : ℕ) where
   pub grows-none : (joint : Joint) → Grows joint joint
   grows-none joint = record {
     done = [];
-    ring_is = sym (append-nil joint.ring);
+    ring_is = sym (append-nil (noted_on_rings joint));
     lists = λ at plan log is.
         record { new_log = log; is = is; noted = []; entries_are = sym (append-nil log.entries) };
   }
@@ -105,7 +109,7 @@ module _ (plant : Plant) (scans : ℕ) where
   grows-then a b c one two = record {
     done = one.done ++ two.done;
     ring_is = two.ring_is ∙ ap (λ l. l ++ two.done) one.ring_is
-        ∙ append_assoc a.ring one.done two.done;
+        ∙ append_assoc (noted_on_rings a) one.done two.done;
     lists = λ at plan log is.
         let x = one.lists at plan log is in
         let y = two.lists at plan x.new_log x.is in
@@ -121,16 +125,16 @@ module _ (plant : Plant) (scans : ℕ) where
   -- what holds of the last joint history holds of each before
   pub fine-front : (old new : Joint) → Grows old new → Fine new → Fine old
   fine-front old new g f = record {
-    ring = (legal-parts plant.net old.ring g.done
-        (subst (IsLegalRing plant.net) g.ring_is f.ring)).0;
+    ring = (legal-parts (first_net plant) (noted_on_rings old) g.done
+        (subst (IsLegalRing (first_net plant)) g.ring_is f.ring)).0;
     lists = λ at plan log is.
         let w = g.lists at plan log is in
         let k = f.lists at plan w.new_log w.is in
         record {
           legal = front_legal (fixed_of plant scans plan) log.entries w.noted
               (subst (IsLegal (fixed_of plant scans plan)) w.entries_are k.legal);
-          meets = meets-front plan.node log.entries w.noted old.ring g.done
-              (subst (λ l. Meets plan.node l (old.ring ++ g.done)) w.entries_are
+          meets = meets-front plan.node log.entries w.noted (noted_on_rings old) g.done
+              (subst (λ l. Meets plan.node l ((noted_on_rings old) ++ g.done)) w.entries_are
               (subst (Meets plan.node w.new_log.entries) g.ring_is k.meets));
         };
   }
@@ -138,7 +142,8 @@ module _ (plant : Plant) (scans : ℕ) where
   -- the same of one controller
   pub may-at : (joint : Joint) (at : ℕ) (plan : ControllerPlan) (log : ControllerLog) → Fine joint
       → IsControllerAt plant joint at plan log
-      → May (fixed_of plant scans plan) plant.net plan.node log.entries joint.ring
+      → May (fixed_of plant scans plan) (first_net plant) plan.node log.entries
+      (noted_on_rings joint)
   may-at joint at plan log f is =
       let k = f.lists at plan log is in
       record { legal = k.legal; ring_legal = f.ring; meets = k.meets }
@@ -154,21 +159,23 @@ module _ (plant : Plant) (scans : ℕ) where
   log-same joint at p p' l l' a b = some-same (sym a.log_is ∙ b.log_is)
 
   abbrev pub made_by : ℕ → ControllerLog → List Entry → List RingEntry → Joint → Joint
-  made_by at log entries ring old = record (with_list at log entries old) { ring = ring }
+  made_by at log entries ring old =
+      with_noted (first_net plant) ring (with_list at log entries old)
 
-  module _ (old : Joint) (at : ℕ) (plan : ControllerPlan) (log : ControllerLog)
+  module _ (old grown : Joint) (at : ℕ) (plan : ControllerPlan) (log : ControllerLog)
       (is : IsControllerAt plant old at plan log) (entries : List Entry)
-      (ring : List RingEntry) (g : Goes plan.node log.entries entries old.ring ring) where
-    abbrev grown : Joint
-    grown = made_by at log entries ring old
-
+      (logs : grown.controllers
+      ≡ set old.controllers at (record { node = log.node; entries = entries }))
+      (g : Goes plan.node log.entries entries (noted_on_rings old) (noted_on_rings grown)) where
     abbrev new_log : ControllerLog
     new_log = record { node = log.node; entries = entries }
 
     -- the controller is at its place
     pub there : IsControllerAt plant grown at plan new_log
-    there =
-        record { plan_is = is.plan_is; log_is = set-get old.controllers at new_log log is.log_is }
+    there = record {
+      plan_is = is.plan_is;
+      log_is = ap (λ l. slice_get l at) logs ∙ set-get old.controllers at new_log log is.log_is;
+    }
 
     -- the joint history went on
     pub list-grows : Grows old grown
@@ -191,7 +198,8 @@ module _ (plant : Plant) (scans : ℕ) where
           new_log = l;
           is = record {
             plan_is = is'.plan_is;
-            log_is = set-other old.controllers at k new_log other ∙ is'.log_is;
+            log_is = ap (λ xs. slice_get xs k) logs
+                ∙ set-other old.controllers at k new_log other ∙ is'.log_is;
           };
           noted = [];
           entries_are = sym (append-nil l.entries);
@@ -200,10 +208,11 @@ module _ (plant : Plant) (scans : ℕ) where
     }
 
     -- and keeps what holds between turns
-    pub list-kept : Kept old → NoneFails plant.net plan.node ring
-        → Behind plan.node entries ring → Kept grown
+    pub list-kept : Kept old → NoneFails (first_net plant) plan.node (noted_on_rings grown)
+        → Behind plan.node entries (noted_on_rings grown) → Kept grown
     list-kept kept none behind k p l is' =
-        elim (get-set old.controllers at k new_log l is'.log_is) [
+        elim (get-set old.controllers at k new_log l
+        (ap (λ xs. slice_get xs k) (sym logs) ∙ is'.log_is)) [
           | inl here ↦
               let plans : plan ≡ p = some-same (sym is.plan_is
               ∙ ap (λ j. slice_get plant.controllers j) (sym here.0) ∙ is'.plan_is) in
@@ -213,19 +222,22 @@ module _ (plant : Plant) (scans : ℕ) where
               let before = kept k p l (record { plan_is = is'.plan_is; log_is = was }) in
               record {
                 none = elim (cases_eq p.node plan.node) [
-                  | inl same ↦ subst (λ m. NoneFails plant.net m ring) (sym same) none
-                  | inr other ↦ none-behind plant.net p.node old.ring g.done ring g.ring_is
+                  | inl same ↦ subst (λ m. NoneFails (first_net plant) m (noted_on_rings grown))
+                      (sym same) none
+                  | inr other ↦ none-behind (first_net plant) p.node (noted_on_rings old) g.done
+                      (noted_on_rings grown) g.ring_is
                       (quiet-others p.node plan.node other g.done g.mine) before.none
                 ];
                 behind = still-behind p.node l.entries before.behind;
               }
         ]
       where
-        still-behind : (m : ℕ) (es : List Entry) → Behind m es old.ring → Behind m es ring
+        still-behind : (m : ℕ) (es : List Entry) → Behind m es (noted_on_rings old)
+            → Behind m es (noted_on_rings grown)
         still-behind m es old' =
-            subst (λ x. Behind m x ring) (append-nil es)
+            subst (λ x. Behind m x (noted_on_rings grown)) (append-nil es)
             (subst (Behind m (es ++ [])) (sym g.ring_is)
-            (behind-more m es [] old.ring g.done old'
+            (behind-more m es [] (noted_on_rings old) g.done old'
             (let z : endings [] ≤ closings (own m g.done) = omega arith in z)))
 
   -- ---- a step
@@ -279,15 +291,17 @@ module _ (plant : Plant) (scans : ℕ) where
     ring : List RingEntry
     end : TurnEnd
     turn : HoldsTurn true true
-        (fixed_of plant scans plan) plant.net plan.node true log.entries entries old.ring ring end
+        (fixed_of plant scans plan) (first_net plant) plan.node true log.entries entries
+        (noted_on_rings old) ring end
     is : new ≡ made_by at log entries ring old
 
   record HostHeldAs (at : ℕ) (plan : HostPlan) (log : HostLog) (old new : Joint) : Type 0 where
     entries : List HostEntry
     ring : List RingEntry
     left : Bool
-    turn : HoldsHostTurn true plant.net plan.node plan true log.entries entries old.ring ring left
-    is : new ≡ record (with_host_list at log entries old) { ring = ring }
+    turn : HoldsHostTurn true (first_net plant) plan.node plan true log.entries entries
+        (noted_on_rings old) ring left
+    is : new ≡ with_noted (first_net plant) ring (with_host_list at log entries old)
 
   -- one joint history, which keeps what holds between turns
   pub record OneJoint (new new' : Joint) : Type 0 where
@@ -304,24 +318,28 @@ module _ (plant : Plant) (scans : ℕ) where
         let logs = log-same old at s.plan s'.plan s.log s'.log s.is s'.is in
         let f = stepped-so (fixed_of plant scans s.plan) s.log.entries in
         let g = events-go s.plan.node s.log.entries f.noted
-        (stepped_list (fixed_of plant scans s.plan) s.log.entries) old.ring f.is in
+        (stepped_list (fixed_of plant scans s.plan) s.log.entries) (noted_on_rings old) f.is in
         let before = kept at s.plan s.log s.is in
         record {
           is = s.made ∙ (λ i. with_list at (logs i)
               (stepped_list (fixed_of plant scans (plans i)) (logs i).entries) old) ∙ sym s'.made;
-          kept = subst Kept (sym s.made) (list-kept old at s.plan s.log s.is
-              (stepped_list (fixed_of plant scans s.plan) s.log.entries) old.ring g kept before.none
+          kept = subst Kept (sym s.made) (list-kept old
+              (with_list at s.log (stepped_list (fixed_of plant scans s.plan) s.log.entries) old)
+              at s.plan s.log s.is (stepped_list (fixed_of plant scans s.plan) s.log.entries) refl g
+              kept before.none
               (events-behind s.plan.node s.log.entries f.noted (stepped_list
-              (fixed_of plant scans s.plan) s.log.entries) old.ring f.is f.silent before.behind));
+              (fixed_of plant scans s.plan) s.log.entries) (noted_on_rings old) f.is f.silent
+              before.behind));
         }
 
     pub step-grows : (at : ℕ) (old new : Joint) → StepsAt plant scans at old new → Grows old new
     step-grows at old new s =
         let f = stepped-so (fixed_of plant scans s.plan) s.log.entries in
         let g = events-go s.plan.node s.log.entries f.noted
-        (stepped_list (fixed_of plant scans s.plan) s.log.entries) old.ring f.is in
-        subst (Grows old) (sym s.made) (list-grows old at s.plan s.log s.is
-        (stepped_list (fixed_of plant scans s.plan) s.log.entries) old.ring g)
+        (stepped_list (fixed_of plant scans s.plan) s.log.entries) (noted_on_rings old) f.is in
+        subst (Grows old) (sym s.made) (list-grows old
+        (with_list at s.log (stepped_list (fixed_of plant scans s.plan) s.log.entries) old) at
+        s.plan s.log s.is (stepped_list (fixed_of plant scans s.plan) s.log.entries) refl g)
 
     -- a controller's hold
     held-as : (at : ℕ) (old new : Joint) (h : MakesHoldTurnAt plant scans at old new)
@@ -330,27 +348,28 @@ module _ (plant : Plant) (scans : ℕ) where
         record { entries = h.entries; ring = h.ring; end = h.end; turn = h.turn; is = h.made }
 
     held-goes : (at : ℕ) (old new : Joint) (h : MakesHoldTurnAt plant scans at old new)
-        → Goes h.plan.node h.log.entries h.entries old.ring h.ring
+        → Goes h.plan.node h.log.entries h.entries (noted_on_rings old) h.ring
     held-goes at old new h =
-        turn-goes laws (fixed_of plant scans h.plan) plant.net h.plan.node refl true h.end
-        h.log.entries h.entries old.ring h.ring h.turn
+        turn-goes laws (fixed_of plant scans h.plan) (first_net plant) h.plan.node refl true h.end
+        h.log.entries h.entries (noted_on_rings old) h.ring h.turn
 
     pub held-grows : (at : ℕ) (old new : Joint) → MakesHoldTurnAt plant scans at old new
         → Grows old new
     held-grows at old new h =
         subst (Grows old) (sym h.made)
-        (list-grows old at h.plan h.log h.is h.entries h.ring (held-goes at old new h))
+        (list-grows old (made_by at h.log h.entries h.ring old) at h.plan h.log h.is h.entries refl
+        (held-goes at old new h))
 
     -- what the last joint history says of the lists that a turn leaves
     may-made : (old new : Joint) (at : ℕ) (plan : ControllerPlan) (log : ControllerLog)
         (is : IsControllerAt plant old at plan log) (entries : List Entry)
-        (ring : List RingEntry) → Goes plan.node log.entries entries old.ring ring
+        (ring : List RingEntry) → Goes plan.node log.entries entries (noted_on_rings old) ring
         → new ≡ made_by at log entries ring old → Fine new
-        → May (fixed_of plant scans plan) plant.net plan.node entries ring
+        → May (fixed_of plant scans plan) (first_net plant) plan.node entries ring
     may-made old new at plan log is entries ring g made' fine =
         may-at (made_by at log entries ring old) at plan
         (record { node = log.node; entries = entries }) (subst Fine made' fine)
-        (there old at plan log is entries ring g)
+        (there old (made_by at log entries ring old) at plan log is entries refl g)
 
     -- a hold of a controller makes one thing
     held-one : (at : ℕ) (old new new' : Joint) → Kept old → Fine new → Fine new'
@@ -360,9 +379,11 @@ module _ (plant : Plant) (scans : ℕ) where
       is = h.made ∙ (λ i. made_by at h.log (same.0.known_is i) (same.0.ring_is i) old)
           ∙ sym other.is;
       kept = subst Kept (sym h.made)
-          (list-kept old at h.plan h.log h.is h.entries h.ring (held-goes at old new h) kept
-          (turn-none laws (fixed_of plant scans h.plan) plant.net h.plan.node refl true h.end
-          h.log.entries h.entries old.ring h.ring h.turn before.none) same.0.behind);
+          (list-kept old (made_by at h.log h.entries h.ring old) at h.plan h.log h.is h.entries refl
+          (held-goes at old new h) kept
+          (turn-none laws (fixed_of plant scans h.plan) (first_net plant) h.plan.node refl true
+          h.end
+          h.log.entries h.entries (noted_on_rings old) h.ring h.turn before.none) same.0.behind);
     }
       where
         other : HeldAs at h.plan h.log old new'
@@ -371,17 +392,19 @@ module _ (plant : Plant) (scans : ℕ) where
             (subst (λ l. HeldAs at h'.plan l old new')
             (sym (log-same old at h.plan h'.plan h.log h'.log h.is h'.is)) (held-as at old new' h'))
 
-        other-goes : Goes h.plan.node h.log.entries other.entries old.ring other.ring
-        other-goes = turn-goes laws (fixed_of plant scans h.plan) plant.net h.plan.node refl true
-            other.end h.log.entries other.entries old.ring other.ring other.turn
+        other-goes : Goes h.plan.node h.log.entries other.entries (noted_on_rings old) other.ring
+        other-goes = turn-goes laws (fixed_of plant scans h.plan)
+            (first_net plant) h.plan.node refl true
+            other.end h.log.entries other.entries (noted_on_rings old) other.ring other.turn
 
         before : KeptAt old h.plan h.log
         before = kept at h.plan h.log h.is
 
         same : Same h.plan.node h.entries other.entries h.ring other.ring × (h.end ≡ other.end)
-        same = turn-same laws (fixed_of plant scans h.plan) plant.net h.plan.node refl true h.end
+        same = turn-same laws (fixed_of plant scans h.plan) (first_net plant) h.plan.node refl true
+            h.end
             other.end h.log.entries h.entries other.entries
-            old.ring h.ring other.ring before.behind before.none h.turn
+            (noted_on_rings old) h.ring other.ring before.behind before.none h.turn
             (may-made old new at h.plan h.log h.is h.entries h.ring
             (held-goes at old new h) h.made fine)
             other.turn (may-made old new' at h.plan h.log h.is other.entries other.ring other-goes
@@ -394,9 +417,10 @@ module _ (plant : Plant) (scans : ℕ) where
         record { entries = h.entries; ring = h.ring; left = h.left; turn = h.turn; is = h.made }
 
     host-held-goes : (at : ℕ) (old new : Joint) (h : HostHoldsAt plant at old new)
-        → Goes h.plan.node h.log.entries h.entries old.ring h.ring
-    host-held-goes at old new h = host-goes plant.net h.plan.node h.plan true h.left h.log.entries
-        h.entries old.ring h.ring h.turn
+        → Goes h.plan.node h.log.entries h.entries (noted_on_rings old) h.ring
+    host-held-goes at old new h = host-goes (first_net plant) h.plan.node h.plan true h.left
+        h.log.entries
+        h.entries (noted_on_rings old) h.ring h.turn
 
     pub host-held-grows : (at : ℕ) (old new : Joint) → HostHoldsAt plant at old new → Grows old new
     host-held-grows at old new h =
@@ -418,17 +442,17 @@ module _ (plant : Plant) (scans : ℕ) where
         → slice_get plant.hosts at ≡ Some l → p.node ≢ l.node)
         → HostHoldsAt plant at old new → HostHoldsAt plant at old new' → OneJoint new new'
     host-held-one at old new new' kept fine fine' apart h h' = record {
-      is = h.made ∙ (λ i. record (with_host_list at h.log (same.0 i) old) { ring = same.1 i })
-          ∙ sym other.is;
+      is = h.made ∙ (λ i. with_noted (first_net plant) (same.1 i)
+          (with_host_list at h.log (same.0 i) old)) ∙ sym other.is;
       kept = subst Kept (sym h.made) (λ k p l is.
           let before = kept k p l (record { plan_is = is.plan_is; log_is = is.log_is }) in
           record {
-            none = none-behind plant.net p.node old.ring g.done h.ring g.ring_is
+            none = none-behind (first_net plant) p.node (noted_on_rings old) g.done h.ring g.ring_is
                 (quiet-others p.node h.plan.node (apart k p h.plan is.plan_is h.is.plan_is) g.done
                 g.mine) before.none;
             behind = subst (λ x. Behind p.node x h.ring) (append-nil l.entries)
                 (subst (Behind p.node (l.entries ++ [])) (sym g.ring_is)
-                (behind-more p.node l.entries [] old.ring g.done before.behind
+                (behind-more p.node l.entries [] (noted_on_rings old) g.done before.behind
                 (let z : endings [] ≤ closings (own p.node g.done) = omega arith in z)));
           });
     }
@@ -443,14 +467,17 @@ module _ (plant : Plant) (scans : ℕ) where
         other = subst (λ p. HostHeldAs at p h.log old new') (sym plans)
             (subst (λ l. HostHeldAs at h'.plan l old new') (sym logs) (host-held-as at old new' h'))
 
-        g : Goes h.plan.node h.log.entries h.entries old.ring h.ring
+        g : Goes h.plan.node h.log.entries h.entries (noted_on_rings old) h.ring
         g = host-held-goes at old new h
 
         same : (h.entries ≡ other.entries) × (h.ring ≡ other.ring) × (h.left ≡ other.left)
-        same = host-same plant.net h.plan.node h.plan true h.left other.left h.log.entries h.entries
-            other.entries old.ring h.ring other.ring h.turn
-            (subst (λ (j : Joint). IsLegalRing plant.net j.ring) h.made fine.ring) other.turn
-            (subst (λ (j : Joint). IsLegalRing plant.net j.ring) other.is fine'.ring)
+        same = host-same (first_net plant) h.plan.node h.plan true h.left other.left h.log.entries
+            h.entries
+            other.entries (noted_on_rings old) h.ring other.ring h.turn
+            (subst (λ (j : Joint). IsLegalRing (first_net plant)
+            (noted_on_rings j)) h.made fine.ring)
+            other.turn (subst (λ (j : Joint). IsLegalRing (first_net plant) (noted_on_rings j))
+            other.is fine'.ring)
 
     -- a hold of whoever has the token
     hold-grows : (c h : Option ℕ) (old new : Joint) → MakesHold plant scans c h old new
@@ -482,17 +509,19 @@ module _ (plant : Plant) (scans : ℕ) where
     -- a visit
     visited-goes : (at : ℕ) (plan : ControllerPlan) (log : ControllerLog) (old new : Joint)
         (v : VisitsAt plant scans at plan log old new)
-        → Goes plan.node log.entries v.entries old.ring v.ring
+        → Goes plan.node log.entries v.entries (noted_on_rings old) v.ring
     visited-goes at plan log old new v =
-        visit-goes laws (fixed_of plant scans plan) plant.net plan.node refl true log.entries
-        v.entries old.ring v.ring v.visit
+        visit-goes laws (fixed_of plant scans plan) (first_net plant) plan.node refl true
+        log.entries
+        v.entries (noted_on_rings old) v.ring v.visit
 
     where-grows : (b : Bool) (at : ℕ) (plan : ControllerPlan) (log : ControllerLog)
         (old new : Joint) → IsControllerAt plant old at plan log
         → VisitsWhere b plant scans at plan log old new → Grows old new
     where-grows true at plan log old new is v =
         subst (Grows old) (sym v.made)
-        (list-grows old at plan log is v.entries v.ring (visited-goes at plan log old new v))
+        (list-grows old (made_by at log v.entries v.ring old) at plan log is v.entries refl
+        (visited-goes at plan log old new v))
     where-grows false at plan log old new is v = subst (Grows old) (sym v) (grows-none old)
 
     where-one : (b : Bool) (at : ℕ) (plan : ControllerPlan) (log : ControllerLog)
@@ -504,17 +533,20 @@ module _ (plant : Plant) (scans : ℕ) where
     where-one true at plan log old new new' is kept fine fine' v v' = record {
       is = v.made ∙ (λ i. made_by at log (same.known_is i) (same.ring_is i) old) ∙ sym v'.made;
       kept = subst Kept (sym v.made)
-          (list-kept old at plan log is v.entries v.ring (visited-goes at plan log old new v) kept
-          (visit-none laws (fixed_of plant scans plan) plant.net plan.node refl true log.entries
-          v.entries old.ring v.ring v.visit before.none) same.behind);
+          (list-kept old (made_by at log v.entries v.ring old) at plan log is v.entries refl
+          (visited-goes at plan log old new v) kept
+          (visit-none laws (fixed_of plant scans plan) (first_net plant) plan.node refl true
+          log.entries
+          v.entries (noted_on_rings old) v.ring v.visit before.none) same.behind);
     }
       where
         before : KeptAt old plan log
         before = kept at plan log is
 
         same : Same plan.node v.entries v'.entries v.ring v'.ring
-        same = visit-same laws (fixed_of plant scans plan) plant.net plan.node refl true log.entries
-            v.entries v'.entries old.ring v.ring v'.ring before.behind
+        same = visit-same laws (fixed_of plant scans plan) (first_net plant) plan.node refl true
+            log.entries
+            v.entries v'.entries (noted_on_rings old) v.ring v'.ring before.behind
             v.visit (may-made old new at plan log is v.entries v.ring
             (visited-goes at plan log old new v) v.made fine)
             v'.visit (may-made old new' at plan log is v'.entries v'.ring
@@ -525,13 +557,16 @@ module _ (plant : Plant) (scans : ℕ) where
         → VisitsIfDue plant scans at old new → VisitsIfDue plant scans at old new'
         → OneJoint new new'
     visit-one at old new new' kept fine fine' v v' =
-        where-one (visit_is_due plant scans v.plan v.log.entries old.ring) at v.plan v.log old new
+        where-one (visit_is_due plant scans v.plan v.log.entries
+        (noted_on_rings old)) at v.plan v.log old new
         new' v.is kept fine fine' v.visits
-        (subst (λ p. VisitsWhere (visit_is_due plant scans p v.log.entries old.ring) plant scans at
+        (subst (λ p. VisitsWhere (visit_is_due plant scans p v.log.entries
+        (noted_on_rings old)) plant scans at
         p v.log old new')
         (sym (plan-same old at v.plan v'.plan v.log v'.log v.is v'.is))
         (subst (λ (l : ControllerLog). VisitsWhere
-        (visit_is_due plant scans v'.plan l.entries old.ring) plant scans at v'.plan l old new')
+        (visit_is_due plant scans v'.plan l.entries (noted_on_rings old)) plant scans at v'.plan l
+        old new')
         (sym (log-same old at v.plan v'.plan v.log v'.log v.is v'.is)) v'.visits))
 
     -- ---- an away turn
@@ -546,7 +581,7 @@ module _ (plant : Plant) (scans : ℕ) where
 
     -- what the controller's node adds
     abbrev back_of : ControllerPlan → ControllerLog → Joint → List RingEntry
-    back_of plan log old = coming_back (status_at plant.net old.ring plan.node)
+    back_of plan log old = coming_back (status_at (first_net plant) (noted_on_rings old) plan.node)
         (is_off_at (fixed_of plant scans plan) log.entries) plan.node
 
     away-grows : (at : ℕ) (old new : Joint) → ComesBackAt plant scans at old new → Grows old new
@@ -569,17 +604,19 @@ module _ (plant : Plant) (scans : ℕ) where
         let logs = log-same old at c.plan c'.plan c.log c'.log c.is c'.is in
         let back = back_of c.plan c.log old in
         record {
-          is = c.made ∙ (λ i. record old { ring = old.ring ++ back_of (plans i) (logs i) old })
-              ∙ sym c'.made;
+          is = c.made ∙ (λ i. with_noted (first_net plant)
+              (noted_on_rings old ++ back_of (plans i) (logs i) old) old) ∙ sym c'.made;
           kept = subst Kept (sym c.made) (λ k p l is.
               let before = kept k p l (record { plan_is = is.plan_is; log_is = is.log_is }) in
               record {
-                none = none-behind plant.net p.node old.ring back (old.ring ++ back) refl
-                    (coming-quiet (status_at plant.net old.ring c.plan.node)
+                none = none-behind (first_net plant) p.node (noted_on_rings old) back
+                    ((noted_on_rings old) ++ back) refl
+                    (coming-quiet (status_at (first_net plant) (noted_on_rings old) c.plan.node)
                     (is_off_at (fixed_of plant scans c.plan) c.log.entries) p.node c.plan.node)
                     before.none;
-                behind = subst (λ x. Behind p.node x (old.ring ++ back)) (append-nil l.entries)
-                    (behind-more p.node l.entries [] old.ring back before.behind
+                behind = subst (λ x. Behind p.node x ((noted_on_rings old) ++ back))
+                    (append-nil l.entries)
+                    (behind-more p.node l.entries [] (noted_on_rings old) back before.behind
                     (let z : endings [] ≤ closings (own p.node back) = omega arith in z));
               });
         }
@@ -593,7 +630,11 @@ module _ (plant : Plant) (scans : ℕ) where
         at : (c : Option ℕ) → MakesStep plant scans c old new → Grows old new
         at None m' = subst (Grows old) (sym m') (grows-none old)
         at (Some k) m' = step-grows k old new m'
-    turn-grows Hold old new m = hold-grows _ _ old new m
+    turn-grows (Hold network) old new m = at (net_numbered plant network) m
+      where
+        at : (net : Option NetPlan) → MakesHoldOn plant scans net old new → Grows old new
+        at None m' = subst (Grows old) (sym m') (grows-none old)
+        at (Some net) m' = hold-grows _ _ old new m'
     turn-grows (Visit node) old new m = at (place_of_controller plant node) m
       where
         at : (c : Option ℕ) → MakesVisit plant scans c old new → Grows old new
@@ -616,10 +657,17 @@ module _ (plant : Plant) (scans : ℕ) where
             → OneJoint new new'
         at None s s' = record { is = s ∙ sym s'; kept = subst Kept (sym s) kept }
         at (Some k) s s' = step-one k old new new' kept s s'
-    turn-one Hold old new new' kept fine fine' m m' =
-        let holder = (ring_after plant.net old.ring).holder in
-        hold-one holder (place_of_controller plant holder) (place_of_host plant holder) refl refl
-        old new new' kept fine fine' m m'
+    turn-one (Hold network) old new new' kept fine fine' m m' =
+        at (net_numbered plant network) m m'
+      where
+        at : (net : Option NetPlan) → MakesHoldOn plant scans net old new
+            → MakesHoldOn plant scans net old new' → OneJoint new new'
+        at None s s' = record { is = s ∙ sym s'; kept = subst Kept (sym s) kept }
+        at (Some net) s s' =
+            let holder = (ring_after net (noted_on_rings old)).holder in
+            hold-one holder (place_of_controller plant holder)
+            (place_of_host plant holder) refl refl
+            old new new' kept fine fine' s s'
     turn-one (Visit node) old new new' kept fine fine' m m' =
         at (place_of_controller plant node) m m'
       where
@@ -657,28 +705,37 @@ module _ (plant : Plant) (scans : ℕ) where
 
   -- ---- the first joint history, and the last
 
+  -- nothing is noted on the rings
+  none-noted : (nets : List NetPlan) → entries_of_rings (map empty_ring_log nets) ≡ []
+  none-noted [] = refl
+  none-noted (net ∷ []) = refl
+  none-noted (net ∷ next ∷ nets) = none-noted (next ∷ nets)
+
   pub kept-at-first : Kept (nothing_made plant)
   kept-at-first at plan log is =
       let from = map-at empty_log plant.controllers at log is.log_is in
       record {
-        none = λ p f. none-at-first plant.net plan.node p f;
-        behind = subst (λ (l : ControllerLog). Behind plan.node l.entries []) (sym from.2)
-            (let z : endings [] ≤ closings (own plan.node []) = omega arith in z);
+        none = subst (NoneFails (first_net plant) plan.node) (sym (none-noted plant.nets))
+            (λ p f. none-at-first (first_net plant) plan.node p f);
+        behind = subst (Behind plan.node log.entries) (sym (none-noted plant.nets))
+            (subst (λ (l : ControllerLog). Behind plan.node l.entries []) (sym from.2)
+            (let z : endings [] ≤ closings (own plan.node []) = omega arith in z));
       }
 
-  pub fine-at-last : (joint : Joint) → IsLegalJoint plant scans joint → IsJoint joint → Fine joint
-  fine-at-last joint legal tied = record {
-    ring = legal.ring;
+  pub fine-at-last : (joint : Joint) → IsPlant plant → IsLegalJoint plant scans joint
+      → IsJoint joint → Fine joint
+  fine-at-last joint sound legal tied = record {
+    ring = legal-ring plant scans joint sound legal;
     lists = λ at plan log is.
         let found = zip-at-first (IsLegalLog plant scans) plant.controllers joint.controllers at
         plan legal.controllers is.plan_is in
         let same : found.0 ≡ log = some-same (sym found.1 ∙ is.log_is) in
         let ok = subst (IsLegalLog plant scans plan) same found.2 in
-        let both = all-at (IsTiedController joint.ring) joint.controllers at log
+        let both = all-at (IsTiedController (noted_on_rings joint)) joint.controllers at log
         tied.controllers is.log_is in
         record {
           legal = ok.1;
-          meets = subst (λ n. Meets n log.entries joint.ring) ok.0
-              (meets-tied log.node log.entries joint.ring both);
+          meets = subst (λ n. Meets n log.entries (noted_on_rings joint)) ok.0
+              (meets-tied log.node log.entries (noted_on_rings joint) both);
         };
   }

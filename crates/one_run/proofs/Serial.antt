@@ -5,6 +5,7 @@ use Rattle.std.proofs.Common.{append-nil}
 use Rattle.std.specs.Prelude.{if◌then◌else◌}
 use Rattle.plant_types.specs.declared.plan.ControllerPlan.{ControllerPlan}
 use Rattle.plant_types.specs.declared.plan.Plant.{Plant}
+use Rattle.plant_types.specs.Plans.{first_net}
 use Rattle.scan_order.specs.Due.{due}
 use Rattle.scan_order.specs.declared.due.ScanStep.{ScanStep}
 use Rattle.scan_order.specs.declared.due.ScanStep.TheVariants as steps
@@ -16,16 +17,16 @@ use Rattle.controller_core.specs.Run.{entries_from}
 use Rattle.joint_history.specs.declared.joint.ControllerLog.{ControllerLog}
 use Rattle.joint_history.specs.declared.joint.Joint.{Joint}
 use Rattle.joint_history.specs.JointLaws.{fixed_of, logged}
+use Rattle.joint_history.specs.Nets.{noted_on_rings}
 use Rattle.joint_history.specs.Reading.{controller_at, has_ended_at}
 use Rattle.joint_history.proofs.Collected.{CallLaws}
 use Rattle.whole_scan.specs.Scans.{with_scan}
 use Rattle.serial_run.specs.declared.order.Turn.{Turn}
-use Rattle.serial_run.specs.declared.order.Turn.TheVariants.{Hold}
 use Rattle.serial_run.specs.Serial.{Finishes, IsChain, IsLateRound, IsRepetition, IsSerial}
 use Rattle.serial_run.specs.Serial.{MakesLateRounds, MakesRound, MakesRounds, Repeats}
 use Rattle.serial_run.specs.Serial.{all_are_out, all_have_ended, away_turns_of, log_with_scan}
 use Rattle.serial_run.specs.Serial.{members_on, scanned, visits_of}
-use Rattle.serial_run.specs.Turns.{MakesTurns, nothing_made}
+use Rattle.serial_run.specs.Turns.{MakesTurns, first_hold, nothing_made}
 use Rattle.one_run.proofs.Meets.{Behind, endings}
 use Rattle.one_run.proofs.Places.{at-map, at-zip, map-at, some-same, zip-at}
 use Rattle.one_run.proofs.Runs.{Fine, Grows, Kept, OneJoint, events-behind, fine-front}
@@ -85,7 +86,7 @@ module _ (plant : Plant) (scans : ℕ) (laws : CallLaws) where
   scan-grows : (joint : Joint) → Grows plant scans joint (scanned plant scans joint)
   scan-grows joint = record {
     done = [];
-    ring_is = sym (append-nil joint.ring);
+    ring_is = sym (append-nil (noted_on_rings joint));
     lists = λ at plan log is.
         let s = scanned-so (fixed_of plant scans plan) log.entries in
         record {
@@ -111,12 +112,12 @@ module _ (plant : Plant) (scans : ℕ) (laws : CallLaws) where
       let s = scanned-so (fixed_of plant scans plan) from.0.1.entries in
       record {
         none = before.none;
-        behind = subst (λ (l : ControllerLog). Behind plan.node l.entries joint.ring)
+        behind = subst (λ (l : ControllerLog). Behind plan.node l.entries (noted_on_rings joint))
             (ap (λ (p : ControllerPlan). log_with_scan plant scans (p, from.0.1)) (sym same)
             ∙ sym from.2)
             (events-behind plant scans plan.node from.0.1.entries s.noted
-            (with_scan (controller_at (fixed_of plant scans plan) from.0.1.entries)) joint.ring
-            s.is s.silent before.behind);
+            (with_scan (controller_at (fixed_of plant scans plan) from.0.1.entries))
+            (noted_on_rings joint) s.is s.silent before.behind);
       }
 
   -- ---- a relation that makes one thing
@@ -184,10 +185,11 @@ module _ (plant : Plant) (scans : ℕ) (laws : CallLaws) where
   round-one : MakesOne (MakesRound plant scans)
   round-one = record {
     grows = λ old new m.
-        turns-grow plant scans laws (replicate (members_on plant old.ring) Hold) old new m;
+        turns-grow plant scans laws (replicate (members_on plant (noted_on_rings old))
+        (first_hold plant)) old new m;
     one = λ old new new' kept fine fine' m m'.
-        turns-one plant scans laws (replicate (members_on plant old.ring) Hold) old new new' kept
-        fine fine' m m';
+        turns-one plant scans laws (replicate (members_on plant (noted_on_rings old))
+        (first_hold plant)) old new new' kept fine fine' m m';
   }
 
   rounds-one : (count : ℕ) → MakesOne (MakesRounds plant scans count)
@@ -212,7 +214,7 @@ module _ (plant : Plant) (scans : ℕ) (laws : CallLaws) where
   back-grows old new m =
       grows-then plant scans m.came_back m.visited new
       ((made-one (visits_of plant)).grows m.came_back m.visited m.visits)
-      ((rounds-one plant.net.rotations).grows m.visited new m.rounds)
+      ((rounds-one (first_net plant).rotations).grows m.visited new m.rounds)
 
   -- so does a repetition
   repetition-grows : (old new : Joint) → IsRepetition plant scans old new
@@ -228,7 +230,7 @@ module _ (plant : Plant) (scans : ℕ) (laws : CallLaws) where
       → Fine plant scans new' → IsRepetition plant scans old new
       → IsRepetition plant scans old new' → OneJoint plant scans new new'
   repetition-same old new new' kept fine fine' m m' =
-      let rounds = rounds-one plant.net.rotations in
+      let rounds = rounds-one (first_net plant).rotations in
       let back = (made-one (away_turns_of plant)).one (scanned plant scans old) m.came_back
       m'.came_back (scan-kept old kept)
       (fine-front plant scans m.came_back new (back-grows old new m) fine)
@@ -240,7 +242,8 @@ module _ (plant : Plant) (scans : ℕ) (laws : CallLaws) where
       m.visits (subst (λ j. MakesTurns plant scans (visits_of plant) j m'.visited) (sym back.is)
       m'.visits) in
       rounds.one m.visited new new' visited.kept fine fine' m.rounds
-      (subst (λ j. MakesRounds plant scans plant.net.rotations j new') (sym visited.is) m'.rounds)
+      (subst (λ j. MakesRounds plant scans (first_net plant).rotations j new') (sym visited.is)
+      m'.rounds)
 
   repetition-one : MakesOne (IsRepetition plant scans)
   repetition-one = record { grows = repetition-grows; one = repetition-same }

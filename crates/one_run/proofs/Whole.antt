@@ -9,6 +9,7 @@ use Rattle.joint_history.proofs.Collected.{CallLaws}
 use Rattle.one_run.specs.OneRun.{IsRunOf, OneSerialRun, OneTurnsRun}
 use Rattle.one_run.specs.OneTurn.{OneHostTurn, OneTurn, OneVisit}
 use Rattle.plant_types.specs.declared.plan.Plant.{Plant}
+use Rattle.plant_types.specs.Plans.{IsPlant}
 use Rattle.joint_history.specs.declared.joint.Joint.{Joint}
 use Rattle.serial_run.specs.Turns.{nothing_made}
 use Rattle.one_run.proofs.Meets.{May, behind-tied, meets-tied}
@@ -44,17 +45,17 @@ hosts net n plan budget left left' a b b' x y y' t legal t' legal' =
 
 -- ---- whole runs
 
-fine-of : (plant : Plant) (scans : ℕ) (joint : Joint) → IsRunOf plant scans joint
-    → Fine plant scans joint
-fine-of plant scans joint run = fine-at-last plant scans joint run.legal run.ties
+fine-of : (plant : Plant) (scans : ℕ) (joint : Joint) → IsPlant plant
+    → IsRunOf plant scans joint → Fine plant scans joint
+fine-of plant scans joint sound run = fine-at-last plant scans joint sound run.legal run.ties
 
 pub turns-run : CallLaws → OneTurnsRun
 turns-run laws plant scans order one other sound m run m' run' =
     (turns-one plant scans laws order (nothing_made plant) one other (kept-at-first plant scans)
-    (fine-of plant scans one run)
-    (fine-of plant scans other run') m m').is
+    (fine-of plant scans one sound run)
+    (fine-of plant scans other sound run') m m').is
 
 pub serials : CallLaws → OneSerialRun
 serials laws plant scans one other sound m run m' run' =
-    serial-one plant scans laws one other (fine-of plant scans one run)
-    (fine-of plant scans other run') m m'
+    serial-one plant scans laws one other (fine-of plant scans one sound run)
+    (fine-of plant scans other sound run') m m'

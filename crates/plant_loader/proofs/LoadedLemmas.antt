@@ -9,6 +9,7 @@ use Rattle.std.specs.Result.{IfOk}
 use Rattle.std.proofs.lemmas.Bool.{and_parts, not-true, leb-true}
 use Rattle.std.proofs.lemmas.Bool.Decides.{nat_tests}
 use Rattle.std.proofs.lemmas.List.{length-map, append-nil}
+use Rattle.std.proofs.lemmas.List.Elements.{All-nil, All-weaker}
 use Rattle.std.proofs.lemmas.List.Folds.{list_any-append}
 use Rattle.std.proofs.lemmas.List.Sorted.{All-permutation, IsPermutation-map, IsPermutation-append}
 use Rattle.std.proofs.lemmas.List.Sorted.{IsPermutation-sym, IsPermutation-trans}
@@ -23,6 +24,8 @@ use Rattle.plant_types.specs.declared.fault.PlantFault.TheVariants.{BadValue, Ba
 use Rattle.plant_types.specs.declared.fault.Place.{Place}
 use Rattle.plant_types.specs.Plans.{AreBridges, HasNetNumbers, IsFromTo, IsNode, IsRouteFrom}
 use Rattle.plant_types.specs.Plans.{IsNetPlan, IsAskOf, IsHostPlan, PassesTests, IsPlant, is_routed}
+use Rattle.plant_types.specs.Plans.{IsBridgeOf}
+use Rattle.plant_types.proofs.OneNet.{IsOnNet, net-of, of-one-net, on-a-net, stations-once}
 use Rattle.cell_text.specs.Steps.{or_fault}
 use Rattle.cell_text.specs.Words.{text_words}
 use Rattle.plant_types.specs.Numerals.{is_numeral, value_of}
@@ -405,25 +408,41 @@ plant_from-loaded scan_time watchdog rules controllers hosts t w r s count few =
       fates = r.fates;
       numbers = numbers-are rules members r;
     } in
-    let checked : IsPlant (plant_from scan_time watchdog rules controllers hosts) = record {
-      scan_time = t;
-      watchdog = w;
-      net = net;
+    let plant = plant_from scan_time watchdog rules controllers hosts in
+    let some_cs : 1 ≤ length cs = omega (arith, count_cs, count.from) in
+    let on : IsOnNet plant (net_from rules members) = record {
+      only = refl;
+      no_bridges = refl;
+      plan = net;
       alone = refl;
       no_bridge = refl;
-      count = record {
-        from = omega (arith, count_cs, count.from);
-        to = omega (arith, count_cs, count.to);
-      };
-      controllers = all_cs PassesTests (λ plan read. read.tests);
       controllers_there = all_cs (λ plan. plan.network ≡ 0) (λ plan read. read.there);
+      hosts_there = All-permutation (λ (host : HostPlan). host.network ≡ 0) hosts hs moved_hs
+          (to-all (λ (host : HostPlan). host.network ≡ 0) hosts s.hosts_there);
+      members = joined;
+    } in
+    let there = on-a-net plant (net_from rules members) on in
+    let checked : IsPlant plant = record {
+      scan_time = t;
+      watchdog = w;
+      alone = of-one-net plant (net_from rules members) on;
+      nets = net-of plant (net_from rules members) on some_cs;
+      nets_rise = λ k low. absurd (omega arith);
+      count = record { from = some_cs; to = omega (arith, count_cs, count.to) };
+      controllers = all_cs PassesTests (λ plan read. read.tests);
+      controllers_there = All-weaker (λ (p : ControllerPlan). p.network ≡ 0)
+          (λ (p : ControllerPlan). Contains (0 ∷ []) p.network) (λ p. there p.network) cs
+          on.controllers_there;
       controllers_rise = cs_rise;
       few = omega (arith, count_hs, few);
       hosts = All-permutation IsHostPlan hosts hs moved_hs (to-all IsHostPlan hosts s.hosts_each);
-      hosts_there = All-permutation (λ (host : HostPlan). host.network ≡ 0) hosts hs moved_hs
-          (to-all (λ (host : HostPlan). host.network ≡ 0) hosts s.hosts_there);
+      hosts_there = All-weaker (λ (h : HostPlan). h.network ≡ 0)
+          (λ (h : HostPlan). Contains (0 ∷ []) h.network) (λ h. there h.network) hs on.hosts_there;
       hosts_rise = hs_rise;
-      members = joined;
+      few_bridges = omega arith;
+      bridges = All-nil (IsBridgeOf plant);
+      bridges_rise = λ k low. absurd (omega arith);
+      once = stations-once plant (net_from rules members) on;
     } in
     record {
       checked = checked;

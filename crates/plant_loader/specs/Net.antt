@@ -97,7 +97,8 @@ abbrev pub plant_from : ℕ → ℕ → NetRules → List ControllerPlan → Lis
 plant_from scan_time watchdog rules controllers hosts = record {
   scan_time = scan_time;
   watchdog = watchdog;
-  net = net_from rules (members_of controllers hosts);
+  nets = net_from rules (members_of controllers hosts) ∷ [];
   controllers = by_node (λ plan. plan.node) controllers;
   hosts = by_node (λ host. host.node) hosts;
+  bridges = [];
 }

@@ -1,6 +1,7 @@
 //! The rules of the network, its members, and the plant as a whole.
 ghost use Rattle.std.specs.Prelude.{◌≡◌, ◌++◌, ◌∷◌, [], codes, map, option_map};
 ghost use Rattle.std.specs.List.{AllByRecursion};
+ghost use Rattle.std.specs.Result.{IfOk};
 ghost use Rattle.toml.specs.Data.{get_member};
 ghost use Rattle.toml.specs.View.{view, table_view};
 ghost use Rattle.plant_types.specs.Plans.{IsNode};
@@ -17,7 +18,7 @@ use plant_types::{
     ANSWER_LIMIT, ControllerPlan, FATE_LIMIT, Fate, HOLD_LIMIT, HostPlan, List, NetPlan, Place,
     Plant, PlantFault, ROTATION_LIMIT, ROUND_LIMIT,
 };
-use std::alloc::Global;
+use std::alloc::{AllocError, Global};
 use std::collections::BTreeMap;
 use toml::{Table, Value};
 
@@ -175,6 +176,31 @@ fn hosts_by_node(mut hosts: Vec<HostPlan>) -> Result<List<HostPlan>, LoadEnd>
     Ok(List::from_vec(hosts))
 }
 
+/// The list of the one network, of these members and rules.
+fn nets_from(alloc: Global, members: List<u8>, rules: NetRules) -> Result<List<NetPlan>, AllocError>
+    ensures { IfOk result (λ nets. nets ≡ net_from rules members ∷ []) }
+{
+    let NetRules {
+        fates,
+        answer,
+        rotations,
+        rounds,
+        holds,
+    } = rules;
+    let mut nets = List::new(alloc);
+    nets.push(NetPlan {
+        number: 0,
+        members,
+        bridges: List::new(alloc),
+        fates,
+        answer,
+        rotations,
+        rounds,
+        holds,
+    })?;
+    Ok(nets)
+}
+
 /// The plant of controllers and hosts in file order.
 pub fn plant_from(
     alloc: Global,
@@ -191,27 +217,13 @@ pub fn plant_from(
         ≡ plant_from scan_time watchdog rules controllers.items hosts.items) }
 {
     let members = members_of(alloc, controllers.as_slice(), hosts.as_slice())?;
-    let NetRules {
-        fates,
-        answer,
-        rotations,
-        rounds,
-        holds,
-    } = rules;
+    let nets = nets_from(alloc, members, rules)?;
     Ok(Plant {
         scan_time,
         watchdog,
-        net: NetPlan {
-            number: 0,
-            members,
-            bridges: List::new(alloc),
-            fates,
-            answer,
-            rotations,
-            rounds,
-            holds,
-        },
+        nets,
         controllers: controllers_by_node(controllers)?,
         hosts: hosts_by_node(hosts)?,
+        bridges: List::new(alloc),
     })
 }

@@ -3,7 +3,7 @@ ghost use Rattle.std.specs.Prelude.{IfOk};
 ghost use Rattle.plant_types.specs.Store.{Keeps};
 
 use plant_types::{
-    Block, Cell, Copied, Element, List, MapRam, Network, NodePower, Operand, Pdu, Place,
+    Block, Cell, Copied, Element, List, MapRam, Network, NodePower, Operand, Part, Pdu, Place,
     PlantFault, Ref, RefKind, RefStore, Short, Unit, Words, discretes_follow,
 };
 use std::alloc::{AllocError, Global};
@@ -219,6 +219,23 @@ fn texts_of_faults_of_a_plant(rt: HostRuntime) -> Result<(), AllocError> {
 fn texts_of_faults_of_power_rows(rt: HostRuntime) -> Result<(), AllocError> {
     let text = format!(in rt.alloc(); "{} {}", PlantFault::BadPower, Place::power(1, 1))?;
     assert!(rt; text.as_str() == "15 BadPower controller 1 power 1");
+    Ok(())
+}
+
+#[test]
+fn texts_of_faults_of_networks(rt: HostRuntime) -> Result<(), AllocError> {
+    let network = Place {
+        part: Part::Network,
+        at: [2, 0, 0, 0],
+    };
+    let text = format!(in rt.alloc(); "{} {network}", PlantFault::BadNetwork)?;
+    assert!(rt; text.as_str() == "16 BadNetwork network 2");
+    let bridge = Place {
+        part: Part::Bridge,
+        at: [1, 0, 0, 0],
+    };
+    let text = format!(in rt.alloc(); "{} {bridge}", PlantFault::BadNetwork)?;
+    assert!(rt; text.as_str() == "16 BadNetwork bridge 1");
     Ok(())
 }
 

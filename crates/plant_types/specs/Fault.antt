@@ -24,6 +24,7 @@ fault_number faults.BadScript = 11
 fault_number faults.BadNode = 12
 fault_number faults.TooLarge = 13
 fault_number faults.BadPower = 15
+fault_number faults.BadNetwork = 16
 
 -- The name of a fault. This project's own.
 abbrev pub fault_name : PlantFault → List ℕ
@@ -41,6 +42,7 @@ fault_name faults.BadScript = codes "BadScript"
 fault_name faults.BadNode = codes "BadNode"
 fault_name faults.TooLarge = codes "TooLarge"
 fault_name faults.BadPower = codes "BadPower"
+fault_name faults.BadNetwork = codes "BadNetwork"
 
 -- A fault as its number and its name. This project's own.
 abbrev pub fault_text : PlantFault → List ℕ
@@ -66,6 +68,8 @@ behind_text behind = numbers_behind behind.part behind.second behind.third behin
 abbrev pub way_text : Part → ℕ → ℕ → ℕ → ℕ → List ℕ
 way_text parts.Plant i j k m = codes "plant"
 way_text parts.Net i j k m = codes "net"
+way_text parts.Network i j k m = codes "network " ++ decimal i
+way_text parts.Bridge i j k m = codes "bridge " ++ decimal i
 way_text parts.Host i j k m = codes "host " ++ decimal i
 way_text parts.HostRequest i j k m = codes "host " ++ decimal i ++ codes " request " ++ decimal j
 way_text part i j k m = codes "controller " ++ decimal i ++ numbers_behind part j k m

@@ -12,6 +12,10 @@ controller_limit = 16
 abbrev pub host_limit : ℕ
 host_limit = 16
 
+-- The most bridges of a plant.
+abbrev pub bridge_limit : ℕ
+bridge_limit = 16
+
 -- The highest number of a network of nodes.
 abbrev pub net_limit : ℕ
 net_limit = 8

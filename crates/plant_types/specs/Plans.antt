@@ -1,8 +1,9 @@
 -- Which networks, hosts and plants can be run. Node addresses are those of the Modbus Plus Network
 -- Planning and Installation Guide; all else is this project's own.
-use Rattle.std.specs.Prelude.{◌≡◌, ◌≢◌, ◌≤◌, ℕ, Bool, false, nat_lt, List, [], ◌++◌, length, map}
-use Rattle.std.specs.Prelude.{Some, Ok, slice_get, IsPermutation}
-use Rattle.std.specs.List.{All, Contains}
+use Rattle.std.specs.Prelude.{◌≡◌, ◌≢◌, ◌≤◌, ◌==◌, ℕ, Bool, false, cond, nat_lt, nat_eq, List, []}
+use Rattle.std.specs.Prelude.{◌∷◌, ◌++◌, length, map, filter, flat_map, Some, Ok, slice_get}
+use Rattle.std.specs.Prelude.{slice_index_or, IsPermutation}
+use Rattle.std.specs.List.{All, Contains, IsDistinct}
 use Rattle.std.specs.List.Sorted.{IsStrictlyIncreasing}
 use Rattle.plant_types.specs.declared.net.NetPlan.{NetPlan}
 use Rattle.plant_types.specs.declared.net.BridgePlan.{BridgePlan}
@@ -11,8 +12,8 @@ use Rattle.plant_types.specs.declared.net.HostPlan.{HostPlan}
 use Rattle.plant_types.specs.declared.plan.ControllerPlan.{ControllerPlan}
 use Rattle.plant_types.specs.declared.plan.Plant.{Plant}
 use Rattle.plant_types.specs.FirstFault.{first_failed}
-use Rattle.plant_types.specs.Limits.{controller_limit, host_limit, net_limit, most_address}
-use Rattle.plant_types.specs.Limits.{scan_time_limit}
+use Rattle.plant_types.specs.Limits.{controller_limit, host_limit, bridge_limit, net_limit}
+use Rattle.plant_types.specs.Limits.{most_address, scan_time_limit}
 use Rattle.plant_types.specs.Limits.{watchdog_limit, fate_limit, answer_limit, rotation_limit}
 use Rattle.plant_types.specs.Limits.{round_limit, hold_limit, request_limit, due_limit}
 use Rattle.plant_types.specs.PlanTests.{controller_tests}
@@ -104,21 +105,84 @@ controller_nodes plant = map (λ plan. plan.node) plant.controllers
 abbrev pub host_nodes : Plant → List ℕ
 host_nodes plant = map (λ host. host.node) plant.hosts
 
--- A plant: its controllers and its hosts rise by node, all of them stand on its network, which has no
--- number and no bridge, and are its members, each node once, and each number is in its range. The
--- tests of drops are not among these.
+-- The addresses of the two ends of each bridge.
+abbrev pub end_nodes : Plant → List ℕ
+end_nodes plant = flat_map (λ bridge. bridge.left ∷ bridge.right ∷ []) plant.bridges
+
+-- The numbers of the networks.
+abbrev pub net_numbers : Plant → List ℕ
+net_numbers plant = map (λ net. net.number) plant.nets
+
+-- The addresses that a bridge has on a network.
+abbrev pub ends_of : ℕ → BridgePlan → List ℕ
+ends_of network bridge =
+    cond (bridge.left_net == network) (bridge.left ∷ []) []
+    ++ cond (bridge.right_net == network) (bridge.right ∷ []) []
+
+-- The addresses on a network of controllers, of hosts, and of ends of bridges.
+abbrev pub controllers_on : Plant → ℕ → List ℕ
+controllers_on plant network =
+    map (λ plan. plan.node) (filter (λ plan. plan.network == network) plant.controllers)
+
+abbrev pub hosts_on : Plant → ℕ → List ℕ
+hosts_on plant network =
+    map (λ host. host.node) (filter (λ host. host.network == network) plant.hosts)
+
+abbrev pub ends_on : Plant → ℕ → List ℕ
+ends_on plant network = flat_map (ends_of network) plant.bridges
+
+-- A network of a plant: at least one controller or host is on it, and its members are those and the
+-- ends of bridges on it, each once.
+pub record IsNetOf (plant : Plant) (net : NetPlan) : Type 0 where
+  pub plan : IsNetPlan net
+  pub some : 1 ≤ length (controllers_on plant net.number ++ hosts_on plant net.number)
+  pub members : IsPermutation (controllers_on plant net.number ++ hosts_on plant net.number
+      ++ ends_on plant net.number) net.members
+  pub bridges : IsPermutation (ends_on plant net.number) net.bridges
+
+-- A bridge of a plant joins two of its networks.
+pub record IsBridgeOf (plant : Plant) (bridge : BridgePlan) : Type 0 where
+  pub plan : IsBridgePlan bridge
+  pub left_there : Contains (net_numbers plant) bridge.left_net
+  pub right_there : Contains (net_numbers plant) bridge.right_net
+
+-- A plant has one network, which has no number, and no bridge. As yet each has.
+pub record IsOfOneNet (plant : Plant) : Type 0 where
+  pub net : net_numbers plant ≡ 0 ∷ []
+  pub no_bridge : plant.bridges ≡ []
+
+-- A plant: its networks rise by number, its controllers and its hosts by node, and its bridges by
+-- left address; each controller and host is on one of its networks, each address stands once, and
+-- each number is in its range. The tests of drops are not among these.
 pub record IsPlant (plant : Plant) : Type 0 where
   pub scan_time : IsFromTo 1 scan_time_limit plant.scan_time
   pub watchdog : IsFromTo 1 watchdog_limit plant.watchdog
-  pub net : IsNetPlan plant.net
-  pub alone : plant.net.number ≡ 0
-  pub no_bridge : plant.net.bridges ≡ []
+  pub alone : IsOfOneNet plant
+  pub nets : All (IsNetOf plant) plant.nets
+  pub nets_rise : IsStrictlyIncreasing (net_numbers plant)
   pub count : IsFromTo 1 controller_limit (length plant.controllers)
   pub controllers : All PassesTests plant.controllers
-  pub controllers_there : All (λ plan. plan.network ≡ plant.net.number) plant.controllers
+  pub controllers_there : All (λ plan. Contains (net_numbers plant) plan.network)
+      plant.controllers
   pub controllers_rise : IsStrictlyIncreasing (controller_nodes plant)
   pub few : length plant.hosts ≤ host_limit
   pub hosts : All IsHostPlan plant.hosts
-  pub hosts_there : All (λ host. host.network ≡ plant.net.number) plant.hosts
+  pub hosts_there : All (λ host. Contains (net_numbers plant) host.network) plant.hosts
   pub hosts_rise : IsStrictlyIncreasing (host_nodes plant)
-  pub members : IsPermutation (controller_nodes plant ++ host_nodes plant) plant.net.members
+  pub few_bridges : length plant.bridges ≤ bridge_limit
+  pub bridges : All (IsBridgeOf plant) plant.bridges
+  pub bridges_rise : IsStrictlyIncreasing (map (λ bridge. bridge.left) plant.bridges)
+  pub once : IsDistinct nat_eq (controller_nodes plant ++ host_nodes plant ++ end_nodes plant)
+
+-- The network with the least number; without one, none is there.
+abbrev pub first_net : Plant → NetPlan
+first_net plant = slice_index_or plant.nets 0 (record {
+  number = 0;
+  members = [];
+  bridges = [];
+  fates = [];
+  answer = 0;
+  rotations = 0;
+  rounds = 0;
+  holds = 0;
+})

@@ -301,9 +301,10 @@ impl Copied for Plant {
         Ok(Plant {
             scan_time: self.scan_time,
             watchdog: self.watchdog,
-            net: self.net.copied(alloc)?,
+            nets: self.nets.copied(alloc)?,
             controllers: self.controllers.copied(alloc)?,
             hosts: self.hosts.copied(alloc)?,
+            bridges: self.bridges.copied(alloc)?,
         })
     }
 }

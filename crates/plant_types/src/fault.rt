@@ -23,6 +23,7 @@ pub enum PlantFault {
     BadNode,
     TooLarge,
     BadPower,
+    BadNetwork,
 }
 
 impl PlantFault {
@@ -45,6 +46,7 @@ impl PlantFault {
             PlantFault::BadNode => 12,
             PlantFault::TooLarge => 13,
             PlantFault::BadPower => 15,
+            PlantFault::BadNetwork => 16,
         }
     }
 
@@ -67,6 +69,7 @@ impl PlantFault {
             PlantFault::BadNode => "BadNode",
             PlantFault::TooLarge => "TooLarge",
             PlantFault::BadPower => "BadPower",
+            PlantFault::BadNetwork => "BadNetwork",
         }
     }
 }
@@ -87,8 +90,10 @@ impl fmt::Display for PlantFault {
 pub enum Part {
     /// The file as a whole.
     Plant,
-    /// The table of the network.
+    /// The table of what all networks share.
     Net,
+    /// The table of one network.
+    Network,
     /// A controller's table.
     Controller,
     /// A drop of a controller.
@@ -111,6 +116,8 @@ pub enum Part {
     Host,
     /// A request of a host.
     HostRequest,
+    /// A bridge's text.
+    Bridge,
 }
 
 /// A place in a plant file: the numbers of its text in order, from 1 in file order, 0 where unused.
@@ -241,6 +248,8 @@ impl fmt::Display for Place {
         match self.part {
             Part::Plant => write!(f, "plant"),
             Part::Net => write!(f, "net"),
+            Part::Network => write!(f, "network {first}"),
+            Part::Bridge => write!(f, "bridge {first}"),
             Part::Host => write!(f, "host {first}"),
             Part::HostRequest => write!(f, "host {first} request {second}"),
             part => {

@@ -79,17 +79,23 @@ pub struct BridgePlan {
 /// The highest number of a network of nodes.
 pub const NET_LIMIT: u8 = 8;
 
+/// The most bridges of a plant. This project's own.
+pub const BRIDGE_LIMIT: usize = 16;
+
 /// The highest address of a node.
 pub const NODE_LIMIT: u8 = 64;
 
 /// The addresses from 0 on: each node's is below this.
 pub const ADDRESSES: u8 = 65;
 
+/// How many paths a node has by the network.
+pub const NETWORK_PATH_COUNT: usize = 4;
+
 /// The paths of a node by the network.
-pub const NETWORK_PATHS: [u8; 4] = [1, 2, 3, 4];
+pub const NETWORK_PATHS: [u8; NETWORK_PATH_COUNT] = [1, 2, 3, 4];
 
 /// The paths of a node, with path 0 of its own calls.
-pub const PATH_PLACES: usize = 5;
+pub const PATH_PLACES: usize = NETWORK_PATH_COUNT + 1;
 
 /// The most fates of a network, which its transmissions take in turn.
 pub const FATE_LIMIT: usize = 1000;

@@ -1,7 +1,10 @@
 //! The plan of a plant.
+ghost use Rattle.std.specs.Prelude.{◌≡◌, ◌≤◌, length};
+ghost use Rattle.plant_types.specs.Plans.{first_net};
+
 use crate::drops::IoDrop;
 use crate::list::List;
-use crate::net::{HostPlan, NetPlan};
+use crate::net::{BridgePlan, HostPlan, NetPlan};
 use crate::network::Segment;
 use crate::reference::Ref;
 
@@ -74,14 +77,26 @@ pub struct ControllerPlan {
     pub segments: List<Segment>,
 }
 
-/// A plant: its controllers and hosts by rising node, and the network that joins them.
+/// A plant: its networks by rising number, its controllers and hosts by rising node, and its bridges
+/// by rising left address.
 #[derive(Drop)]
 pub struct Plant {
     /// How far the clock goes on at each scan, 1 to 1000 ticks of 10 ms.
     pub scan_time: u32,
     /// How many networks a scan may begin, 1 to 10,000.
     pub watchdog: u32,
-    pub net: NetPlan,
+    pub nets: List<NetPlan>,
     pub controllers: List<ControllerPlan>,
     pub hosts: List<HostPlan>,
+    pub bridges: List<BridgePlan>,
+}
+
+impl Plant {
+    /// The network with the least number.
+    pub fn first_net(&self) -> &NetPlan
+        requires some { 1 ≤ length self.now.nets }
+        ensures { result.now ≡ first_net self.now }
+    {
+        &self.nets.as_slice()[0]
+    }
 }

@@ -82,7 +82,8 @@ ready-others m n c w away net a added b apart legal g t =
 
 -- a worker stands behind its turn
 pub ready-after : (n : ℕ) (c : ControllerIs) (w w' : WorkerIs) (away : Bool) (net net' : NetPlan)
-    (a b : List RingEntry) → IsOnRing net a n → IsNoBridge net n → w.node ≡ n → w'.node ≡ w.node → net' ≡ net
+    (a b : List RingEntry) → IsOnRing net a n → IsNoBridge net n → w.node ≡ n
+    → w'.node ≡ w.node → net' ≡ net
     → Standing w' (record { fixed = c.fixed; place = tt {0} }) c.history (own_side net') b
     → (away ≡ true → IsAway net b n) → CanTurn n c w' away net' b
 ready-after n c w w' away net net' a b on none is same net_is s gone = record {

@@ -1,5 +1,5 @@
 -- Words of the tests of power failures. This project's own.
-use Rattle.std.specs.Prelude.{◌≡◌, ℕ, Bool, true, List, None}
+use Rattle.std.specs.Prelude.{◌≡◌, ℕ, Bool, true, List}
 use Rattle.plant_types.specs.declared.net.NetPlan.{NetPlan}
 use Rattle.controller_core.specs.Controller.{ControllerIs}
 use Rattle.ring_core.specs.declared.entry.RingEntry.{RingEntry}

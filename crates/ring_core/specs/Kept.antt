@@ -16,20 +16,20 @@ use Rattle.station_stats.specs.Counts.{StatsIs, cleared_counters, noted}
 use Rattle.global_data.specs.Book.{Book, words_at, with_put, with_passed}
 
 -- The net that it was made for, its history, and for how many entries memory is kept.
-pub record RingLog : Type 0 where
+pub record KeptRing : Type 0 where
   pub net : NetPlan
   pub history : List RingEntry
   pub spare : ℕ
 
-abbrev pub ring_of : RingLog → RingIs
+abbrev pub ring_of : KeptRing → RingIs
 ring_of v = ring_after v.net v.history
 
 -- One more entry.
-abbrev pub with_entry : RingLog → RingEntry → RingLog
+abbrev pub with_entry : KeptRing → RingEntry → KeptRing
 with_entry v e = record { net = v.net; history = v.history ++ e ∷ []; spare = v.spare }
 
 -- The same, where the entry takes one of the spare.
-abbrev pub with_spare_entry : RingLog → RingEntry → RingLog
+abbrev pub with_spare_entry : KeptRing → RingEntry → KeptRing
 with_spare_entry v e = record { net = v.net; history = v.history ++ e ∷ []; spare = v.spare - 1 }
 
 -- A call is refused exactly where this says. NoMemory comes only where nothing else refuses it.
@@ -38,23 +38,23 @@ RefusedAs r why = MatchResult r (λ _. why ≡ None)
     (λ refused. (why ≡ Some refused) ⊎ ((refused ≡ NoMemory) × (why ≡ None)))
 
 -- A Leave, which takes no memory, is refused for its reason alone, and then nothing changes.
-abbrev pub StayedFor : RingLog → ℕ → LeaveCause → RingLog → RingNo → Type 0
+abbrev pub StayedFor : KeptRing → ℕ → LeaveCause → KeptRing → RingNo → Type 0
 StayedFor old n cause new why =
     (leave_no old.net (ring_of old) n cause ≡ Some why) × (new ≡ old)
 
 -- A node takes the first frame of its inbox, and that is noted; none where there is none, and then
 -- nothing is noted.
-abbrev pub IsTaken : ℕ → RingLog → RingLog → Option Frame → Type 0
+abbrev pub IsTaken : ℕ → KeptRing → KeptRing → Option Frame → Type 0
 IsTaken n old new taken = MatchOption taken
     (((ring_node (ring_of old) n).inbox ≡ []) × (new ≡ old))
     (λ f. IsFirst (ring_node (ring_of old) n).inbox f × (new ≡ with_entry old (Take n f)))
 
 -- What a node is told of the first frame of its outbox.
-abbrev pub IsToldOf : RingLog → ℕ → Heard → Type 0
+abbrev pub IsToldOf : KeptRing → ℕ → Heard → Type 0
 IsToldOf v n heard = IsHeard v.net (ring_of v) (ring_node (ring_of v) n).outbox heard
 
 -- A node has passed the token with the words that it put.
-abbrev pub passed_on : RingLog → ℕ → Bool → RingLog
+abbrev pub passed_on : KeptRing → ℕ → Bool → KeptRing
 passed_on v n done = with_entry v (Pass n done (words_put n v.history))
 
 -- Counters of all stations that run along.

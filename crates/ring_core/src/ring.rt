@@ -10,7 +10,7 @@ ghost use Rattle.ring_core.specs.Refusals.{give_up_no, join_no, word_of, quiet_f
 ghost use Rattle.ring_core.specs.Scratch.{local_result};
 ghost use Rattle.ring_core.specs.Legal.{IsMember, IsPath, IsFrom, IsNextNumber, HasRoom, IsFirst};
 ghost use Rattle.ring_core.specs.Legal.{IsLegalRing};
-ghost use Rattle.ring_core.specs.Kept.{RingLog, ring_of, with_entry, with_spare_entry, RefusedAs};
+ghost use Rattle.ring_core.specs.Kept.{KeptRing, ring_of, with_entry, with_spare_entry, RefusedAs};
 ghost use Rattle.ring_core.specs.Kept.{IsTaken, IsToldOf, passed_on, StayedFor};
 
 use crate::bare::BareRing;
@@ -36,10 +36,10 @@ pub struct Ring {
 
 impl Model for Ring {
     ghost use Rattle.std.specs.Prelude.{vec_capacity};
-    ghost use Rattle.ring_core.specs.Kept.{RingLog};
+    ghost use Rattle.ring_core.specs.Kept.{KeptRing};
     ghost use Rattle.ring_core.specs.Bare.{bare_net, IsWholeRing};
 
-    ghost Value = { RingLog };
+    ghost Value = { KeptRing };
 
     ghost view = { λ r. record {
       net = bare_net r.bare;

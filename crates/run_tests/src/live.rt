@@ -4,7 +4,7 @@ ghost use Rattle.std.specs.Prelude.{◌≡◌, ◌∷◌, [], IfOk};
 use crate::read2::{AS_IT_IS, Change, read2};
 use controller_core::Entry;
 use crossbeam_utils::Backoff;
-use joint_history::Joint;
+use joint_history::{Joint, RingLog};
 use live_run::{Meet, NoMeet, RingCell, live};
 use mstr_block::MstrResult;
 use plant_types::{Fate, List, NetPlan, PowerRow};
@@ -133,19 +133,21 @@ fn results(alloc: Global, joint: &Joint) -> Result<Vec<u16>, AllocError> {
 }
 
 /// How often a node left for a cause.
-fn leaves(ring: &[RingEntry], of: u8, why: LeaveCause) -> u64 {
+fn leaves(rings: &[RingLog], of: u8, why: LeaveCause) -> u64 {
     let mut count = 0u64;
-    for entry in ring {
-        if let RingEntry::Leave { node, cause } = entry {
-            count = count.saturating_add(u64::from(*node == of && *cause == why));
+    for ring in rings {
+        for entry in ring.entries.as_slice() {
+            if let RingEntry::Leave { node, cause } = entry {
+                count = count.saturating_add(u64::from(*node == of && *cause == why));
+            }
         }
     }
     count
 }
 
 /// The node left once, and had come to its end.
-fn has_ended(ring: &[RingEntry], node: u8) -> bool {
-    leaves(ring, node, LeaveCause::Ended) == 1 && leaves(ring, node, LeaveCause::Spent) == 0
+fn has_ended(rings: &[RingLog], node: u8) -> bool {
+    leaves(rings, node, LeaveCause::Ended) == 1 && leaves(rings, node, LeaveCause::Spent) == 0
 }
 
 /// What a live run of READ2 tells.
@@ -160,8 +162,8 @@ struct Shown {
 }
 
 fn told_by(alloc: Global, joint: &Joint) -> Result<Shown, AllocError> {
-    let ring = joint.ring.as_slice();
-    let ended = has_ended(ring, 2) && has_ended(ring, 5);
+    let rings = joint.rings.as_slice();
+    let ended = has_ended(rings, 2) && has_ended(rings, 5);
     let events = scans(alloc, joint)?;
     let words = results(alloc, joint)?;
     Ok(Shown {
@@ -285,7 +287,7 @@ fn maker(entry: &RingEntry) -> u8 {
     }
 }
 
-/// The Solves of node's controller and the node's entries of the ring.
+/// The Solves of node's controller and the node's entries of the rings.
 fn made(joint: &Joint, node: u8) -> [u64; 2] {
     let mut solves = 0u64;
     for log in joint.controllers.as_slice() {
@@ -295,8 +297,10 @@ fn made(joint: &Joint, node: u8) -> [u64; 2] {
         }
     }
     let mut entries = 0u64;
-    for entry in joint.ring.as_slice() {
-        entries = entries.saturating_add(u64::from(maker(entry) == node));
+    for ring in joint.rings.as_slice() {
+        for entry in ring.entries.as_slice() {
+            entries = entries.saturating_add(u64::from(maker(entry) == node));
+        }
     }
     [solves, entries]
 }
@@ -339,11 +343,13 @@ const LAST: &[PowerRow] = &[PowerRow {
 }];
 
 /// How often a node asked to come in again.
-fn joins(ring: &[RingEntry], of: u8) -> u64 {
+fn joins(rings: &[RingLog], of: u8) -> u64 {
     let mut count = 0u64;
-    for entry in ring {
-        if let RingEntry::Join { node } = entry {
-            count = count.saturating_add(u64::from(*node == of));
+    for ring in rings {
+        for entry in ring.entries.as_slice() {
+            if let RingEntry::Join { node } = entry {
+                count = count.saturating_add(u64::from(*node == of));
+            }
         }
     }
     count
@@ -358,12 +364,12 @@ fn ran_dark<R: Threads + Wait + Clock + Sync>(
 ) -> Result<(Vec<u8>, [u64; 3]), AllocError> {
     let change = Change { power, ..AS_IT_IS };
     let joint = ran_as(rt, alloc, change, &NoMeet)?;
-    let ring = joint.ring.as_slice();
+    let rings = joint.rings.as_slice();
     let events = scans(alloc, &joint)?;
     let counts = [
-        leaves(ring, 5, LeaveCause::Down(1)),
-        joins(ring, 5),
-        leaves(ring, 5, LeaveCause::Ended),
+        leaves(rings, 5, LeaveCause::Down(1)),
+        joins(rings, 5),
+        leaves(rings, 5, LeaveCause::Ended),
     ];
     Ok((events, counts))
 }

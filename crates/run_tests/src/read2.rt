@@ -256,7 +256,11 @@ fn net(alloc: Global, change: Change) -> Result<NetPlan, AllocError>
     Ok(net)
 }
 
-fn plant_of(alloc: Global, net: NetPlan, controllers: List<ControllerPlan>) -> Plant
+fn plant_of(
+    alloc: Global,
+    net: NetPlan,
+    controllers: List<ControllerPlan>,
+) -> Result<Plant, AllocError>
     requires net { IsNetPlan net }
     requires members { net.members ≡ 2 ∷ 5 ∷ [] }
     requires alone { net.number ≡ 0 }
@@ -265,15 +269,18 @@ fn plant_of(alloc: Global, net: NetPlan, controllers: List<ControllerPlan>) -> P
     requires passes { All PassesTests controllers }
     requires nodes { map (λ plan. plan.node) controllers ≡ 2 ∷ 5 ∷ [] }
     requires there { All (λ plan. plan.network ≡ 0) controllers }
-    ensures { CanRunPlant result }
+    ensures { IfOk result CanRunPlant }
 {
-    Plant {
+    let mut nets = List::new(alloc);
+    nets.push(net)?;
+    Ok(Plant {
         scan_time: 10,
         watchdog: 500,
-        net,
+        nets,
         controllers,
         hosts: List::new(alloc),
-    }
+        bridges: List::new(alloc),
+    })
 }
 
 pub fn read2(alloc: Global, change: Change) -> Result<Plant, AllocError>
@@ -281,5 +288,5 @@ pub fn read2(alloc: Global, change: Change) -> Result<Plant, AllocError>
 {
     let net = net(alloc, change)?;
     let controllers = controllers(alloc, change)?;
-    Ok(plant_of(alloc, net, controllers))
+    plant_of(alloc, net, controllers)
 }

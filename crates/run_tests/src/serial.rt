@@ -73,13 +73,15 @@ fn push_ring(text: &mut Vec<u8>, entries: &[RingEntry]) -> Result<(), AllocError
     Ok(())
 }
 
-/// The letters of both controllers and of the ring.
+/// The letters of both controllers and of the rings.
 fn letters(alloc: Global, joint: &Joint) -> Result<Vec<u8>, AllocError> {
     let mut text = Vec::new(alloc);
     for log in joint.controllers.as_slice() {
         push_controller(&mut text, log.entries.as_slice())?;
     }
-    push_ring(&mut text, joint.ring.as_slice())?;
+    for ring in joint.rings.as_slice() {
+        push_ring(&mut text, ring.entries.as_slice())?;
+    }
     Ok(text)
 }
 
@@ -119,30 +121,31 @@ fn ran_letters(alloc: Global, change: Change, scans: u8) -> Result<Vec<u8>, Allo
 #[test]
 fn turns_come_in_any_order(rt: HostRuntime) -> Result<(), AllocError> {
     let alloc = rt.alloc();
-    let scan = [Turn::Step(2), Turn::Step(2), Turn::Step(2), Turn::Hold];
+    let scan = [Turn::Step(2), Turn::Step(2), Turn::Step(2), Turn::Hold(0)];
     let text = turned_letters(alloc, AS_IT_IS, 2, &scan)?;
     assert!(rt; text.as_slice() == b"BSEL  2Q2A2n".as_slice());
 
-    // No serial run begins with the token, steps by halves or knows node 9.
+    // No serial run begins with the token, steps by halves or knows node 9 or network 9.
     let order = [
-        Turn::Hold,
-        Turn::Hold,
+        Turn::Hold(0),
+        Turn::Hold(0),
         Turn::Step(5),
         Turn::Step(9),
+        Turn::Hold(9),
         Turn::Visit(2),
         Turn::Step(2),
         Turn::Step(2),
         Turn::Step(2),
-        Turn::Hold,
+        Turn::Hold(0),
         Turn::Step(5),
-        Turn::Hold,
+        Turn::Hold(0),
         Turn::Step(5),
         Turn::Step(5),
-        Turn::Hold,
-        Turn::Hold,
-        Turn::Hold,
-        Turn::Hold,
-        Turn::Hold,
+        Turn::Hold(0),
+        Turn::Hold(0),
+        Turn::Hold(0),
+        Turn::Hold(0),
+        Turn::Hold(0),
         Turn::Visit(2),
     ];
     let text = turned_letters(alloc, AS_IT_IS, 1, &order)?;
@@ -157,10 +160,10 @@ fn a_node_that_has_left_ends_its_calls(rt: HostRuntime) -> Result<(), AllocError
         ..AS_IT_IS
     };
     let order = [
-        Turn::Hold,
-        Turn::Hold,
-        Turn::Hold,
-        Turn::Hold,
+        Turn::Hold(0),
+        Turn::Hold(0),
+        Turn::Hold(0),
+        Turn::Hold(0),
         Turn::Step(2),
         Turn::Step(2),
         Turn::Step(2),

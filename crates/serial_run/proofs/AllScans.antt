@@ -25,6 +25,7 @@ use Rattle.serial_run.specs.Stations.{host_log_of, log_of}
 use Rattle.serial_run.specs.Scans.{have_ended, steps_left, AreBetweenScans}
 use Rattle.serial_run.proofs.Lists.{zip-both}
 use Rattle.serial_run.proofs.Standings.{stands-scans}
+use Rattle.plant_types.specs.Plans.{first_net}
 
 -- a station whose controller made a scan
 pub record Scanned (s t : ControllerStation) : Type 0 where
@@ -130,7 +131,7 @@ everyone-scanned first now at is some =
 -- ---- what that makes of all stations
 
 module _ (old new : Stations) (hosts : new.hosts.items ≡ old.hosts.items)
-    (ring : new.ring ≡ old.ring)
+    (network : new.network ≡ old.network) (ring : new.ring ≡ old.ring)
     (each : AllZip Scanned old.controllers.items new.controllers.items) where
   scanned-stands : (plant : Plant) (scans : ℕ) (plan : ControllerPlan) (s t : ControllerStation)
       → StandsController plant scans old.ring.history plan s → Scanned s t
@@ -145,8 +146,9 @@ module _ (old new : Stations) (hosts : new.hosts.items ≡ old.hosts.items)
       let history : new.ring.history ≡ old.ring.history = ap (λ r. r.history) ring in
       record {
         sound = all.sound;
+        network = network ∙ all.network;
         net = ap (λ r. r.net) ring ∙ all.net;
-        legal = subst (IsLegalRing plant.net) (sym history) all.legal;
+        legal = subst (IsLegalRing (first_net plant)) (sym history) all.legal;
         controllers = subst (λ (l : List RingEntry). AllZip (StandsController plant scans l)
             plant.controllers new.controllers.items) (sym history)
             (zip-both (StandsController plant scans old.ring.history) Scanned
@@ -185,7 +187,8 @@ module _ (old new : Stations) (hosts : new.hosts.items ≡ old.hosts.items)
         λ i. record {
           controllers = logs i;
           hosts = map host_log_of (hosts i);
-          ring = (ring i).history;
+          bridges = [];
+          rings = record { network = network i; entries = (ring i).history } ∷ [];
         };
   }
 

@@ -1,5 +1,6 @@
 -- What each kind of turn makes of all stations.
-use Rattle.std.proofs.Common.{◌≡◌, ℕ, zero, suc, ◌<◌, ◌≤◌, ◌==◌, Bool, true, false, cond, List, []}
+use Rattle.std.proofs.Common.{◌≡◌, ◌≢◌, ℕ, zero, suc, ◌<◌, ◌≤◌, ◌==◌, Bool, true, false, cond}
+use Rattle.std.proofs.Common.{List, []}
 use Rattle.std.proofs.Common.{◌∷◌, ◌++◌, filter, map, set, Option, Some, None, All, refl, sym, ap}
 use Rattle.std.proofs.Common.{subst, ◌∙◌, arith, ⊎_elim}
 use Rattle.std.specs.Prelude.{◌&&◌}
@@ -8,6 +9,7 @@ use Rattle.std.proofs.lemmas.Bool.{eq-eqb, eqb-true}
 use Rattle.plant_types.specs.declared.net.NetPlan.{NetPlan}
 use Rattle.plant_types.specs.declared.net.HostPlan.{HostPlan}
 use Rattle.plant_types.specs.declared.plan.Plant.{Plant}
+use Rattle.plant_types.specs.Plans.{IsPlant, first_net}
 use Rattle.ring_core.specs.declared.entry.RingEntry.{RingEntry}
 use Rattle.ring_core.specs.declared.entry.RingEntry.TheVariants.{Join}
 use Rattle.ring_core.specs.declared.status.NodeStatus.{NodeStatus}
@@ -18,7 +20,9 @@ use Rattle.ring_core.specs.Kept.{ring_of}
 use Rattle.controller_core.specs.declared.fixed.Fixed.{Fixed}
 use Rattle.controller_core.specs.declared.entry.Entry.{Entry}
 use Rattle.controller_core.specs.Controller.{ControllerIs, due_step, is_off, made, stepped}
+use Rattle.joint_history.specs.declared.joint.Joint.{Joint}
 use Rattle.joint_history.specs.JointLaws.{fixed_of}
+use Rattle.joint_history.specs.Nets.{noted_on_rings}
 use Rattle.joint_history.specs.Reading.{controller_at, has_started_at, is_off_at}
 use Rattle.comm_port.specs.Worker.{Standing, WorkerIs}
 use Rattle.comm_port.specs.HostTurns.{HoldsHostTurn, HostTies}
@@ -35,8 +39,9 @@ use Rattle.serial_run.specs.declared.stations.HostStation.{HostStation}
 use Rattle.serial_run.specs.declared.stations.Stations.{Stations}
 use Rattle.serial_run.specs.Turns.{coming_back, may_visit, node_has_left, place_of_controller}
 use Rattle.serial_run.specs.Turns.{place_of_host, stepped_list, visit_is_due, with_list}
-use Rattle.serial_run.specs.Turns.{MakesAwayTurn, MakesTurn, MakesHold, MakesStep, MakesVisit}
-use Rattle.serial_run.specs.Turns.{VisitsWhere}
+use Rattle.serial_run.specs.Turns.{MakesAwayTurn, MakesTurn, MakesHold, MakesHoldOn, MakesStep}
+use Rattle.serial_run.specs.Turns.{MakesVisit}
+use Rattle.serial_run.specs.Turns.{VisitsWhere, first_hold}
 use Rattle.serial_run.specs.Stations.{StandsController, StandAll, Did, log_of}
 use Rattle.serial_run.specs.Stations.{host_log_of}
 use Rattle.serial_run.specs.Stations.{joint_of, plain_ram_side}
@@ -53,6 +58,7 @@ use Rattle.serial_run.proofs.Standings.{stands-scans}
 use Rattle.serial_run.proofs.TurnsMade.{at-place, place-is, host-place-is, stand-with, is-at}
 use Rattle.serial_run.proofs.TurnsMade.{joint-is, host-at-place, host-stand-with, host-is-at}
 use Rattle.serial_run.proofs.TurnsMade.{host-joint-is}
+use Rattle.serial_run.proofs.Numbered.{first-numbered, none-numbered}
 
 -- ---- before a turn: the station stands beside the ring, and its node holds the token
 
@@ -72,7 +78,7 @@ host-stands-beside plant scans run at s all is =
     record {
       ties = subst (λ (net : NetPlan). HostTies s.worker.node s.host (own_side net)
           run.ring.history) (sym all.net)
-          (subst (λ (n : ℕ). HostTies n s.host (own_side plant.net) run.ring.history)
+          (subst (λ (n : ℕ). HostTies n s.host (own_side (first_net plant)) run.ring.history)
           (sym p.stands.worker_node) p.stands.ties);
       counts = p.stands.counts;
     }
@@ -143,7 +149,8 @@ stepped-is v fixed same = stepped-by v (due_step v) ∙ ap (λ (f : Fixed). step
 module _ (old new : Stations) (at : ℕ) (s : ControllerStation) (w : ControllerIs)
     (is : slice_get old.controllers.items at ≡ Some s)
     (items : new.controllers.items ≡ set old.controllers.items at (record s { controller = w }))
-    (hosts : new.hosts.items ≡ old.hosts.items) (ring : new.ring ≡ old.ring) (h : List Entry)
+    (hosts : new.hosts.items ≡ old.hosts.items) (network : new.network ≡ old.network)
+    (ring : new.ring ≡ old.ring) (h : List Entry)
     (made-events : MadeEvents h s.controller w) where
   pub scan-stands : (plant : Plant) (scans : ℕ) → StandAll plant scans old
       → StandAll plant scans new
@@ -153,30 +160,31 @@ module _ (old new : Stations) (at : ℕ) (s : ControllerStation) (w : Controller
       let it : StandsController plant scans old.ring.history p.plan t = stands-scans plant scans
       old.ring.history p.plan s w h made-events p.stands in
       let same = ap (λ r. r.history) ring in
-      stand-with plant scans old new at s t all is items hosts
+      stand-with plant scans old new at s t all is items hosts network
       (subst (λ (l : List RingEntry). StandsController plant scans l p.plan t) (sym same) it)
       (ap (λ r. r.net) ring ∙ all.net)
       (subst (λ (l : List RingEntry). Further (is_of p.plan.node) old.ring.history l) (sym same)
       (further-none (is_of p.plan.node) old.ring.history))
-      (subst (IsLegalRing plant.net) (sym same) all.legal)
+      (subst (IsLegalRing (first_net plant)) (sym same) all.legal)
 
   pub scan-joint : (plant : Plant) (scans : ℕ) → StandAll plant scans old
       → joint_of new ≡ with_list at (log_of s) h (joint_of old)
   scan-joint plant scans all =
       let t : ControllerStation = record s { controller = w } in
-      joint-is plant scans old new at s t all is items hosts refl
+      joint-is plant scans old new at s t all is items hosts network refl
       ∙ (λ i. record (with_list at (log_of s) (made-events.history_is i) (joint_of old))
-      { ring = (ring i).history })
+      { rings = record { network = sym all.network i; entries = (ring i).history } ∷ [] })
 
 pub step-did : (old new : Stations) (node at : ℕ) (s : ControllerStation) (w : ControllerIs)
     → slice_get old.controllers.items at ≡ Some s
     → position (λ (s : ControllerStation). s.node == node) old.controllers.items ≡ Some at
     → new.controllers.items ≡ set old.controllers.items at (record s { controller = w })
-    → new.hosts.items ≡ old.hosts.items → new.ring ≡ old.ring
+    → new.hosts.items ≡ old.hosts.items → new.network ≡ old.network → new.ring ≡ old.ring
     → MadeEvents (stepped s.controller).history s.controller w
     → Did (λ plant scans. MakesTurn plant scans (Step node)) old new
-step-did old new node at s w is found items hosts ring events = record {
-  stand = scan-stands old new at s w is items hosts ring (stepped s.controller).history events;
+step-did old new node at s w is found items hosts network ring events = record {
+  stand = scan-stands old new at s w is items hosts network ring (stepped s.controller).history
+      events;
   made = λ plant scans all. subst
       (λ (o : Option ℕ). MakesStep plant scans o (joint_of old) (joint_of new))
       (sym found ∙ place-is plant scans old node all)
@@ -185,8 +193,8 @@ step-did old new node at s w is found items hosts ring events = record {
         plan = p.plan;
         log = log_of s;
         is = is-at plant scans old new at s (record s { controller = w }) all is items hosts;
-        made = scan-joint old new at s w is items hosts ring (stepped s.controller).history events
-            plant scans all
+        made = scan-joint old new at s w is items hosts network ring
+            (stepped s.controller).history events plant scans all
             ∙ ap (λ (l : List Entry). with_list at (log_of s) l (joint_of old))
             (stepped-is s.controller (fixed_of plant scans p.plan) p.stands.fixed);
       });
@@ -204,6 +212,15 @@ no-step-did old node none = record {
 
 -- ---- a hold turn
 
+-- a hold turn on the first network of a plant
+held-first : (plant : Plant) (scans : ℕ) → IsPlant plant → (old new : Joint)
+    → (let holder = (ring_after (first_net plant) (noted_on_rings old)).holder in
+    MakesHold plant scans (place_of_controller plant holder) (place_of_host plant holder) old new)
+    → MakesTurn plant scans (first_hold plant) old new
+held-first plant scans sound old new made =
+    subst (λ (o : Option NetPlan). MakesHoldOn plant scans o old new)
+    (sym (first-numbered plant sound)) made
+
 module _ (old new : Stations) (at : ℕ) (s t : ControllerStation)
     (is : slice_get old.controllers.items at ≡ Some s)
     (items : new.controllers.items ≡ set old.controllers.items at t)
@@ -214,12 +231,13 @@ module _ (old new : Stations) (at : ℕ) (s t : ControllerStation)
     → t.left ≡ node_has_left old.ring.net new.ring.history s.worker.node)
     (keeps : KeepsOn s.controller.fixed old.ring.net s.worker.node t.controller.history
     new.ring.history t.left) where
-  pub own-stands : (plant : Plant) (scans : ℕ) → StandAll plant scans old → StandAll plant scans new
-  own-stands plant scans all =
+  pub own-stands : new.network ≡ old.network → (plant : Plant) (scans : ℕ)
+      → StandAll plant scans old → StandAll plant scans new
+  own-stands network plant scans all =
       let p = at-place plant scans old at s all is in
-      let net : new.ring.net ≡ plant.net = stays.net ∙ all.net in
+      let net : new.ring.net ≡ (first_net plant) = stays.net ∙ all.net in
       let worker : s.worker.node ≡ p.plan.node = p.stands.worker_node in
-      stand-with plant scans old new at s t all is items hosts
+      stand-with plant scans old new at s t all is items hosts network
       (record {
         node = stays.node ∙ p.stands.node;
         worker_node = ap (λ (w : WorkerIs). w.node) stays.worker ∙ worker;
@@ -230,7 +248,7 @@ module _ (old new : Stations) (at : ℕ) (s t : ControllerStation)
             t.controller.history (own_side net) new.ring.history)
             net stays.stands;
         left = left plant scans all ∙ (λ i. node_has_left (all.net i) new.ring.history (worker i));
-        keeps = subst (λ (f : Fixed). KeepsOn f plant.net p.plan.node t.controller.history
+        keeps = subst (λ (f : Fixed). KeepsOn f (first_net plant) p.plan.node t.controller.history
             new.ring.history t.left) p.stands.fixed
             (subst (λ (net : NetPlan). KeepsOn s.controller.fixed net p.plan.node
             t.controller.history new.ring.history t.left) all.net
@@ -246,19 +264,20 @@ pub hold-did : (old new : Stations) (at : ℕ) (s t : ControllerStation)
     → position (λ (s : ControllerStation). s.node == (ring_of old.ring).holder)
     old.controllers.items ≡ Some at
     → new.controllers.items ≡ set old.controllers.items at t → new.hosts.items ≡ old.hosts.items
-    → s.worker.budget ≡ true → HeldController s t old.ring new.ring
-    → Did (λ plant scans. MakesTurn plant scans Hold) old new
-hold-did old new at s t is found items hosts budget held = record {
+    → new.network ≡ old.network → s.worker.budget ≡ true → HeldController s t old.ring new.ring
+    → Did (λ plant scans. MakesTurn plant scans (first_hold plant)) old new
+hold-did old new at s t is found items hosts network budget held = record {
   stand = own-stands old new at s t is items hosts held.stays
       (turn-ring s.controller.fixed old.ring.net s.worker.node s.controller.history
       t.controller.history old.ring.history new.ring.history held.end turn)
-      (λ plant scans all. held.left) held.keeps;
-  made = λ plant scans all.
+      (λ plant scans all. held.left) held.keeps network;
+  made = λ plant scans all. held-first plant scans all.sound (joint_of old) (joint_of new) (
       let p = at-place plant scans old at s all is in
-      let holder : (ring_of old.ring).holder ≡ (ring_after plant.net old.ring.history).holder =
+      let holder : (ring_of old.ring).holder ≡ (ring_after (first_net plant)
+      old.ring.history).holder =
       ap (λ (net : NetPlan). (ring_after net old.ring.history).holder) all.net in
       subst (λ (o : Option ℕ). MakesHold plant scans o
-      (place_of_host plant (ring_after plant.net old.ring.history).holder) (joint_of old)
+      (place_of_host plant (ring_after (first_net plant) old.ring.history).holder) (joint_of old)
       (joint_of new))
       (sym found ∙ (place-is plant scans old (ring_of old.ring).holder all ∙ ap
       (place_of_controller plant) holder))
@@ -269,7 +288,7 @@ hold-did old new at s t is found items hosts budget held = record {
         entries = t.controller.history;
         ring = new.ring.history;
         end = held.end;
-        turn = subst (λ (f : Fixed). HoldsTurn true true f plant.net p.plan.node true
+        turn = subst (λ (f : Fixed). HoldsTurn true true f (first_net plant) p.plan.node true
             s.controller.history t.controller.history
             old.ring.history new.ring.history held.end) p.stands.fixed
             (subst (λ (net : NetPlan). HoldsTurn true true s.controller.fixed net p.plan.node true
@@ -278,8 +297,8 @@ hold-did old new at s t is found items hosts budget held = record {
             (subst (λ (n : ℕ). HoldsTurn true true s.controller.fixed old.ring.net n true
             s.controller.history t.controller.history
             old.ring.history new.ring.history held.end) p.stands.worker_node turn));
-        made = joint-is plant scans old new at s t all is items hosts held.stays.node;
-      });
+        made = joint-is plant scans old new at s t all is items hosts network held.stays.node;
+      }));
 } where
   turn : HoldsTurn true true s.controller.fixed old.ring.net s.worker.node true s.controller.history
       t.controller.history
@@ -305,14 +324,14 @@ module _ (old new : Stations) (at : ℕ) (s t : HostStation)
   host-further = host-turn-ring old.ring.net s.worker.node s.host.plan s.host.history t.host.history
       old.ring.history new.ring.history t.left host-turn
 
-  pub host-hold-stands : (plant : Plant) (scans : ℕ) → StandAll plant scans old
-      → StandAll plant scans new
-  host-hold-stands plant scans all =
+  pub host-hold-stands : new.network ≡ old.network → (plant : Plant) (scans : ℕ)
+      → StandAll plant scans old → StandAll plant scans new
+  host-hold-stands network plant scans all =
       let p = host-at-place plant scans old at s all is in
-      let net : new.ring.net ≡ plant.net = held.net ∙ all.net in
+      let net : new.ring.net ≡ (first_net plant) = held.net ∙ all.net in
       let worker : s.worker.node ≡ p.plan.node = p.stands.worker_node in
       let now : t.worker.node ≡ p.plan.node = held.worker_node ∙ worker in
-      host-stand-with plant scans old new at s t all is items controllers
+      host-stand-with plant scans old new at s t all is items controllers network
       (record {
         node = held.node ∙ p.stands.node;
         worker_node = now;
@@ -324,7 +343,7 @@ module _ (old new : Stations) (at : ℕ) (s t : HostStation)
             held.stands.ties);
         counts = held.stands.counts;
         left = held.left ∙ (λ i. node_has_left (all.net i) new.ring.history (worker i));
-        keeps = subst (λ (plan : HostPlan). HostKeepsOn plan plant.net t.host.history
+        keeps = subst (λ (plan : HostPlan). HostKeepsOn plan (first_net plant) t.host.history
             new.ring.history t.left) p.stands.plan_is
             (subst (λ (net : NetPlan). HostKeepsOn s.host.plan net t.host.history new.ring.history
             t.left) all.net held.keeps);
@@ -333,19 +352,21 @@ module _ (old new : Stations) (at : ℕ) (s t : HostStation)
       (subst (λ (n : ℕ). Further (is_of n) old.ring.history new.ring.history) worker host-further)
       (subst (λ (net : NetPlan). IsLegalRing net new.ring.history) net held.ring_legal)
 
-  pub host-hold-did : position (λ (s : ControllerStation). s.node == (ring_of old.ring).holder)
+  pub host-hold-did : new.network ≡ old.network
+      → position (λ (s : ControllerStation). s.node == (ring_of old.ring).holder)
       old.controllers.items ≡ None
       → position (λ (s : HostStation). s.node == (ring_of old.ring).holder) old.hosts.items ≡ Some
       at
-      → Did (λ plant scans. MakesTurn plant scans Hold) old new
-  host-hold-did none found = record {
-    stand = host-hold-stands;
-    made = λ plant scans all.
+      → Did (λ plant scans. MakesTurn plant scans (first_hold plant)) old new
+  host-hold-did network none found = record {
+    stand = host-hold-stands network;
+    made = λ plant scans all. held-first plant scans all.sound (joint_of old) (joint_of new) (
         let p = host-at-place plant scans old at s all is in
-        let holder : (ring_of old.ring).holder ≡ (ring_after plant.net old.ring.history).holder =
+        let holder : (ring_of old.ring).holder ≡ (ring_after (first_net plant)
+        old.ring.history).holder =
         ap (λ (net : NetPlan). (ring_after net old.ring.history).holder) all.net in
         subst (λ (o : Option ℕ). MakesHold plant scans o
-        (place_of_host plant (ring_after plant.net old.ring.history).holder) (joint_of old)
+        (place_of_host plant (ring_after (first_net plant) old.ring.history).holder) (joint_of old)
         (joint_of new))
         (sym none ∙ (place-is plant scans old (ring_of old.ring).holder all ∙ ap
         (place_of_controller plant) holder))
@@ -359,7 +380,8 @@ module _ (old new : Stations) (at : ℕ) (s t : HostStation)
           entries = t.host.history;
           ring = new.ring.history;
           left = t.left;
-          turn = subst (λ (plan : HostPlan). HoldsHostTurn true plant.net p.plan.node plan true
+          turn = subst (λ (plan : HostPlan). HoldsHostTurn true
+              (first_net plant) p.plan.node plan true
               s.host.history t.host.history
               old.ring.history new.ring.history t.left) p.stands.plan_is
               (subst (λ (net : NetPlan). HoldsHostTurn true net p.plan.node s.host.plan true
@@ -368,8 +390,9 @@ module _ (old new : Stations) (at : ℕ) (s t : HostStation)
               (subst (λ (n : ℕ). HoldsHostTurn true old.ring.net n s.host.plan true s.host.history
               t.host.history
               old.ring.history new.ring.history t.left) p.stands.worker_node host-turn));
-          made = host-joint-is plant scans old new at s t all is items controllers held.node;
-        }));
+          made = host-joint-is plant scans old new at s t all is items controllers network
+              held.node;
+        })));
   }
 
 -- nobody holds the token
@@ -377,20 +400,42 @@ pub no-hold-did : (old : Stations)
     → position (λ (s : ControllerStation). s.node == (ring_of old.ring).holder)
     old.controllers.items ≡ None
     → position (λ (s : HostStation). s.node == (ring_of old.ring).holder) old.hosts.items ≡ None
-    → Did (λ plant scans. MakesTurn plant scans Hold) old old
+    → Did (λ plant scans. MakesTurn plant scans (first_hold plant)) old old
 no-hold-did old none no-host = record {
   stand = λ plant scans all. all;
-  made = λ plant scans all.
-      let holder : (ring_of old.ring).holder ≡ (ring_after plant.net old.ring.history).holder =
+  made = λ plant scans all. held-first plant scans all.sound (joint_of old) (joint_of old) (
+      let holder : (ring_of old.ring).holder ≡ (ring_after (first_net plant)
+      old.ring.history).holder =
       ap (λ (net : NetPlan). (ring_after net old.ring.history).holder) all.net in
       subst (λ (o : Option ℕ). MakesHold plant scans o
-      (place_of_host plant (ring_after plant.net old.ring.history).holder) (joint_of old)
+      (place_of_host plant (ring_after (first_net plant) old.ring.history).holder) (joint_of old)
       (joint_of old))
       (sym none ∙ (place-is plant scans old (ring_of old.ring).holder all ∙ ap
       (place_of_controller plant) holder))
       (subst (λ (o : Option ℕ). MakesHold plant scans None o (joint_of old) (joint_of old))
       (sym no-host ∙ (host-place-is plant scans old (ring_of old.ring).holder all ∙ ap
-      (place_of_host plant) holder)) refl);
+      (place_of_host plant) holder)) refl));
+}
+
+-- the ring that there is is that of the plant's first network
+pub hold-on-did : (old new : Stations) (network : ℕ) → network ≡ old.network
+    → Did (λ plant scans. MakesTurn plant scans (first_hold plant)) old new
+    → Did (λ plant scans. MakesTurn plant scans (Hold network)) old new
+hold-on-did old new network is did = record {
+  stand = did.stand;
+  made = λ plant scans all. subst
+      (λ (n : ℕ). MakesTurn plant scans (Hold n) (joint_of old) (joint_of new))
+      (sym (is ∙ all.network)) (did.made plant scans all);
+}
+
+-- and there is no other
+pub no-hold-on-did : (old : Stations) (network : ℕ) → network ≢ old.network
+    → Did (λ plant scans. MakesTurn plant scans (Hold network)) old old
+no-hold-on-did old network other = record {
+  stand = λ plant scans all. all;
+  made = λ plant scans all. subst
+      (λ (o : Option NetPlan). MakesHoldOn plant scans o (joint_of old) (joint_of old))
+      (sym (none-numbered plant all.sound network (λ e. other (e ∙ sym all.network)))) refl;
 }
 
 -- ---- a visit
@@ -422,16 +467,17 @@ module _ (old new : Stations) (at : ℕ) (s t : ControllerStation)
         visited.left ∙ (p.stands.left ∙ ((λ i. node_has_left (sym all.net i) old.ring.history
         (sym p.stands.worker_node i)) ∙ ap has_left (sym visited.status)))
 
-    visits-by : (plant : Plant) (scans : ℕ) (all : StandAll plant scans old) (b : Bool)
+    visits-by : new.network ≡ old.network → (plant : Plant) (scans : ℕ)
+        (all : StandAll plant scans old) (b : Bool)
         → VisitedWhere b s t old.ring new.ring
         → VisitsWhere b plant scans at (at-place plant scans old at s all is).plan (log_of s)
         (joint_of old) (joint_of new)
-    visits-by plant scans all true v =
+    visits-by network plant scans all true v =
         let p = at-place plant scans old at s all is in
         record {
           entries = t.controller.history;
           ring = new.ring.history;
-          visit = subst (λ (f : Fixed). VisitsEnd true true f plant.net p.plan.node
+          visit = subst (λ (f : Fixed). VisitsEnd true true f (first_net plant) p.plan.node
               s.controller.history t.controller.history
               old.ring.history new.ring.history) p.stands.fixed
               (subst (λ (net : NetPlan). VisitsEnd true true s.controller.fixed net p.plan.node
@@ -440,23 +486,26 @@ module _ (old new : Stations) (at : ℕ) (s t : ControllerStation)
               (subst (λ (n : ℕ). VisitsEnd true true s.controller.fixed old.ring.net n
               s.controller.history t.controller.history
               old.ring.history new.ring.history) p.stands.worker_node v));
-          made = joint-is plant scans old new at s t all is items hosts visited.stays.node;
+          made = joint-is plant scans old new at s t all is items hosts network
+              visited.stays.node;
         }
-    visits-by plant scans all false v =
+    visits-by network plant scans all false v =
         let same : new.controllers.items ≡ old.controllers.items =
         items ∙ (ap (set old.controllers.items at) v.0 ∙ set-there old.controllers.items at s is) in
         λ i. record {
           controllers = map log_of (same i);
           hosts = map host_log_of (hosts i);
-          ring = (v.1 i).history;
+          bridges = [];
+          rings = record { network = network i; entries = (v.1 i).history } ∷ [];
         }
 
-    pub visit-did : (node : ℕ) → position (λ (s : ControllerStation). s.node == node)
+    pub visit-did : new.network ≡ old.network → (node : ℕ)
+        → position (λ (s : ControllerStation). s.node == node)
         old.controllers.items ≡ Some at
         → Did (λ plant scans. MakesTurn plant scans (Visit node)) old new
-    visit-did node found = record {
+    visit-did network node found = record {
       stand = own-stands old new at s t is items hosts visited.stays visit-further visit-left
-          visited.keeps;
+          visited.keeps network;
       made = λ plant scans all. subst
           (λ (o : Option ℕ). MakesVisit plant scans o (joint_of old) (joint_of new))
           (sym found ∙ place-is plant scans old node all)
@@ -472,7 +521,7 @@ module _ (old new : Stations) (at : ℕ) (s t : ControllerStation)
             is = is-at plant scans old new at s t all is items hosts;
             visits = subst (λ (b : Bool). VisitsWhere b plant scans at p.plan (log_of s)
                 (joint_of old) (joint_of new)) due
-                (visits-by plant scans all (is_visit_due old.ring s) visited.visit);
+                (visits-by network plant scans all (is_visit_due old.ring s) visited.visit);
           });
     }
 
@@ -517,12 +566,13 @@ module _ (old new : Stations) (at : ℕ) (s t : ControllerStation)
           (is_off s.controller) s.worker.node;
     }
 
-    pub came-did : (node : ℕ) → position (λ (s : ControllerStation). s.node == node)
+    pub came-did : new.network ≡ old.network → (node : ℕ)
+        → position (λ (s : ControllerStation). s.node == node)
         old.controllers.items ≡ Some at
         → Did (λ plant scans. MakesTurn plant scans (turns.Away node)) old new
-    came-did node found = record {
+    came-did network node found = record {
       stand = own-stands old new at s t is items hosts came.stays came-further
-          (λ plant scans all. came.left) came.keeps;
+          (λ plant scans all. came.left) came.keeps network;
       made = λ plant scans all. subst
           (λ (o : Option ℕ). MakesAwayTurn plant scans o (joint_of old) (joint_of new))
           (sym found ∙ place-is plant scans old node all)
@@ -531,7 +581,7 @@ module _ (old new : Stations) (at : ℕ) (s t : ControllerStation)
           ap (map log_of) items ∙ logs-same old.controllers.items at s t is
           (λ i. record { node = came.stays.node i; entries = came.history i }) in
           let ring : new.ring.history ≡ old.ring.history
-          ++ coming_back (status_at plant.net old.ring.history p.plan.node)
+          ++ coming_back (status_at (first_net plant) old.ring.history p.plan.node)
           (is_off_at (fixed_of plant scans p.plan) s.controller.history) p.plan.node =
           came.came ∙ (λ i. old.ring.history
           ++ coming_back (status_at (all.net i) old.ring.history (p.stands.worker_node i))
@@ -543,7 +593,8 @@ module _ (old new : Stations) (at : ℕ) (s t : ControllerStation)
             made = λ i. record {
               controllers = logs i;
               hosts = map host_log_of (hosts i);
-              ring = ring i;
+              bridges = [];
+              rings = record { network = (network ∙ all.network) i; entries = ring i } ∷ [];
             };
           });
     }

@@ -16,7 +16,8 @@ use Rattle.tied_lists.proofs.Boxes.{count-cons, one-if, none-if}
 use Rattle.plant_types.specs.declared.net.HostPlan.{HostPlan}
 use Rattle.plant_types.specs.declared.plan.ControllerPlan.{ControllerPlan}
 use Rattle.plant_types.specs.declared.plan.Plant.{Plant}
-use Rattle.plant_types.specs.Plans.{IsNode, IsPlant, controller_nodes, host_nodes}
+use Rattle.plant_types.specs.Plans.{IsNode, IsPlant, controller_nodes, first_net, host_nodes}
+use Rattle.plant_types.proofs.OneNet.{on-net}
 use Rattle.serial_run.proofs.Rings.{count-more}
 
 abbrev counted : ℕ → List ℕ → ℕ
@@ -108,10 +109,11 @@ not-both plant sound i j p q at-i at-j same =
     let two = some-there m (host_nodes plant) j (node-at (λ plan. plan.node) plant.hosts j q at-j)
     in
     let all = count-more (λ n. m == n) (controller_nodes plant) (host_nodes plant) in
-    let members = once-rising m plant.net.members
-    (AllPairs-from_increasing plant.net.members sound.net.members.rise) in
+    let members = once-rising m (first_net plant).members
+    (AllPairs-from_increasing (first_net plant).members (on-net plant sound).plan.members.rise) in
     let moved = sum_by-IsPermutation (λ n. cond (m == n) 1 0)
-    (controller_nodes plant ++ host_nodes plant) plant.net.members sound.members in
+    (controller_nodes plant ++ host_nodes plant) (first_net plant).members
+    (on-net plant sound).members in
     omega arith
 
 -- ---- the nodes of stations are members
@@ -121,30 +123,34 @@ contains-at xs k x is = (k, slice_get_within xs k x is, get_or_from_slice_get xs
 
 pub controller-member : (plant : Plant) → IsPlant plant → (k : ℕ) (p : ControllerPlan)
     → slice_get plant.controllers k ≡ Some p
-    → IsMember plant.net p.node
+    → IsMember (first_net plant) p.node
 controller-member plant sound k p is =
-    Contains-permutation (controller_nodes plant ++ host_nodes plant) plant.net.members p.node
-    sound.members
+    Contains-permutation (controller_nodes plant ++ host_nodes plant)
+    (first_net plant).members p.node
+    (on-net plant sound).members
     (Contains-append_left (controller_nodes plant) (host_nodes plant) p.node
     (contains-at (controller_nodes plant) k p.node
     (node-at (λ plan. plan.node) plant.controllers k p is)))
 
 pub host-member : (plant : Plant) → IsPlant plant → (k : ℕ) (p : HostPlan)
     → slice_get plant.hosts k ≡ Some p
-    → IsMember plant.net p.node
+    → IsMember (first_net plant) p.node
 host-member plant sound k p is =
-    Contains-permutation (controller_nodes plant ++ host_nodes plant) plant.net.members p.node
-    sound.members
+    Contains-permutation (controller_nodes plant ++ host_nodes plant)
+    (first_net plant).members p.node
+    (on-net plant sound).members
     (Contains-append_right (controller_nodes plant) (host_nodes plant) p.node
     (contains-at (host_nodes plant) k p.node (node-at (λ plan. plan.node) plant.hosts k p is)))
 
-pub member-node : (plant : Plant) → IsPlant plant → (n : ℕ) → IsMember plant.net n → IsNode n
+pub member-node : (plant : Plant) → IsPlant plant → (n : ℕ) → IsMember (first_net plant) n
+    → IsNode n
 member-node plant sound n member =
-    All-contains IsNode plant.net.members n sound.net.members.each member
+    All-contains IsNode (first_net plant).members n (on-net plant sound).plan.members.each member
 
-pub low-members : (plant : Plant) → IsPlant plant → All (λ m. m < addresses) plant.net.members
+pub low-members : (plant : Plant) → IsPlant plant → All (λ m. m < addresses)
+    (first_net plant).members
 low-members plant sound k d within =
-    let to = (sound.net.members.each k d within).to in omega (arith, to)
+    let to = ((on-net plant sound).plan.members.each k d within).to in omega (arith, to)
 
 -- a member is the node of a controller or of a host
 pub record IsStation (plant : Plant) (n : ℕ) : Type 0 where
@@ -160,7 +166,7 @@ from-map node (x ∷ xs) n zero within is = (0, x, refl, is)
 from-map node (x ∷ xs) n (suc k) within is =
     let more = from-map node xs n k (omega arith) is in (suc more.0, more.1, more.2, more.3)
 
-pub member-station : (plant : Plant) → IsPlant plant → (n : ℕ) → IsMember plant.net n
+pub member-station : (plant : Plant) → IsPlant plant → (n : ℕ) → IsMember (first_net plant) n
     → IsStation plant n
 member-station plant sound n member = record {
   found = ⊎_elim
@@ -169,7 +175,7 @@ member-station plant sound n member = record {
       (λ (c : Contains (host_nodes plant) n). inr
       (from-map (λ plan. plan.node) plant.hosts n c.0 c.1 c.2))
       (Contains-append_cases (controller_nodes plant) (host_nodes plant) n
-      (Contains-permutation plant.net.members (controller_nodes plant ++ host_nodes plant) n
-      (IsPermutation-sym (controller_nodes plant ++ host_nodes plant) plant.net.members
-      sound.members) member));
+      (Contains-permutation (first_net plant).members (controller_nodes plant ++ host_nodes plant) n
+      (IsPermutation-sym (controller_nodes plant ++ host_nodes plant) (first_net plant).members
+      (on-net plant sound).members) member));
 }

@@ -6,6 +6,8 @@ use Rattle.std.specs.List.{AllZip, list_all, slice_get}
 use Rattle.plant_types.specs.declared.net.HostPlan.{HostPlan}
 use Rattle.plant_types.specs.declared.plan.ControllerPlan.{ControllerPlan}
 use Rattle.plant_types.specs.declared.plan.Plant.{Plant}
+use Rattle.plant_types.specs.Plans.{first_net}
+use Rattle.plant_types.proofs.OneNet.{on-net}
 use Rattle.ring_core.specs.declared.entry.RingEntry.{RingEntry}
 use Rattle.scan_order.specs.declared.due.ScanStep.{ScanStep}
 use Rattle.controller_core.specs.declared.fixed.Fixed.{Fixed}
@@ -104,24 +106,27 @@ module _ (plant : Plant) (scans : ℕ) (run : Stations) (all : StandAll plant sc
       → StandsController plant scans ring plan s
       → HasFinished plant scans ring plan (log_of s)
   finished-at k plan s at-plan left ended collected out' st =
-      let answer = all.sound.net.numbers.answer.from in
+      let answer = (on-net plant all.sound).plan.numbers.answer.from in
       let node : s.worker.node ≡ s.node = st.worker_node ∙ sym st.node in
-      let member : IsMemberWorker plant.net s.worker.node = subst (IsMemberWorker plant.net)
+      let member : IsMemberWorker (first_net plant) s.worker.node = subst (IsMemberWorker
+      (first_net plant))
       (sym st.worker_node) (record {
         members = low-members plant all.sound;
         member = controller-member plant all.sound k plan at-plan;
         answer = omega arith;
       }) in
       record {
-        stands = subst (λ (f : Fixed). StandsTied f plant.net s.node s.controller.history ring)
+        stands = subst (λ (f : Fixed). StandsTied f (first_net plant) s.node s.controller.history
+            ring)
             st.fixed
-            (subst (λ (n : ℕ). StandsTied s.controller.fixed plant.net n s.controller.history ring)
+            (subst (λ (n : ℕ). StandsTied s.controller.fixed (first_net plant) n
+            s.controller.history ring)
             node
             (stands-of s.worker (plain_ram_side s.controller) s.controller.history
-            (own_side plant.net) ring member st.legal st.standing));
-        keeps = subst (λ (n : ℕ). KeepsOn (fixed_of plant scans plan) plant.net n
+            (own_side (first_net plant)) ring member st.legal st.standing));
+        keeps = subst (λ (n : ℕ). KeepsOn (fixed_of plant scans plan) (first_net plant) n
             s.controller.history ring true) (sym st.node)
-            (subst (λ (b : Bool). KeepsOn (fixed_of plant scans plan) plant.net plan.node
+            (subst (λ (b : Bool). KeepsOn (fixed_of plant scans plan) (first_net plant) plan.node
             s.controller.history ring b) left st.keeps);
         ended = ap (λ (f : Fixed). has_ended_at f s.controller.history) (sym st.fixed) ∙ ended;
         collected = ap (λ (f : Fixed). has_started_at f s.controller.history) (sym st.fixed)
@@ -156,8 +161,9 @@ module _ (plant : Plant) (scans : ℕ) (run : Stations) (all : StandAll plant sc
       plant.hosts run.hosts.items
       all.hosts (λ k plan s at-plan at-s st. record {
         node = st.node;
-        stands = subst (λ (p : HostPlan). HostStandsTied p plant.net s.host.history ring) st.plan_is
-            (host-stands-of plan.node s.host (own_side plant.net) ring st.ties);
-        keeps = subst (λ (b : Bool). HostKeepsOn plan plant.net s.host.history ring b)
+        stands = subst (λ (p : HostPlan). HostStandsTied p (first_net plant) s.host.history ring)
+            st.plan_is
+            (host-stands-of plan.node s.host (own_side (first_net plant)) ring st.ties);
+        keeps = subst (λ (b : Bool). HostKeepsOn plan (first_net plant) s.host.history ring b)
             (host-left run here k s at-s) st.keeps;
       }))

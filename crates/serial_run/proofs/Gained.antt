@@ -6,7 +6,7 @@ use Rattle.std.specs.List.{AllZip, position, slice_get}
 use Rattle.std.proofs.lemmas.Bool.{eq-eqb, eqb-true, true≢false}
 use Rattle.std.proofs.lemmas.List.Elements.{All-cons, All-nil}
 use Rattle.plant_types.specs.declared.plan.Plant.{Plant}
-use Rattle.ring_core.specs.Kept.{RingLog}
+use Rattle.ring_core.specs.Kept.{KeptRing}
 use Rattle.serial_run.specs.declared.stations.ControllerStation.{ControllerStation}
 use Rattle.serial_run.specs.declared.stations.Stations.{Stations}
 use Rattle.serial_run.specs.Stations.{StandAll}
@@ -15,17 +15,17 @@ use Rattle.serial_run.proofs.Distinct.{same-controller}
 use Rattle.serial_run.proofs.Lists.{position-none, zip-both}
 use Rattle.serial_run.proofs.TurnsMade.{at-place}
 
-module _ (Has : RingLog → ControllerStation → Type 0) where
-  abbrev StaysOne : RingLog → RingLog → ControllerStation → ControllerStation → Type 0
+module _ (Has : KeptRing → ControllerStation → Type 0) where
+  abbrev StaysOne : KeptRing → KeptRing → ControllerStation → ControllerStation → Type 0
   StaysOne ring new_ring a b = Has ring a → Has new_ring b
 
-  pub stays-same : (ring : RingLog) (xs : List ControllerStation)
+  pub stays-same : (ring : KeptRing) (xs : List ControllerStation)
       → AllZip (StaysOne ring ring) xs xs
   stays-same ring [] = tt
   stays-same ring (x ∷ xs) = ((λ h. h), stays-same ring xs)
 
   -- a turn that leaves the stations
-  pub stays-all : (ring new_ring : RingLog) (xs : List ControllerStation)
+  pub stays-all : (ring new_ring : KeptRing) (xs : List ControllerStation)
       → ((k : ℕ) (x : ControllerStation) → slice_get xs k ≡ Some x → Has ring x → Has new_ring x)
       → AllZip (StaysOne ring new_ring) xs xs
   stays-all ring new_ring [] each = tt
@@ -33,7 +33,7 @@ module _ (Has : RingLog → ControllerStation → Type 0) where
       (each 0 x refl, stays-all ring new_ring xs (λ k. each (suc k)))
 
   -- a turn of the station at a place
-  pub stays-with : (ring new_ring : RingLog) (xs : List ControllerStation) (at : ℕ)
+  pub stays-with : (ring new_ring : KeptRing) (xs : List ControllerStation) (at : ℕ)
       (s t : ControllerStation) → slice_get xs at ≡ Some s → (Has ring s → Has new_ring t)
       → ((k : ℕ) (x : ControllerStation) → slice_get xs k ≡ Some x → k ≢ at → Has ring x
       → Has new_ring x)
@@ -55,7 +55,7 @@ module _ (Has : RingLog → ControllerStation → Type 0) where
       zip-both (StaysOne a.ring b.ring) (StaysOne b.ring c.ring) (StaysOne a.ring c.ring)
       a.controllers.items b.controllers.items c.controllers.items x y (λ s t u f g h. g (f h))
 
-  stay-each : (ring new_ring : RingLog) (xs ys : List ControllerStation)
+  stay-each : (ring new_ring : KeptRing) (xs ys : List ControllerStation)
       → AllZip (StaysOne ring new_ring) xs ys → All (Has ring) xs → All (Has new_ring) ys
   stay-each ring new_ring [] [] stay all = All-nil (Has new_ring)
   stay-each ring new_ring [] (y ∷ ys) stay all = absurd stay
@@ -69,7 +69,7 @@ module _ (Has : RingLog → ControllerStation → Type 0) where
 
   -- ---- the turn of one node
 
-  gains-none : (node : ℕ) (ring : RingLog) (xs : List ControllerStation)
+  gains-none : (node : ℕ) (ring : KeptRing) (xs : List ControllerStation)
       → ((k : ℕ) (x : ControllerStation) → slice_get xs k ≡ Some x → x.node ≢ node)
       → AllZip (Gains Has node ring ring) xs xs
   gains-none node ring [] other = tt
@@ -79,10 +79,10 @@ module _ (Has : RingLog → ControllerStation → Type 0) where
   )
 
   -- the other stations
-  abbrev OtherStays : ℕ → RingLog → RingLog → ControllerStation → Type 0
+  abbrev OtherStays : ℕ → KeptRing → KeptRing → ControllerStation → Type 0
   OtherStays node ring new_ring x = (x.node ≢ node) × (Has ring x → Has new_ring x)
 
-  gains-rest : (node : ℕ) (ring new_ring : RingLog) (xs : List ControllerStation)
+  gains-rest : (node : ℕ) (ring new_ring : KeptRing) (xs : List ControllerStation)
       → ((k : ℕ) (x : ControllerStation) → slice_get xs k ≡ Some x
       → OtherStays node ring new_ring x)
       → AllZip (Gains Has node ring new_ring) xs xs
@@ -92,7 +92,7 @@ module _ (Has : RingLog → ControllerStation → Type 0) where
     gains-rest node ring new_ring xs (λ k. other (suc k)),
   )
 
-  gains-at : (node : ℕ) (ring new_ring : RingLog) (xs : List ControllerStation) (at : ℕ)
+  gains-at : (node : ℕ) (ring new_ring : KeptRing) (xs : List ControllerStation) (at : ℕ)
       (s t : ControllerStation) → slice_get xs at ≡ Some s → Has new_ring t
       → ((k : ℕ) (x : ControllerStation) → slice_get xs k ≡ Some x → k ≢ at
       → OtherStays node ring new_ring x)
@@ -157,7 +157,7 @@ module _ (Has : RingLog → ControllerStation → Type 0) where
 
   -- ---- turns of all nodes, one after another
 
-  abbrev pub SomeHave : ℕ → RingLog → List ControllerStation → Type 0
+  abbrev pub SomeHave : ℕ → KeptRing → List ControllerStation → Type 0
   SomeHave at ring xs = (k : ℕ) (d : ControllerStation) → k < at → k < length xs
       → Has ring (get_or xs k d)
 
@@ -166,7 +166,7 @@ module _ (Has : RingLog → ControllerStation → Type 0) where
   everyone-has at run is some = λ k d low. some k d (omega (arith, is, low)) low
 
   -- those before a place, and the station of the place
-  more-by : (node : ℕ) (ring new_ring : RingLog) (xs ys : List ControllerStation) (at : ℕ)
+  more-by : (node : ℕ) (ring new_ring : KeptRing) (xs ys : List ControllerStation) (at : ℕ)
       → AllZip (Gains Has node ring new_ring) xs ys → SomeHave at ring xs
       → ((d : ControllerStation) → at < length xs → (get_or xs at d).node ≡ node)
       → (k : ℕ) (d : ControllerStation) → k < suc at → k < length ys

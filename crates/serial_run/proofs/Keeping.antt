@@ -6,10 +6,12 @@ use Rattle.std.specs.List.{slice_get}
 use Rattle.plant_types.specs.declared.net.NetPlan.{NetPlan}
 use Rattle.plant_types.specs.declared.net.HostPlan.{HostPlan}
 use Rattle.plant_types.specs.declared.plan.Plant.{Plant}
+use Rattle.plant_types.specs.Plans.{first_net}
+use Rattle.plant_types.proofs.OneNet.{on-net}
 use Rattle.ring_core.specs.declared.entry.RingEntry.{RingEntry}
 use Rattle.ring_core.specs.declared.status.NodeStatus.{NodeStatus}
 use Rattle.ring_core.specs.declared.status.NodeStatus.TheVariants.{In, Away, Asking, Gone}
-use Rattle.ring_core.specs.Kept.{RingLog}
+use Rattle.ring_core.specs.Kept.{KeptRing}
 use Rattle.controller_core.specs.declared.fixed.Fixed.{Fixed}
 use Rattle.controller_core.specs.Controller.{ControllerIs, IsLegal, is_off}
 use Rattle.joint_history.specs.JointLaws.{fixed_of}
@@ -39,14 +41,14 @@ use Rattle.serial_run.proofs.Grown.{Further, others-away}
 use Rattle.serial_run.proofs.Holding.{in-left}
 use Rattle.serial_run.proofs.TurnsMade.{at-place, host-at-place}
 
-pub stands-before : (w : WorkerIs) (v : ControllerIs) (ring : RingLog)
+pub stands-before : (w : WorkerIs) (v : ControllerIs) (ring : KeptRing)
     → IsMemberWorker ring.net w.node → IsLegal v.fixed v.history
     → Standing w (plain_ram_side v) v.history (own_side ring.net) ring.history
     → StandsTied v.fixed ring.net w.node v.history ring.history
 stands-before w v ring member legal s = stands-of w (plain_ram_side v) v.history
     (own_side ring.net) ring.history member legal s
 
-pub stands-behind : (w u : WorkerIs) (v x : ControllerIs) (ring new_ring : RingLog)
+pub stands-behind : (w u : WorkerIs) (v x : ControllerIs) (ring new_ring : KeptRing)
     → IsMemberWorker ring.net w.node → IsLegal x.fixed x.history
     → IsSameWorker w u → x.fixed ≡ v.fixed → new_ring.net ≡ ring.net
     → Standing u (plain_ram_side x) x.history (own_side new_ring.net) new_ring.history
@@ -66,7 +68,7 @@ stands-behind w u v x ring new_ring member legal worker fixed net s =
 pub no-bridge-beside : (plant : Plant) (scans : ℕ) (run : Stations) (n : ℕ)
     → StandAll plant scans run → IsNoBridge run.ring.net n
 no-bridge-beside plant scans run n all = subst (λ (net : NetPlan). IsNoBridge net n) (sym all.net)
-    (none-bridges plant.net n all.sound.no_bridge)
+    (none-bridges (first_net plant) n (on-net plant all.sound).no_bridge)
 
 -- what a station keeps, beside the ring alone
 pub keeps-beside : (plant : Plant) (scans : ℕ) (run : Stations) (at : ℕ) (s : ControllerStation)
@@ -74,10 +76,10 @@ pub keeps-beside : (plant : Plant) (scans : ℕ) (run : Stations) (at : ℕ) (s 
     → slice_get run.controllers.items at ≡ Some s → KeepsBeside s run.ring
 keeps-beside plant scans run at s all is =
     let p = at-place plant scans run at s all is in
-    let answer = all.sound.net.numbers.answer.from in
+    let answer = (on-net plant all.sound).plan.numbers.answer.from in
     record {
       member = subst (λ (net : NetPlan). IsMemberWorker net s.worker.node) (sym all.net)
-          (subst (IsMemberWorker plant.net) (sym p.stands.worker_node) (record {
+          (subst (IsMemberWorker (first_net plant)) (sym p.stands.worker_node) (record {
             members = low-members plant all.sound;
             member = controller-member plant all.sound at p.plan p.plan_is;
             answer = omega arith;
@@ -87,7 +89,8 @@ keeps-beside plant scans run at s all is =
           run.ring.history s.left) (sym p.stands.fixed)
           (subst (λ (net : NetPlan). KeepsOn (fixed_of plant scans p.plan) net s.worker.node
           s.controller.history run.ring.history s.left) (sym all.net)
-          (subst (λ (n : ℕ). KeepsOn (fixed_of plant scans p.plan) plant.net n s.controller.history
+          (subst (λ (n : ℕ). KeepsOn (fixed_of plant scans p.plan)
+          (first_net plant) n s.controller.history
           run.ring.history s.left) (sym p.stands.worker_node)
           p.stands.keeps));
     }
@@ -148,7 +151,7 @@ is-away Asking away = absurd (let no' : false ≡ true = away in cc)
 is-away Gone away = absurd (let no' : false ≡ true = away in cc)
 
 -- a node that is away behind a turn of another was so before
-pub other-away : (old new : RingLog) (n : ℕ) (x : ControllerStation) → new.net ≡ old.net
+pub other-away : (old new : KeptRing) (n : ℕ) (x : ControllerStation) → new.net ≡ old.net
     → x.node ≢ n → Further (is_of n) old.history new.history → IsOffAway old x → IsOffAway new x
 other-away old new n x net other f off away =
     let there : status_at old.net new.history x.node ≡ Away =

@@ -11,10 +11,11 @@ use Rattle.tied_lists.specs.Own.{own}
 use Rattle.tied_lists.specs.Items.{AController, AHost}
 use Rattle.tied_lists.specs.Tied.{Tied}
 use Rattle.joint_history.specs.declared.joint.Joint.{Joint}
-use Rattle.joint_history.specs.JointLaws.{IsJoint, IsLegalJoint, IsLegalLog, IsLegalHostLog}
-use Rattle.joint_history.specs.JointLaws.{IsTiedController}
-use Rattle.joint_history.specs.JointLaws.{IsTiedHost}
+use Rattle.joint_history.specs.JointLaws.{IsJoint, IsLegalBridgeLog, IsLegalHostLog, IsLegalJoint}
+use Rattle.joint_history.specs.JointLaws.{IsLegalLog, IsLegalRingLog, IsTiedBridge}
+use Rattle.joint_history.specs.JointLaws.{IsTiedController, IsTiedHost}
 use Rattle.joint_history.specs.Reading.{items_of, host_items_of}
+use Rattle.joint_history.proofs.OneRing.{bridges-zip, rings-legal}
 use Rattle.entry_causes.specs.InTime.{InTime, HostInTime}
 use Rattle.entry_causes.specs.Joint.{IsControllerInTime, IsHostInTime, StationsAreInTime}
 use Rattle.serial_run.specs.declared.order.Turn.{Turn}
@@ -57,7 +58,10 @@ stand-legal plant scans run all = record {
         subst (λ (p : HostPlan). IsHostHistory p s.host.history) st.plan_is
             st.ties.legal,
       ));
-  ring = all.legal;
+  bridges = bridges-zip IsLegalBridgeLog plant all.sound;
+  rings = subst (λ (n : ℕ). AllZip IsLegalRingLog plant.nets
+      (record { network = n; entries = run.ring.history } ∷ [])) (sym all.network)
+      (rings-legal plant run.ring.history all.sound all.legal);
 }
 
 pub stand-joint : (plant : Plant) (scans : ℕ) (run : Stations) → StandAll plant scans run
@@ -73,6 +77,7 @@ stand-joint plant scans run all = record {
       plant.hosts run.hosts.items all.hosts
       (λ plan s st. subst (λ (n : ℕ). Tied AHost (host_items_of s.host.history)
       (own n run.ring.history)) (sym st.node) st.ties.tied);
+  bridges = All-nil (IsTiedBridge run.ring.history);
 }
 
 pub stand-in-time : (plant : Plant) (scans : ℕ) (run : Stations) → StandAll plant scans run

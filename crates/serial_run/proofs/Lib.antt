@@ -1,6 +1,7 @@
 pub mod Lists
 pub mod Rings
 pub mod Distinct
+pub mod Numbered
 pub mod Grown
 pub mod Standings
 pub mod HeldTurns

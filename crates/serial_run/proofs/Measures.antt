@@ -12,7 +12,7 @@ use Rattle.plant_types.specs.declared.net.NetPlan.{NetPlan}
 use Rattle.plant_types.specs.declared.plan.Plant.{Plant}
 use Rattle.ring_core.specs.declared.entry.RingEntry.{RingEntry}
 use Rattle.ring_core.specs.Machine.{is_in, ring_after}
-use Rattle.ring_core.specs.Kept.{RingLog, ring_of}
+use Rattle.ring_core.specs.Kept.{KeptRing, ring_of}
 use Rattle.ring_core.specs.Legal.{IsMember}
 use Rattle.controller_core.specs.declared.entry.Entry.{Entry}
 use Rattle.controller_core.specs.declared.entry.Entry.TheVariants as entries
@@ -40,6 +40,7 @@ use Rattle.turn_laws.specs.Laws.{SomebodyHolds}
 use Rattle.turn_laws.proofs.Holders.{there-member}
 use Rattle.serial_run.proofs.Lists.{zip-at, zip-at-first, position-none}
 use Rattle.whole_scan.proofs.ScanSteps.{quiet-scan}
+use Rattle.plant_types.specs.Plans.{first_net}
 
 -- ---- scans
 
@@ -160,11 +161,11 @@ sum-less f g (z ∷ xs) (suc at) x y is less same =
 
 -- ---- hold turns
 
-abbrev turns_in : RingLog → ℕ → ℕ → Bool → ℕ
+abbrev turns_in : KeptRing → ℕ → ℕ → Bool → ℕ
 turns_in ring node failures left = turns_of ring.net ring.history node failures left
 
 -- those of other nodes
-other-turns : (old new : RingLog) (n m failures : ℕ) (left : Bool) → new.net ≡ old.net → m ≢ n
+other-turns : (old new : KeptRing) (n m failures : ℕ) (left : Bool) → new.net ≡ old.net → m ≢ n
     → Further (is_of n) old.history new.history
     → turns_in new m failures left ≡ turns_in old m failures left
 other-turns old new n m failures left net other f =
@@ -173,7 +174,7 @@ other-turns old new n m failures left net other f =
     else (old.net.holds - count_by is_pass b) * 2 + unnoticed_of failures b + 1)
     (others-own n m old.history new.history other f)
 
-pub own-turns : (old new : RingLog) (n failures : ℕ) (left was : Bool) → new.net ≡ old.net
+pub own-turns : (old new : KeptRing) (n failures : ℕ) (left was : Bool) → new.net ≡ old.net
     → was ≡ false
     → turns_of old.net new.history n failures left < turns_of old.net old.history n failures false
     → turns_in new n failures left < turns_in old n failures was
@@ -187,10 +188,10 @@ here-counted : (left : Bool) → not left ≡ true → left ≡ false
 here-counted true is = absurd (cc)
 here-counted false is = refl
 
-abbrev station_turns : RingLog → ControllerStation → ℕ
+abbrev station_turns : KeptRing → ControllerStation → ℕ
 station_turns ring s = turns_in ring s.node (failures_of s) s.left
 
-abbrev host_turns : RingLog → HostStation → ℕ
+abbrev host_turns : KeptRing → HostStation → ℕ
 host_turns ring s = turns_in ring s.node 0 s.left
 
 -- a hold turn of a controller's node
@@ -310,7 +311,7 @@ station-open run some = ⊎_elim
 module _ (law : SomebodyHolds) (plant : Plant) (scans : ℕ) (run : Stations)
     (all : StandAll plant scans run) where
   abbrev left : ℕ → Bool
-  left n = node_has_left plant.net run.ring.history n
+  left n = node_has_left (first_net plant) run.ring.history n
 
   some-there : stations_here run ≢ 0 → (n : ℕ) × (left n ≡ false)
   some-there some = ⊎_elim
@@ -331,18 +332,18 @@ module _ (law : SomebodyHolds) (plant : Plant) (scans : ℕ) (run : Stations)
       (not-both-zero _ _ some)
 
   pub holder-member : stations_here run ≢ 0
-      → IsMember plant.net (ring_after plant.net run.ring.history).holder
-      × (is_in (status_at plant.net run.ring.history
-      (ring_after plant.net run.ring.history).holder) ≡ true)
+      → IsMember (first_net plant) (ring_after (first_net plant) run.ring.history).holder
+      × (is_in (status_at (first_net plant) run.ring.history
+      (ring_after (first_net plant) run.ring.history).holder) ≡ true)
   holder-member some =
-      let holder = (ring_after plant.net run.ring.history).holder in
+      let holder = (ring_after (first_net plant) run.ring.history).holder in
       let somebody = some-there some in
       ⊎_elim
-      (λ (is : status_at plant.net run.ring.history holder ≡ In).
-      (there-member plant.net run.ring.history holder all.legal (ap is_in is), ap is_in is))
+      (λ (is : status_at (first_net plant) run.ring.history holder ≡ In).
+      (there-member (first_net plant) run.ring.history holder all.legal (ap is_in is), ap is_in is))
       (λ (nobody : (holder ≡ 0) × ((k : ℕ) → left k ≡ true)). absurd (true≢false
       (sym (nobody.1 somebody.0) ∙ somebody.1)))
-      (law plant.net run.ring.history (low-members plant all.sound) all.legal)
+      (law (first_net plant) run.ring.history (low-members plant all.sound) all.legal)
 
   -- then the holder is a station's node
   pub holder-found : stations_here run ≢ 0
@@ -351,12 +352,12 @@ module _ (law : SomebodyHolds) (plant : Plant) (scans : ℕ) (run : Stations)
       → position (λ (s : HostStation). s.node == (ring_of run.ring).holder) run.hosts.items ≡ None
       → ⊥
   holder-found some none no-host =
-      let holder = (ring_after plant.net run.ring.history).holder in
+      let holder = (ring_after (first_net plant) run.ring.history).holder in
       let same : (ring_of run.ring).holder ≡ holder = ap
       (λ (net : NetPlan). (ring_after net run.ring.history).holder) all.net in
       let somebody = some-there some in
       ⊎_elim
-      (λ (is : status_at plant.net run.ring.history holder ≡ In). ⊎_elim
+      (λ (is : status_at (first_net plant) run.ring.history holder ≡ In). ⊎_elim
       (λ (c : (k : ℕ) × (p : _) × (slice_get plant.controllers k ≡ Some p) × (p.node ≡ holder)).
       let its = zip-at-first (StandsController plant scans run.ring.history) plant.controllers
       run.controllers.items c.0 c.1 all.controllers c.2 in
@@ -372,10 +373,10 @@ module _ (law : SomebodyHolds) (plant : Plant) (scans : ℕ) (run : Stations)
       let yes = eq-eqb its.0.node (ring_of run.ring).holder (its.2.node ∙ (c.3 ∙ sym same)) in
       true≢false (sym yes ∙ no'))
       (member-station plant all.sound holder
-      (there-member plant.net run.ring.history holder all.legal (ap is_in is))).found)
+      (there-member (first_net plant) run.ring.history holder all.legal (ap is_in is))).found)
       (λ (nobody : (holder ≡ 0) × ((k : ℕ) → left k ≡ true)). true≢false
       (sym (nobody.1 somebody.0) ∙ somebody.1))
-      (law plant.net run.ring.history (low-members plant all.sound) all.legal)
+      (law (first_net plant) run.ring.history (low-members plant all.sound) all.legal)
 
 pub lessens-none : (law : SomebodyHolds) (plant : Plant) (scans : ℕ) (run : Stations)
     → StandAll plant scans run

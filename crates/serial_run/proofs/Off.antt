@@ -15,7 +15,7 @@ use Rattle.tied_lists.specs.Own.{is_of}
 use Rattle.tied_lists.specs.Waits.{has_left, status_at}
 use Rattle.tied_lists.proofs.Boxes.{count-cons}
 use Rattle.tied_lists.proofs.Turns.{membership-kept}
-use Rattle.ring_core.specs.Kept.{RingLog}
+use Rattle.ring_core.specs.Kept.{KeptRing}
 use Rattle.ring_core.specs.declared.status.NodeStatus.{NodeStatus}
 use Rattle.whole_scan.specs.Scans.{KeepsStepsLeft}
 use Rattle.serial_run.specs.declared.stations.ControllerStation.{ControllerStation}
@@ -102,7 +102,7 @@ came-scans old new at s t is items came =
 -- ---- a visit
 
 -- who was not to make a visit is not to make one behind the turn of another
-other-visited : (old new : RingLog) (n : ℕ) (x : ControllerStation) → new.net ≡ old.net
+other-visited : (old new : KeptRing) (n : ℕ) (x : ControllerStation) → new.net ≡ old.net
     → x.node ≢ n → Further (is_of n) old.history new.history → IsVisited old x → IsVisited new x
 other-visited old new n x net other f was =
     let m = x.node in

@@ -10,10 +10,11 @@ use Rattle.std.proofs.lemmas.List.Sums.{sum_by-cons}
 use Rattle.std.proofs.lemmas.List.Sorted.{sum_by-IsPermutation}
 use Rattle.plant_types.specs.declared.plan.ControllerPlan.{ControllerPlan}
 use Rattle.plant_types.specs.declared.plan.Plant.{Plant}
-use Rattle.plant_types.specs.Plans.{controller_nodes, host_nodes}
+use Rattle.plant_types.specs.Plans.{controller_nodes, first_net, host_nodes}
+use Rattle.plant_types.proofs.OneNet.{on-net}
 use Rattle.ring_core.specs.declared.status.NodeStatus.{NodeStatus}
 use Rattle.ring_core.specs.declared.status.NodeStatus.TheVariants.{In, Away, Asking, Gone}
-use Rattle.ring_core.specs.Kept.{RingLog}
+use Rattle.ring_core.specs.Kept.{KeptRing}
 use Rattle.ring_core.specs.Machine.{is_in, ring_after}
 use Rattle.controller_core.specs.declared.fixed.Fixed.{Fixed}
 use Rattle.controller_core.specs.Controller.{ControllerIs, has_ended, is_off, left_of}
@@ -26,11 +27,10 @@ use Rattle.turn_laws.specs.KeepsOn.{is_out_of_ring}
 use Rattle.turn_laws.specs.Laws.{SomebodyHolds}
 use Rattle.whole_scan.specs.Scans.{IsBetweenScans, KeepsStepsLeft}
 use Rattle.serial_run.specs.declared.order.Turn.{Turn}
-use Rattle.serial_run.specs.declared.order.Turn.TheVariants.{Hold}
 use Rattle.serial_run.specs.declared.stations.ControllerStation.{ControllerStation}
 use Rattle.serial_run.specs.declared.stations.HostStation.{HostStation}
 use Rattle.serial_run.specs.declared.stations.Stations.{Stations}
-use Rattle.serial_run.specs.Turns.{MakesTurn, MakesTurns}
+use Rattle.serial_run.specs.Turns.{MakesTurn, MakesTurns, first_hold}
 use Rattle.serial_run.specs.Serial.{all_are_out, all_have_ended, away_turns_of, host_is_out}
 use Rattle.serial_run.specs.Serial.{log_has_ended, log_is_out, members_on, visits_of, IsChain}
 use Rattle.serial_run.specs.Serial.{Finishes, IsLateRound, IsRepetition, MakesLateRounds}
@@ -71,7 +71,7 @@ count-zip R f p q (x ∷ xs) (y ∷ ys) all same =
 pub in-members : (plant : Plant) (scans : ℕ) (run : Stations) → StandAll plant scans run
     → members_in run ≡ members_on plant run.ring.history
 in-members plant scans run all =
-    let p : ℕ → Bool = λ n. is_in (status_at plant.net run.ring.history n) in
+    let p : ℕ → Bool = λ n. is_in (status_at (first_net plant) run.ring.history n) in
     let at : (n m : ℕ) → n ≡ m → is_in_ring run.ring n ≡ p m = λ n m e i.
     is_in (status_at (all.net i) run.ring.history (e i)) in
     let a = count-zip (StandsController plant scans run.ring.history) (λ plan. plan.node) p
@@ -82,7 +82,7 @@ in-members plant scans run all =
     run.hosts.items all.hosts (λ x y st. at y.node x.node st.node) in
     let c = count-more p (controller_nodes plant) (host_nodes plant) in
     let d = sum_by-IsPermutation (λ n. cond (p n) 1 0) (controller_nodes plant ++ host_nodes plant)
-    plant.net.members all.sound.members in
+    (first_net plant).members (on-net plant all.sound).members in
     omega (arith, a, b, c, d)
 
 -- ---- who has ended
@@ -117,7 +117,8 @@ replicate-more n turn = let same : suc n ≡ n + 1 = omega arith in replicate-la
 -- some hold turns of a round
 pub record SomeHolds (count : ℕ) (old new : Stations) : Type 0 where
   pub none : count ≡ 0 → new ≡ old
-  pub did : Did (λ plant scans. MakesTurns plant scans (replicate count Hold)) old new
+  pub did : Did (λ plant scans. MakesTurns plant scans (replicate count (first_hold plant)))
+      old new
   pub scans : KeepScans old new
   pub no_more : turns_left new ≤ turns_left old
   pub less : stations_here old ≢ 0 → 0 < count → turns_left new < turns_left old
@@ -158,7 +159,8 @@ first-less a b c some (suc count) less no_more next first is = let l = less is (
     omega (arith, l, next)
 
 pub one-more-hold : (count : ℕ) (first old new : Stations) → SomeHolds count first old
-    → Did (λ plant scans. MakesTurn plant scans Hold) old new → KeepScans old new → Lessens old new
+    → Did (λ plant scans. MakesTurn plant scans (first_hold plant)) old new → KeepScans old new
+    → Lessens old new
     → Stay IsOffAway old new
     → SomeHolds (count + 1) first new
 one-more-hold count first old new some did scans less off = record {
@@ -167,9 +169,9 @@ one-more-hold count first old new some did scans less off = record {
   did = record {
     stand = λ plant n all. did.stand plant n (some.did.stand plant n all);
     made = λ plant n all. subst (λ (turns : List Turn). MakesTurns plant n turns (joint_of first)
-        (joint_of new)) (replicate-more count Hold)
-        (one-more-turn plant n (replicate count Hold) Hold (joint_of first) (joint_of old)
-        (joint_of new) (some.did.made plant n all)
+        (joint_of new)) (replicate-more count (first_hold plant))
+        (one-more-turn plant n (replicate count (first_hold plant)) (first_hold plant)
+        (joint_of first) (joint_of old) (joint_of new) (some.did.made plant n all)
         (did.made plant n (some.did.stand plant n all)));
   };
   scans = scans-both first old new some.scans scans;
@@ -186,7 +188,8 @@ pub holds-round : (first new : Stations) (count : ℕ) → count ≡ members_in 
 holds-round first new count is some = record {
   stand = some.did.stand;
   made = λ plant scans all. subst
-      (λ (n : ℕ). MakesTurns plant scans (replicate n Hold) (joint_of first) (joint_of new))
+      (λ (n : ℕ). MakesTurns plant scans (replicate n (first_hold plant)) (joint_of first)
+      (joint_of new))
       (is ∙ in-members plant scans first all) (some.did.made plant scans all);
 }
 
@@ -207,9 +210,9 @@ some-in : (law : SomebodyHolds) (plant : Plant) (scans : ℕ) (run : Stations)
     → StandAll plant scans run → stations_here run ≢ 0 → 0 < members_in run
 some-in law plant scans run all some =
     let found = holder-member law plant scans run all some in
-    let holder = (ring_after plant.net run.ring.history).holder in
-    let count = count-there (λ (n : ℕ). is_in (status_at plant.net run.ring.history n))
-    plant.net.members found.0.0 holder found.0.1 found.0.2 found.1 in
+    let holder = (ring_after (first_net plant) run.ring.history).holder in
+    let count = count-there (λ (n : ℕ). is_in (status_at (first_net plant) run.ring.history n))
+    (first_net plant).members found.0.0 holder found.0.1 found.0.2 found.1 in
     let same = in-members plant scans run all in
     omega (arith, count, same)
 
@@ -273,7 +276,7 @@ take-past [] (suc k) is = absurd (omega (arith, is))
 take-past (t ∷ turns) zero is = absurd (omega (arith, is))
 take-past (t ∷ turns) (suc k) is = λ i. t ∷ take-past turns k (omega (arith, is)) i
 
-module _ (turn_of : ℕ → Turn) (Has : RingLog → ControllerStation → Type 0) where
+module _ (turn_of : ℕ → Turn) (Has : KeptRing → ControllerStation → Type 0) where
   abbrev turns_of_all : Plant → List Turn
   turns_of_all plant = map (λ plan. turn_of plan.node) plant.controllers
 
@@ -586,7 +589,7 @@ module _ (plant : Plant) (scans : ℕ) (run : Stations) (all : StandAll plant sc
       ap (λ b. list_all (log_is_out plant scans run.ring.history) (logged plant (joint_of run))
       && b)
       (not-all (host_is_out plant run.ring.history) plant.hosts h.0 its.0 its.1
-      (open-out false (status_at plant.net run.ring.history its.0.node)
+      (open-out false (status_at (first_net plant) run.ring.history its.0.node)
       (sym its.2.left ∙ h.3)))
       ∙ and-false (list_all (log_is_out plant scans run.ring.history)
       (logged plant (joint_of run))))

@@ -23,6 +23,7 @@ use Rattle.comm_port.proofs.Standings.{standing-others, standing-scans}
 use Rattle.comm_port.specs.HostStands.{own_side}
 use Rattle.controller_core.specs.declared.fixed.Fixed.{Fixed}
 use Rattle.plant_types.specs.Plans.{IsPlant}
+use Rattle.plant_types.specs.Plans.{first_net}
 use Rattle.ring_core.specs.Legal.{IsMember}
 use Rattle.turn_laws.specs.KeepsOn.{HostKeepsOn, KeepsOn}
 use Rattle.turn_laws.proofs.Others.{others, scans as scans-keep}
@@ -39,19 +40,19 @@ use Rattle.serial_run.proofs.Grown.{Further, others-own, others-left, others-non
 -- ---- others have their turns
 
 comm-others : (plant : Plant) (w : WorkerIs) (v : ControllerIs) (n : ℕ) (old new : List RingEntry)
-    → IsPlant plant → IsMember plant.net w.node → w.node ≢ n
-    → Further (is_of n) old new → IsLegalRing plant.net new
-    → Standing w (plain_ram_side v) v.history (own_side plant.net) old
-    → Standing w (plain_ram_side v) v.history (own_side plant.net) new
+    → IsPlant plant → IsMember (first_net plant) w.node → w.node ≢ n
+    → Further (is_of n) old new → IsLegalRing (first_net plant) new
+    → Standing w (plain_ram_side v) v.history (own_side (first_net plant)) old
+    → Standing w (plain_ram_side v) v.history (own_side (first_net plant)) new
 comm-others plant w v n old new sound member other f legal s =
-    subst (Standing w (plain_ram_side v) v.history (own_side plant.net)) (sym f.is)
-    (standing-others w (plain_ram_side v) v.history (own_side plant.net) old f.more
-    (on-others plant.net w.node old f.more (record {
+    subst (Standing w (plain_ram_side v) v.history (own_side (first_net plant))) (sym f.is)
+    (standing-others w (plain_ram_side v) v.history (own_side (first_net plant)) old f.more
+    (on-others (first_net plant) w.node old f.more (record {
       members = low-members plant sound;
       legal = s.legal;
       member = member;
       patient = s.patient;
-    }) (subst (IsLegalRing plant.net) f.is legal) (others-none n w.node old new other f))
+    }) (subst (IsLegalRing (first_net plant)) f.is legal) (others-none n w.node old new other f))
     (others-none n w.node old new other f) s)
 
 ties-others : (net : NetPlan) (host : _) (m n : ℕ) (old new : List RingEntry) → m ≢ n
@@ -64,8 +65,8 @@ ties-others net host m n old new other f legal s =
 
 pub stands-others : (plant : Plant) (scans n : ℕ) (old new : List RingEntry) (plan : ControllerPlan)
     (s : ControllerStation) → IsPlant plant
-    → IsMember plant.net plan.node → plan.node ≢ n
-    → Further (is_of n) old new → IsLegalRing plant.net new
+    → IsMember (first_net plant) plan.node → plan.node ≢ n
+    → Further (is_of n) old new → IsLegalRing (first_net plant) new
     → StandsController plant scans old plan s → StandsController plant scans new plan s
 stands-others plant scans n old new plan s sound member other f legal st = record {
   node = st.node;
@@ -74,31 +75,33 @@ stands-others plant scans n old new plan s sound member other f legal st = recor
   fixed = st.fixed;
   legal = st.legal;
   standing = comm-others plant s.worker s.controller n old new sound
-      (subst (IsMember plant.net) (sym st.worker_node) member)
+      (subst (IsMember (first_net plant)) (sym st.worker_node) member)
       (λ e. other (sym st.worker_node ∙ e)) f legal st.standing;
-  left = st.left ∙ sym (others-left plant.net n plan.node old new other f);
-  keeps = subst (λ (l : List RingEntry). KeepsOn (fixed_of plant scans plan) plant.net plan.node
+  left = st.left ∙ sym (others-left (first_net plant) n plan.node old new other f);
+  keeps = subst (λ (l : List RingEntry). KeepsOn (fixed_of plant scans plan)
+      (first_net plant) plan.node
       s.controller.history l s.left) (sym f.is)
-      (others (fixed_of plant scans plan) plant.net plan.node s.controller.history old f.more s.left
+      (others (fixed_of plant scans plan) (first_net plant) plan.node s.controller.history old
+      f.more s.left
       (others-none n plan.node old new other f) st.keeps);
 }
 
 pub host-stands-others : (plant : Plant) (n : ℕ) (old new : List RingEntry) (plan : HostPlan)
     (s : HostStation) → plan.node ≢ n
-    → Further (is_of n) old new → IsLegalRing plant.net new → StandsHost plant old plan s
+    → Further (is_of n) old new → IsLegalRing (first_net plant) new → StandsHost plant old plan s
     → StandsHost plant new plan s
 host-stands-others plant n old new plan s other f legal st = record {
   node = st.node;
   worker_node = st.worker_node;
   budget = st.budget;
   plan_is = st.plan_is;
-  ties = ties-others plant.net s.host plan.node n old new other f legal st.ties;
+  ties = ties-others (first_net plant) s.host plan.node n old new other f legal st.ties;
   counts = subst (λ (b : List RingEntry). s.worker.passes ≡ min (count_by is_pass b) 4294967295)
       (sym (others-own n s.worker.node old new (λ e. other (sym st.worker_node ∙ e)) f)) st.counts;
-  left = st.left ∙ sym (others-left plant.net n plan.node old new other f);
-  keeps = subst (λ (l : List RingEntry). HostKeepsOn plan plant.net s.host.history l s.left)
+  left = st.left ∙ sym (others-left (first_net plant) n plan.node old new other f);
+  keeps = subst (λ (l : List RingEntry). HostKeepsOn plan (first_net plant) s.host.history l s.left)
       (sym f.is)
-      (host-others plan plant.net s.host.history old f.more s.left
+      (host-others plan (first_net plant) s.host.history old f.more s.left
       (others-none n plan.node old new other f) st.keeps);
 }
 
@@ -140,7 +143,8 @@ stands-scans plant scans ring plan s w h made st = record {
   budget = st.budget;
   fixed = made.went_on.fixed ∙ st.fixed;
   legal = made.went_on.legal;
-  standing = comm-scans plant.net s.worker made.events s.controller w ring made.went_on st.standing;
+  standing = comm-scans (first_net plant) s.worker made.events s.controller w ring made.went_on
+      st.standing;
   left = st.left;
   keeps =
       let went = made.went_on in
@@ -148,9 +152,11 @@ stands-scans plant scans ring plan s w h made st = record {
       let legal : IsLegal (fixed_of plant scans plan) (s.controller.history ++ made.events) =
       subst (IsLegal (fixed_of plant scans plan)) went.history
       (subst (λ (f : Fixed). IsLegal f w.history) fixed went.legal) in
-      subst (λ (h : List Entry). KeepsOn (fixed_of plant scans plan) plant.net plan.node h ring
+      subst (λ (h : List Entry). KeepsOn (fixed_of plant scans plan)
+      (first_net plant) plan.node h ring
       s.left) (sym went.history)
-      (scans-keep (fixed_of plant scans plan) plant.net plan.node s.controller.history made.events
+      (scans-keep (fixed_of plant scans plan) (first_net plant) plan.node s.controller.history
+      made.events
       ring s.left legal
       (no-items made.events went.made) st.keeps);
 }

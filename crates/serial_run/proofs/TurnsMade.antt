@@ -1,5 +1,5 @@
 -- A turn of one station, as a turn of all of them.
-use Rattle.std.proofs.Common.{◌≡◌, ℕ, ◌==◌, true}
+use Rattle.std.proofs.Common.{◌≡◌, ℕ, ◌==◌, true, [], ◌∷◌}
 use Rattle.std.proofs.Common.{map, set, length, Some, refl, sym, ap, subst, ◌∙◌}
 use Rattle.std.specs.Prelude.{option_map}
 use Rattle.std.specs.List.{AllZip, position, slice_get}
@@ -16,13 +16,14 @@ use Rattle.serial_run.specs.declared.stations.ControllerStation.{ControllerStati
 use Rattle.serial_run.specs.declared.stations.HostStation.{HostStation}
 use Rattle.serial_run.specs.declared.stations.Stations.{Stations}
 use Rattle.serial_run.specs.Turns.{place_of_controller, place_of_host, with_list, with_host_list}
-use Rattle.serial_run.specs.Turns.{IsControllerAt, IsHostAt}
+use Rattle.serial_run.specs.Turns.{IsControllerAt, IsHostAt, with_noted}
 use Rattle.serial_run.specs.Stations.{StandsController, StandsHost, StandAll, log_of, host_log_of}
 use Rattle.serial_run.specs.Stations.{joint_of}
 use Rattle.serial_run.proofs.Lists.{zip-at, zip-set, zip-other, zip-position}
 use Rattle.serial_run.proofs.Distinct.{controller-member, same-controller, same-host, not-both}
 use Rattle.serial_run.proofs.Grown.{Further}
 use Rattle.serial_run.proofs.Standings.{stands-others, host-stands-others}
+use Rattle.plant_types.specs.Plans.{first_net}
 
 -- ---- a station at a place
 
@@ -85,12 +86,14 @@ module _ (plant : Plant) (scans : ℕ) (old new : Stations) (at : ℕ) (s t : Co
   mine-is x at-x = let both : Some place.plan ≡ Some x = sym place.plan_is ∙ at-x in cc
 
   -- while the ring goes on by its node
-  pub stand-with : StandsController plant scans new.ring.history place.plan t
-      → new.ring.net ≡ plant.net
+  pub stand-with : new.network ≡ old.network
+      → StandsController plant scans new.ring.history place.plan t
+      → new.ring.net ≡ first_net plant
       → Further (is_of place.plan.node) old.ring.history new.ring.history
-      → IsLegalRing plant.net new.ring.history → StandAll plant scans new
-  stand-with it net f legal = record {
+      → IsLegalRing (first_net plant) new.ring.history → StandAll plant scans new
+  stand-with network it net f legal = record {
     sound = all.sound;
+    network = network ∙ all.network;
     net = net;
     legal = legal;
     controllers = subst (AllZip (StandsController plant scans new.ring.history) plant.controllers)
@@ -121,10 +124,10 @@ module _ (plant : Plant) (scans : ℕ) (old new : Stations) (at : ℕ) (s t : Co
     log_is = slice_get-map log_of old.controllers.items at ∙ ap (option_map log_of) is;
   }
 
-  pub joint-is : t.node ≡ s.node
-      → joint_of new ≡ record (with_list at (log_of s) t.controller.history (joint_of old))
-      { ring = new.ring.history }
-  joint-is node =
+  pub joint-is : new.network ≡ old.network → t.node ≡ s.node
+      → joint_of new ≡ with_noted (first_net plant) new.ring.history
+      (with_list at (log_of s) t.controller.history (joint_of old))
+  joint-is network node =
       let logs : map log_of new.controllers.items
       ≡ set (map log_of old.controllers.items) at
       (record { node = s.node; entries = t.controller.history }) =
@@ -134,7 +137,8 @@ module _ (plant : Plant) (scans : ℕ) (old new : Stations) (at : ℕ) (s t : Co
       λ i. record {
         controllers = logs i;
         hosts = map host_log_of (hosts i);
-        ring = new.ring.history;
+        bridges = [];
+        rings = record { network = (network ∙ all.network) i; entries = new.ring.history } ∷ [];
       }
 
 -- ---- a host's station is another
@@ -150,12 +154,14 @@ module _ (plant : Plant) (scans : ℕ) (old new : Stations) (at : ℕ) (s t : Ho
   host-mine-is x at-x = let both : Some host-place.plan ≡ Some x = sym host-place.plan_is ∙ at-x in
       cc
 
-  pub host-stand-with : StandsHost plant new.ring.history host-place.plan t
-      → new.ring.net ≡ plant.net
+  pub host-stand-with : new.network ≡ old.network
+      → StandsHost plant new.ring.history host-place.plan t
+      → new.ring.net ≡ first_net plant
       → Further (is_of host-place.plan.node) old.ring.history new.ring.history
-      → IsLegalRing plant.net new.ring.history → StandAll plant scans new
-  host-stand-with it net f legal = record {
+      → IsLegalRing (first_net plant) new.ring.history → StandAll plant scans new
+  host-stand-with network it net f legal = record {
     sound = all.sound;
+    network = network ∙ all.network;
     net = net;
     legal = legal;
     controllers = subst (AllZip (StandsController plant scans new.ring.history) plant.controllers)
@@ -185,10 +191,10 @@ module _ (plant : Plant) (scans : ℕ) (old new : Stations) (at : ℕ) (s t : Ho
     log_is = slice_get-map host_log_of old.hosts.items at ∙ ap (option_map host_log_of) is;
   }
 
-  pub host-joint-is : t.node ≡ s.node
-      → joint_of new ≡ record (with_host_list at (host_log_of s) t.host.history (joint_of old))
-      { ring = new.ring.history }
-  host-joint-is node =
+  pub host-joint-is : new.network ≡ old.network → t.node ≡ s.node
+      → joint_of new ≡ with_noted (first_net plant) new.ring.history
+      (with_host_list at (host_log_of s) t.host.history (joint_of old))
+  host-joint-is network node =
       let logs : map host_log_of new.hosts.items
       ≡ set (map host_log_of old.hosts.items) at
       (record { node = s.node; entries = t.host.history }) =
@@ -198,7 +204,8 @@ module _ (plant : Plant) (scans : ℕ) (old new : Stations) (at : ℕ) (s t : Ho
       λ i. record {
         controllers = map log_of (controllers i);
         hosts = logs i;
-        ring = new.ring.history;
+        bridges = [];
+        rings = record { network = (network ∙ all.network) i; entries = new.ring.history } ∷ [];
       }
 
 -- ---- a station that was looked for

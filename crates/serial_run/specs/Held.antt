@@ -6,7 +6,7 @@ use Rattle.plant_types.specs.declared.net.NetPlan.{NetPlan}
 use Rattle.ring_core.specs.declared.entry.RingEntry.{RingEntry}
 use Rattle.ring_core.specs.declared.status.NodeStatus.{NodeStatus}
 use Rattle.ring_core.specs.declared.status.NodeStatus.TheVariants.{In, Away, Asking, Gone}
-use Rattle.ring_core.specs.Kept.{RingLog}
+use Rattle.ring_core.specs.Kept.{KeptRing}
 use Rattle.ring_core.specs.Legal.{IsLegalRing}
 use Rattle.ring_core.specs.Machine.{is_in}
 use Rattle.controller_core.specs.Controller.{IsLegal, has_started, is_off, state_of}
@@ -29,38 +29,38 @@ use Rattle.serial_run.specs.Turns.{coming_back, may_visit, node_has_left}
 use Rattle.serial_run.specs.Stations.{plain_ram_side}
 
 -- A controller's station beside the ring alone.
-abbrev pub StandsBeside : ControllerStation → RingLog → Type 0
+abbrev pub StandsBeside : ControllerStation → KeptRing → Type 0
 StandsBeside station ring = Standing station.worker (plain_ram_side station.controller)
     station.controller.history (own_side ring.net) ring.history
 
 -- A host's station beside the ring alone.
-pub record HostStandsBeside (station : HostStation) (ring : RingLog) : Type 0 where
+pub record HostStandsBeside (station : HostStation) (ring : KeptRing) : Type 0 where
   pub ties : HostTies station.worker.node station.host (own_side ring.net) ring.history
   pub counts : CountsPasses station.worker ring.history
 
 -- The node of a station holds the token.
-abbrev pub HasToken : ℕ → RingLog → Type 0
+abbrev pub HasToken : ℕ → KeptRing → Type 0
 HasToken node ring = Holds ring.net ring.history node
 
 -- A station knows whether its node has left.
-abbrev pub KnowsLeft : ControllerStation → RingLog → Type 0
+abbrev pub KnowsLeft : ControllerStation → KeptRing → Type 0
 KnowsLeft station ring =
     station.left ≡ node_has_left ring.net ring.history station.worker.node
 
 -- What the lists of a controller's station keep from turn to turn.
-pub record KeepsBeside (station : ControllerStation) (ring : RingLog) : Type 0 where
+pub record KeepsBeside (station : ControllerStation) (ring : KeptRing) : Type 0 where
   pub member : IsMemberWorker ring.net station.worker.node
   pub legal : IsLegal station.controller.fixed station.controller.history
   pub keeps : KeepsOn station.controller.fixed ring.net station.worker.node
       station.controller.history ring.history station.left
 
 -- What the lists of a host's station keep from turn to turn.
-abbrev pub HostKeepsBeside : HostStation → RingLog → Type 0
+abbrev pub HostKeepsBeside : HostStation → KeptRing → Type 0
 HostKeepsBeside station ring =
     HostKeepsOn station.host.plan ring.net station.host.history ring.history station.left
 
 -- Where the node of a station stands.
-abbrev pub status_in : RingLog → ℕ → NodeStatus
+abbrev pub status_in : KeptRing → ℕ → NodeStatus
 status_in ring node = status_at ring.net ring.history node
 
 -- A node left as its power failed, and has not asked to come in since.
@@ -70,48 +70,48 @@ is_away_status Away = true
 is_away_status Asking = false
 is_away_status Gone = false
 
-abbrev pub is_away : RingLog → ℕ → Bool
+abbrev pub is_away : KeptRing → ℕ → Bool
 is_away ring node = is_away_status (status_in ring node)
 
 -- A node is a member now.
-abbrev pub is_in_ring : RingLog → ℕ → Bool
+abbrev pub is_in_ring : KeptRing → ℕ → Bool
 is_in_ring ring node = is_in (status_in ring node)
 
 -- A station whose node is away has no power.
-abbrev pub IsOffAway : RingLog → ControllerStation → Type 0
+abbrev pub IsOffAway : KeptRing → ControllerStation → Type 0
 IsOffAway ring station = is_away ring station.node ≡ true → is_off station.controller ≡ true
 
 -- A station's visit is due.
-abbrev pub is_visit_due : RingLog → ControllerStation → Bool
+abbrev pub is_visit_due : KeptRing → ControllerStation → Bool
 is_visit_due ring station =
     may_visit station.controller.fixed station.controller.history (status_in ring station.node)
     && has_started station.controller
 
-abbrev pub IsVisited : RingLog → ControllerStation → Type 0
+abbrev pub IsVisited : KeptRing → ControllerStation → Type 0
 IsVisited ring station = is_visit_due ring station ≡ false
 
 -- All stations have something.
-abbrev pub AllHave : (RingLog → ControllerStation → Type 0) → Stations → Type 0
+abbrev pub AllHave : (KeptRing → ControllerStation → Type 0) → Stations → Type 0
 AllHave Has run = All (Has run.ring) run.controllers.items
 
 -- Stations that had it still have.
-abbrev pub Stay : (RingLog → ControllerStation → Type 0) → Stations → Stations → Type 0
+abbrev pub Stay : (KeptRing → ControllerStation → Type 0) → Stations → Stations → Type 0
 Stay Has old new = AllZip
     (λ (a b : ControllerStation). Has old.ring a → Has new.ring b)
     old.controllers.items new.controllers.items
 
 -- The station of a node has it, and the others that had still have.
-pub record Gains (Has : RingLog → ControllerStation → Type 0) (node : ℕ) (ring new_ring : RingLog)
+pub record Gains (Has : KeptRing → ControllerStation → Type 0) (node : ℕ) (ring new_ring : KeptRing)
     (old new : ControllerStation) : Type 0 where
   pub stays : Has ring old → Has new_ring new
   pub gains : old.node ≡ node → Has new_ring new
 
-abbrev pub GainFor : (RingLog → ControllerStation → Type 0) → ℕ → Stations → Stations → Type 0
+abbrev pub GainFor : (KeptRing → ControllerStation → Type 0) → ℕ → Stations → Stations → Type 0
 GainFor Has node old new =
     AllZip (Gains Has node old.ring new.ring) old.controllers.items new.controllers.items
 
 -- What no turn changes of a controller's station, and that its lists are legal.
-pub record StaysStation (old new : ControllerStation) (ring new_ring : RingLog) : Type 0 where
+pub record StaysStation (old new : ControllerStation) (ring new_ring : KeptRing) : Type 0 where
   pub node : new.node ≡ old.node
   pub worker : IsSameWorker old.worker new.worker
   pub fixed : new.controller.fixed ≡ old.controller.fixed
@@ -121,7 +121,7 @@ pub record StaysStation (old new : ControllerStation) (ring new_ring : RingLog) 
   pub stands : StandsBeside new new_ring
 
 -- A controller's station made its hold turn.
-pub record HeldController (old new : ControllerStation) (ring new_ring : RingLog) : Type 0 where
+pub record HeldController (old new : ControllerStation) (ring new_ring : KeptRing) : Type 0 where
   pub stays : StaysStation old new ring new_ring
   pub end : TurnEnd
   pub turn : HoldsTurn true true old.controller.fixed ring.net old.worker.node old.worker.budget
@@ -134,7 +134,7 @@ pub record HeldController (old new : ControllerStation) (ring new_ring : RingLog
       new_ring.history new.left
 
 -- A host's station made its hold turn.
-pub record HeldHost (old new : HostStation) (ring new_ring : RingLog) : Type 0 where
+pub record HeldHost (old new : HostStation) (ring new_ring : KeptRing) : Type 0 where
   pub node : new.node ≡ old.node
   pub worker_node : new.worker.node ≡ old.worker.node
   pub budget : new.worker.budget ≡ old.worker.budget
@@ -148,14 +148,14 @@ pub record HeldHost (old new : HostStation) (ring new_ring : RingLog) : Type 0 w
   pub keeps : HostKeepsOn old.host.plan ring.net new.host.history new_ring.history new.left
 
 -- A controller's station made its visit, or none was due.
-abbrev pub VisitedWhere : Bool → ControllerStation → ControllerStation → RingLog → RingLog
+abbrev pub VisitedWhere : Bool → ControllerStation → ControllerStation → KeptRing → KeptRing
     → Type 0
 VisitedWhere true old new ring new_ring =
     VisitsEnd true true old.controller.fixed ring.net old.worker.node old.controller.history
     new.controller.history ring.history new_ring.history
 VisitedWhere false old new ring new_ring = (new ≡ old) × (new_ring ≡ ring)
 
-pub record VisitedController (old new : ControllerStation) (ring new_ring : RingLog)
+pub record VisitedController (old new : ControllerStation) (ring new_ring : KeptRing)
     : Type 0 where
   pub stays : StaysStation old new ring new_ring
   pub left : new.left ≡ old.left
@@ -167,7 +167,7 @@ pub record VisitedController (old new : ControllerStation) (ring new_ring : Ring
   pub visited : IsVisited new_ring new
 
 -- A controller's station made its away turn: its node asked to come in again, or nothing changed.
-pub record CameBack (old new : ControllerStation) (ring new_ring : RingLog) : Type 0 where
+pub record CameBack (old new : ControllerStation) (ring new_ring : KeptRing) : Type 0 where
   pub stays : StaysStation old new ring new_ring
   pub history : new.controller.history ≡ old.controller.history
   pub came : new_ring.history ≡ ring.history

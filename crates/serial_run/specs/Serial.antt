@@ -1,28 +1,24 @@
 -- The serial run of a plant. This project's own.
-use Rattle.std.specs.Prelude.{◌≡◌, ℕ, ◌+◌, Bool, true, false, ◌&&◌, if◌then◌else◌, List, []}
-use Rattle.std.specs.Prelude.{◌∷◌, ◌++◌, length, map, replicate}
+use Rattle.std.specs.Prelude.{◌≡◌, ℕ, Bool, true, false, ◌&&◌, List, [], ◌∷◌, length, map}
+use Rattle.std.specs.Prelude.{replicate}
 use Rattle.std.specs.List.{count_by, list_all}
 use Rattle.plant_types.specs.declared.net.HostPlan.{HostPlan}
 use Rattle.plant_types.specs.declared.plan.ControllerPlan.{ControllerPlan}
 use Rattle.plant_types.specs.declared.plan.Plant.{Plant}
+use Rattle.plant_types.specs.Plans.{first_net}
 use Rattle.ring_core.specs.declared.entry.RingEntry.{RingEntry}
-use Rattle.scan_order.specs.Due.{due}
-use Rattle.controller_core.specs.declared.fixed.Fixed.{Fixed}
-use Rattle.controller_core.specs.declared.entry.Entry.{Entry}
-use Rattle.controller_core.specs.Replay.{replay}
-use Rattle.controller_core.specs.Run.{entries_from}
 use Rattle.joint_history.specs.declared.joint.ControllerLog.{ControllerLog}
 use Rattle.joint_history.specs.declared.joint.Joint.{Joint}
 use Rattle.joint_history.specs.JointLaws.{fixed_of, logged}
-use Rattle.joint_history.specs.Nets.{net_of}
+use Rattle.joint_history.specs.Nets.{net_of, noted_on_rings}
 use Rattle.joint_history.specs.Reading.{controller_at, has_ended_at, is_off_at}
 use Rattle.whole_scan.specs.Scans.{with_scan}
 use Rattle.ring_core.specs.Machine.{is_in}
 use Rattle.tied_lists.specs.Waits.{status_at}
 use Rattle.turn_laws.specs.KeepsOn.{is_out_of_ring}
 use Rattle.serial_run.specs.declared.order.Turn.{Turn}
-use Rattle.serial_run.specs.declared.order.Turn.TheVariants.{Hold, Visit, Away}
-use Rattle.serial_run.specs.Turns.{nothing_made, MakesTurns}
+use Rattle.serial_run.specs.declared.order.Turn.TheVariants.{Visit, Away}
+use Rattle.serial_run.specs.Turns.{first_hold, nothing_made, MakesTurns}
 
 -- A controller's list behind its next whole scan, or behind the part of it up to a stop.
 abbrev pub log_with_scan : Plant → ℕ → ControllerPlan × ControllerLog → ControllerLog
@@ -45,7 +41,8 @@ all_have_ended plant scans joint = list_all (log_has_ended plant scans) (logged 
 
 -- How many members are in the ring behind these entries.
 abbrev pub members_on : Plant → List RingEntry → ℕ
-members_on plant ring = count_by (λ node. is_in (status_at plant.net ring node)) plant.net.members
+members_on plant ring =
+    count_by (λ node. is_in (status_at (first_net plant) ring node)) (first_net plant).members
 
 -- Each node is gone; or it is away, and its controller has no power.
 abbrev pub log_is_out : Plant → ℕ → List RingEntry → ControllerPlan × ControllerLog → Bool
@@ -59,8 +56,8 @@ host_is_out plant ring plan =
 
 abbrev pub all_are_out : Plant → ℕ → Joint → Bool
 all_are_out plant scans joint =
-    list_all (log_is_out plant scans joint.ring) (logged plant joint)
-    && list_all (host_is_out plant joint.ring) plant.hosts
+    list_all (log_is_out plant scans (noted_on_rings joint)) (logged plant joint)
+    && list_all (host_is_out plant (noted_on_rings joint)) plant.hosts
 
 -- The away turns of all controllers, in rising address; those that are not away, or have no power,
 -- do nothing.
@@ -74,7 +71,8 @@ visits_of plant = map (λ plan. Visit plan.node) plant.controllers
 -- A round: as many hold turns as there are members at its beginning.
 abbrev pub MakesRound : Plant → ℕ → Joint → Joint → Type 0
 MakesRound plant scans old new =
-    MakesTurns plant scans (replicate (members_on plant old.ring) Hold) old new
+    MakesTurns plant scans (replicate (members_on plant (noted_on_rings old)) (first_hold plant))
+    old new
 
 -- By way of these joint histories, each of which came of the one before, to the last.
 abbrev pub IsChain : (Joint → Joint → Type 0) → Joint → List Joint → Joint → Type 0
@@ -95,7 +93,7 @@ pub record IsRepetition (plant : Plant) (scans : ℕ) (old new : Joint) : Type 0
   pub away_turns : MakesTurns plant scans (away_turns_of plant) (scanned plant scans old) came_back
   pub visited : Joint
   pub visits : MakesTurns plant scans (visits_of plant) came_back visited
-  pub rounds : MakesRounds plant scans plant.net.rotations visited new
+  pub rounds : MakesRounds plant scans (first_net plant).rotations visited new
 
 -- A round behind the repetitions, as long as a node is not out of the ring.
 pub record IsLateRound (plant : Plant) (scans : ℕ) (old new : Joint) : Type 0 where

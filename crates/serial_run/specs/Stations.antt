@@ -1,19 +1,15 @@
 -- What a run keeps of all stations of its plant. This project's own.
-use Rattle.std.specs.Prelude.{false, ◌≡◌, ℕ, true, List, map}
-use Rattle.std.specs.Prelude.{[]}
-use Rattle.std.specs.List.{AllZip, count_by}
+use Rattle.std.specs.Prelude.{◌≡◌, ℕ, true, false, List, [], ◌∷◌, map}
+use Rattle.std.specs.List.{All, AllZip, count_by}
 use Rattle.plant_types.specs.declared.net.HostPlan.{HostPlan}
 use Rattle.plant_types.specs.declared.plan.ControllerPlan.{ControllerPlan}
 use Rattle.plant_types.specs.declared.plan.Plant.{Plant}
-use Rattle.plant_types.specs.Plans.{IsPlant}
+use Rattle.plant_types.specs.Plans.{IsPlant, first_net}
 use Rattle.plant_types.specs.Store.{is_on}
-use Rattle.std.specs.List.{All}
 use Rattle.ring_core.specs.declared.entry.RingEntry.{RingEntry}
 use Rattle.ring_core.specs.Legal.{IsLegalRing}
-use Rattle.controller_core.specs.declared.entry.Entry.{Entry}
-use Rattle.controller_core.specs.declared.entry.Maker.TheVariants.{Scan}
 use Rattle.controller_core.specs.declared.notes.Notes.{Notes}
-use Rattle.controller_core.specs.Controller.{ControllerIs, IsLegal, ControllerWentOn, store_of}
+use Rattle.controller_core.specs.Controller.{ControllerIs, IsLegal, store_of}
 use Rattle.controller_core.specs.Notes.{notes_of}
 use Rattle.joint_history.specs.declared.joint.ControllerLog.{ControllerLog}
 use Rattle.joint_history.specs.declared.joint.HostLog.{HostLog}
@@ -52,7 +48,8 @@ abbrev pub joint_of : Stations → Joint
 joint_of run = record {
   controllers = map log_of run.controllers.items;
   hosts = map host_log_of run.hosts.items;
-  ring = run.ring.history;
+  bridges = [];
+  rings = record { network = run.network; entries = run.ring.history } ∷ [];
 }
 
 -- A controller as the side of a worker, where nobody else writes.
@@ -88,8 +85,9 @@ pub record StandsHost (plant : Plant) (ring : List RingEntry) (plan : HostPlan)
 -- All stations stand between their turns, those of the plant in its order.
 pub record StandAll (plant : Plant) (scans : ℕ) (run : Stations) : Type 0 where
   pub sound : IsPlant plant
-  pub net : run.ring.net ≡ plant.net
-  pub legal : IsLegalRing plant.net run.ring.history
+  pub network : run.network ≡ (first_net plant).number
+  pub net : run.ring.net ≡ first_net plant
+  pub legal : IsLegalRing (first_net plant) run.ring.history
   pub controllers : AllZip (StandsController plant scans run.ring.history) plant.controllers
       run.controllers.items
   pub hosts : AllZip (StandsHost plant run.ring.history) plant.hosts run.hosts.items
@@ -109,7 +107,8 @@ pub record Did (Made : Plant → ℕ → Joint → Joint → Type 0) (old new : 
 -- What some turns did to the joint history of stations, for plants with so many rotations.
 abbrev pub DidWith : ℕ → (Plant → ℕ → Joint → Joint → Type 0) → Stations → Stations → Type 0
 DidWith rotations Made old new = Did
-    (λ plant scans before behind. plant.net.rotations ≡ rotations → Made plant scans before behind)
+    (λ plant scans before behind.
+    (first_net plant).rotations ≡ rotations → Made plant scans before behind)
     old new
 
 -- A station at the start of a run, before anything was made.

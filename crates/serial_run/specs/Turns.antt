@@ -1,11 +1,13 @@
 -- How a turn of a station changes a joint history. This project's own.
 use Rattle.std.specs.Prelude.{◌≡◌, ℕ, ◌==◌, Bool, true, false, ◌&&◌, not, List, [], ◌∷◌, ◌++◌}
 use Rattle.std.specs.Prelude.{Option, Some, None, map, set}
-use Rattle.std.specs.List.{position, slice_get}
+use Rattle.std.specs.List.{find, position, slice_get}
 use Rattle.plant_types.specs.declared.net.NetPlan.{NetPlan}
 use Rattle.plant_types.specs.declared.net.HostPlan.{HostPlan}
+use Rattle.plant_types.specs.declared.net.BridgePlan.{BridgePlan}
 use Rattle.plant_types.specs.declared.plan.ControllerPlan.{ControllerPlan}
 use Rattle.plant_types.specs.declared.plan.Plant.{Plant}
+use Rattle.plant_types.specs.Plans.{first_net}
 use Rattle.ring_core.specs.Machine.{ring_after}
 use Rattle.ring_core.specs.declared.status.NodeStatus.{NodeStatus}
 use Rattle.ring_core.specs.declared.status.NodeStatus.TheVariants as statuses
@@ -16,9 +18,11 @@ use Rattle.controller_core.specs.Controller.{stepped}
 use Rattle.host_port.specs.declared.entry.HostEntry.{HostEntry}
 use Rattle.joint_history.specs.declared.joint.ControllerLog.{ControllerLog}
 use Rattle.joint_history.specs.declared.joint.HostLog.{HostLog}
+use Rattle.joint_history.specs.declared.joint.BridgeLog.{BridgeLog}
+use Rattle.joint_history.specs.declared.joint.RingLog.{RingLog}
 use Rattle.joint_history.specs.declared.joint.Joint.{Joint}
 use Rattle.joint_history.specs.JointLaws.{fixed_of}
-use Rattle.joint_history.specs.Nets.{net_of}
+use Rattle.joint_history.specs.Nets.{net_of, noted_on_rings}
 use Rattle.joint_history.specs.Reading.{controller_at, has_ended_at, has_started_at, is_off_at}
 use Rattle.tied_lists.specs.Waits.{has_left, status_at}
 use Rattle.comm_port.specs.declared.turn_end.TurnEnd.{TurnEnd}
@@ -30,19 +34,26 @@ use Rattle.serial_run.specs.declared.order.Turn.{Turn}
 use Rattle.serial_run.specs.declared.order.Turn.TheVariants.{Step, Hold, Visit, Away}
 use Rattle.turn_laws.specs.KeepsOn.{is_out_of_ring}
 
--- The empty list of a controller, and that of a host.
+-- The empty list of a controller, and those of a host, of a bridge and of a network's ring.
 abbrev pub empty_log : ControllerPlan → ControllerLog
 empty_log plan = record { node = plan.node; entries = [] }
 
 abbrev pub empty_host_log : HostPlan → HostLog
 empty_host_log plan = record { node = plan.node; entries = [] }
 
+abbrev pub empty_bridge_log : BridgePlan → BridgeLog
+empty_bridge_log plan = record { left = plan.left; right = plan.right; entries = [] }
+
+abbrev pub empty_ring_log : NetPlan → RingLog
+empty_ring_log net = record { network = net.number; entries = [] }
+
 -- The joint history of a plant where nothing was made yet.
 abbrev pub nothing_made : Plant → Joint
 nothing_made plant = record {
   controllers = map empty_log plant.controllers;
   hosts = map empty_host_log plant.hosts;
-  ring = [];
+  bridges = map empty_bridge_log plant.bridges;
+  rings = map empty_ring_log plant.nets;
 }
 
 -- The place of the controller of a node in its plant, and that of a host.
@@ -75,6 +86,11 @@ with_host_list at log entries joint = record joint {
   hosts = set joint.hosts at (record { node = log.node; entries = entries });
 }
 
+-- A joint history with another list of the ring of a network: as yet a plant has one.
+abbrev pub with_noted : NetPlan → List RingEntry → Joint → Joint
+with_noted net ring joint =
+    record joint { rings = record { network = net.number; entries = ring } ∷ [] }
+
 -- A controller's list behind its due step; the same list where it has ended or stopped.
 abbrev pub stepped_list : Fixed → List Entry → List Entry
 stepped_list fixed entries = (stepped (controller_at fixed entries)).history
@@ -100,8 +116,8 @@ pub record MakesHoldTurnAt (plant : Plant) (scans at : ℕ) (old new : Joint) : 
   pub ring : List RingEntry
   pub end : TurnEnd
   pub turn : HoldsTurn true true (fixed_of plant scans plan) (net_of plant plan.node) plan.node true
-      log.entries entries old.ring ring end
-  pub made : new ≡ record (with_list at log entries old) { ring = ring }
+      log.entries entries (noted_on_rings old) ring end
+  pub made : new ≡ with_noted (net_of plant plan.node) ring (with_list at log entries old)
 
 -- The host at a place makes its hold turn: its own list and the ring's go on.
 pub record HostHoldsAt (plant : Plant) (at : ℕ) (old new : Joint) : Type 0 where
@@ -112,15 +128,30 @@ pub record HostHoldsAt (plant : Plant) (at : ℕ) (old new : Joint) : Type 0 whe
   pub ring : List RingEntry
   pub left : Bool
   pub turn : HoldsHostTurn true (net_of plant plan.node) plan.node plan true log.entries entries
-      old.ring ring left
-  pub made : new ≡ record (with_host_list at log entries old) { ring = ring }
+      (noted_on_rings old) ring left
+  pub made : new ≡ with_noted (net_of plant plan.node) ring (with_host_list at log entries old)
 
--- Hold: the station of the node that holds the token makes its hold turn; nothing where no node
--- holds it.
+-- The station of the node that holds a token makes its hold turn; nothing where no node holds it.
 abbrev pub MakesHold : Plant → ℕ → Option ℕ → Option ℕ → Joint → Joint → Type 0
 MakesHold plant scans (Some at) host old new = MakesHoldTurnAt plant scans at old new
 MakesHold plant scans None (Some at) old new = HostHoldsAt plant at old new
 MakesHold plant scans None None old new = new ≡ old
+
+-- The hold turn on the first network of a plant.
+abbrev pub first_hold : Plant → Turn
+first_hold plant = Hold (first_net plant).number
+
+-- The network of a number.
+abbrev pub net_numbered : Plant → ℕ → Option NetPlan
+net_numbered plant network = find (λ net. net.number == network) plant.nets
+
+-- Hold: the station of the node that holds the token of a network makes its hold turn; nothing
+-- where there is no such network, or no node holds its token.
+abbrev pub MakesHoldOn : Plant → ℕ → Option NetPlan → Joint → Joint → Type 0
+MakesHoldOn plant scans None old new = new ≡ old
+MakesHoldOn plant scans (Some net) old new =
+    let holder = (ring_after net (noted_on_rings old)).holder in
+    MakesHold plant scans (place_of_controller plant holder) (place_of_host plant holder) old new
 
 -- A node has left the ring, and does not ask to come in.
 abbrev pub node_has_left : NetPlan → List RingEntry → ℕ → Bool
@@ -145,8 +176,8 @@ pub record VisitsAt (plant : Plant) (scans at : ℕ) (plan : ControllerPlan) (lo
   pub entries : List Entry
   pub ring : List RingEntry
   pub visit : VisitsEnd true true (fixed_of plant scans plan) (net_of plant plan.node) plan.node
-      log.entries entries old.ring ring
-  pub made : new ≡ record (with_list at log entries old) { ring = ring }
+      log.entries entries (noted_on_rings old) ring
+  pub made : new ≡ with_noted (net_of plant plan.node) ring (with_list at log entries old)
 
 -- The controller at a place makes its visit where that is due, and else nothing.
 abbrev pub VisitsWhere : Bool → Plant → ℕ → ℕ → ControllerPlan → ControllerLog → Joint → Joint
@@ -158,8 +189,8 @@ pub record VisitsIfDue (plant : Plant) (scans at : ℕ) (old new : Joint) : Type
   pub plan : ControllerPlan
   pub log : ControllerLog
   pub is : IsControllerAt plant old at plan log
-  pub visits : VisitsWhere (visit_is_due plant scans plan log.entries old.ring) plant scans at plan
-      log old new
+  pub visits : VisitsWhere (visit_is_due plant scans plan log.entries (noted_on_rings old)) plant
+      scans at plan log old new
 
 -- Visit: nothing where no controller has the node.
 abbrev pub MakesVisit : Plant → ℕ → Option ℕ → Joint → Joint → Type 0
@@ -178,10 +209,10 @@ pub record ComesBackAt (plant : Plant) (scans at : ℕ) (old new : Joint) : Type
   pub plan : ControllerPlan
   pub log : ControllerLog
   pub is : IsControllerAt plant old at plan log
-  pub made : new ≡ record old {
-    ring = old.ring ++ coming_back (status_at (net_of plant plan.node) old.ring plan.node)
-        (is_off_at (fixed_of plant scans plan) log.entries) plan.node;
-  }
+  pub made : new ≡ with_noted (net_of plant plan.node)
+      (noted_on_rings old
+      ++ coming_back (status_at (net_of plant plan.node) (noted_on_rings old) plan.node)
+      (is_off_at (fixed_of plant scans plan) log.entries) plan.node) old
 
 -- Away: nothing where no controller has the node.
 abbrev pub MakesAwayTurn : Plant → ℕ → Option ℕ → Joint → Joint → Type 0
@@ -192,9 +223,8 @@ MakesAwayTurn plant scans (Some at) old new = ComesBackAt plant scans at old new
 abbrev pub MakesTurn : Plant → ℕ → Turn → Joint → Joint → Type 0
 MakesTurn plant scans (Step node) old new =
     MakesStep plant scans (place_of_controller plant node) old new
-MakesTurn plant scans Hold old new =
-    let holder = (ring_after plant.net old.ring).holder in
-    MakesHold plant scans (place_of_controller plant holder) (place_of_host plant holder) old new
+MakesTurn plant scans (Hold network) old new =
+    MakesHoldOn plant scans (net_numbered plant network) old new
 MakesTurn plant scans (Visit node) old new =
     MakesVisit plant scans (place_of_controller plant node) old new
 MakesTurn plant scans (Away node) old new =

@@ -4,7 +4,7 @@ ghost use Rattle.serial_run.specs.Stations.{joint_of, host_log_of, log_of, stati
 
 use crate::stations::{ControllerStation, HostStation, Stations};
 use controller_core::Notes;
-use joint_history::{ControllerLog, HostLog, Joint, Noted};
+use joint_history::{ControllerLog, HostLog, Joint, Noted, one_ring};
 use plant_types::List;
 use std::alloc::{AllocError, Global};
 
@@ -47,11 +47,13 @@ pub(crate) fn noted_of(alloc: Global, run: Stations) -> Result<Noted, AllocError
 {
     let (controllers, notes) = logs_of(alloc, run.controllers)?;
     let hosts = host_logs_of(alloc, run.hosts)?;
-    let ring = run.ring.into_history();
+    let bridges = List::new(alloc);
+    let rings = one_ring(alloc, run.network, run.ring.into_history())?;
     let joint = Joint {
         controllers,
         hosts,
-        ring,
+        bridges,
+        rings,
     };
     Ok(Noted { joint, notes })
 }

@@ -5,8 +5,9 @@
 pub enum Turn {
     /// The controller of this node makes its due step.
     Step(u8),
-    /// The station of the node that holds the token makes its hold turn.
-    Hold,
+    /// The station of the node that holds the token of the network of this number makes its hold
+    /// turn.
+    Hold(u8),
     /// The controller of this node, which is out of the ring for good, ends the calls that it still
     /// starts.
     Visit(u8),

@@ -59,7 +59,7 @@ fn over(alloc: Global, plant: &Plant, scans: u32) -> Result<Stations, AllocError
 {
     runs_complete();
     let mut run = Stations::new(alloc, plant, scans)?;
-    run.repeat(plant.net.rotations)?;
+    run.repeat(plant.first_net().rotations)?;
     run.finish()?;
     Ok(run)
 }

@@ -3,7 +3,7 @@ ghost use Rattle.std.specs.Prelude.{◌≡◌, ◌≤◌, ◌==◌, IfOk};
 ghost use Rattle.std.specs.List.{position};
 ghost use Rattle.plant_types.specs.Limits.{most_scans};
 ghost use Rattle.traffic_cop.specs.Rows.{IsRunnablePlan};
-ghost use Rattle.plant_types.specs.Plans.{IsHostPlan};
+ghost use Rattle.plant_types.specs.Plans.{IsHostPlan, first_net};
 ghost use Rattle.ring_core.specs.Legal.{IsMember};
 ghost use Rattle.joint_history.specs.Runnable.{CanRunPlant};
 ghost use Rattle.serial_run.specs.Stations.{Starts, StartsController};
@@ -12,8 +12,7 @@ ghost use Rattle.serial_run.specs.Stations.{StartsHost, StartControllers, StartH
 use comm_port::{CommWorker, HostWorker};
 use controller_core::Controller;
 use host_port::Host;
-use joint_history::{ControllerLog, HostLog, Joint};
-use plant_types::{ControllerPlan, HostPlan, List, Plant};
+use plant_types::{ControllerPlan, HostPlan, Plant};
 use ring_core::Ring;
 use std::alloc::{AllocError, Global};
 
@@ -35,11 +34,12 @@ pub(crate) struct HostStation {
     pub(crate) left: bool,
 }
 
-/// All stations and the ring.
+/// All stations, and the ring of the network of a number.
 #[derive(Drop)]
 pub(crate) struct Stations {
     pub(crate) controllers: Vec<ControllerStation>,
     pub(crate) hosts: Vec<HostStation>,
+    pub(crate) network: u8,
     pub(crate) ring: Ring,
 }
 
@@ -51,7 +51,7 @@ fn controller_of(
 ) -> Result<ControllerStation, AllocError>
     requires plant { CanRunPlant plant.now }
     requires runs { IsRunnablePlan plan.now }
-    requires member { IsMember plant.now.net plan.now.node }
+    requires member { IsMember (first_net plant.now) plan.now.node }
     requires scans { scans ≤ most_scans }
     ensures { IfOk result (StartsController plant.now scans plan.now) }
 {
@@ -59,7 +59,7 @@ fn controller_of(
     let node = plan.node;
     let controller = Controller::new(alloc, plan, scan_time, watchdog, scans)?;
     let _ = controller.history();
-    let worker = CommWorker::new(alloc, node, &plant.net, true)?;
+    let worker = CommWorker::new(alloc, node, plant.first_net(), true)?;
     Ok(ControllerStation {
         node,
         controller,
@@ -87,12 +87,13 @@ fn controllers_of(
 fn host_of(alloc: Global, plant: &Plant, plan: &HostPlan) -> Result<HostStation, AllocError>
     requires plant { CanRunPlant plant.now }
     requires sound { IsHostPlan plan.now }
-    requires member { IsMember plant.now.net plan.now.node }
+    requires member { IsMember (first_net plant.now) plan.now.node }
     ensures { IfOk result (StartsHost plant.now plan.now) }
 {
-    let host = Host::new(alloc, plan, &plant.net)?;
+    let net = plant.first_net();
+    let host = Host::new(alloc, plan, net)?;
     let _ = host.history();
-    let worker = HostWorker::new(alloc, plan.node, &plant.net, true)?;
+    let worker = HostWorker::new(alloc, plan.node, net, true)?;
     Ok(HostStation {
         node: plan.node,
         host,
@@ -121,11 +122,13 @@ impl Stations {
     {
         let controllers = controllers_of(alloc, plant, scans)?;
         let hosts = hosts_of(alloc, plant)?;
-        let ring = Ring::new(alloc, &plant.net)?;
+        let net = plant.first_net();
+        let ring = Ring::new(alloc, net)?;
         let _ = ring.history();
         Ok(Stations {
             controllers,
             hosts,
+            network: net.number,
             ring,
         })
     }

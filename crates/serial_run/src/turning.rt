@@ -5,7 +5,7 @@ ghost use Rattle.turn_laws.specs.KeepsOn.{is_out_of_ring, leaves_out};
 ghost use Rattle.ring_core.specs.Legal.{IsMember};
 ghost use Rattle.comm_port.specs.Turns.{IsNoBridge};
 ghost use Rattle.whole_scan.specs.Scans.{MadeEvents};
-ghost use Rattle.serial_run.specs.Turns.{MakesTurn};
+ghost use Rattle.serial_run.specs.Turns.{MakesTurn, first_hold};
 ghost use Rattle.serial_run.specs.Stations.{Did, Stand};
 ghost use Rattle.serial_run.specs.Scans.{KeepScans};
 ghost use Rattle.serial_run.specs.Held.{HasToken, HeldController, HeldHost, HostStandsBeside};
@@ -207,7 +207,7 @@ impl Stations {
     /// The station of the node that holds the token makes its hold turn.
     pub(crate) fn hold(&mut self) -> Result<(), AllocError>
         requires { Stand self.old }
-        ensures held { OnOk result (Did (λ plant scans. MakesTurn plant scans Turn.Hold)
+        ensures held { OnOk result (Did (λ plant scans. MakesTurn plant scans (first_hold plant))
             self.old self.new) }
         ensures scans { OnOk result (KeepScans self.old self.new) }
         ensures less { OnOk result (Lessens self.old self.new) }
@@ -220,6 +220,19 @@ impl Stations {
         }
         if let Some(at) = self.host_at(holder) {
             return hold_host(&mut self.hosts[at], &mut self.ring);
+        }
+        Ok(())
+    }
+
+    /// The station of the node that holds the token of a network makes its hold turn, where there
+    /// is that network.
+    fn hold_on(&mut self, network: u8) -> Result<(), AllocError>
+        requires { Stand self.old }
+        ensures { OnOk result (Did (λ plant scans. MakesTurn plant scans (Turn.Hold network))
+            self.old self.new) }
+    {
+        if network == self.network {
+            return self.hold();
         }
         Ok(())
     }
@@ -261,7 +274,7 @@ impl Stations {
     {
         match turn {
             Turn::Step(node) => self.step(node),
-            Turn::Hold => self.hold(),
+            Turn::Hold(network) => self.hold_on(network),
             Turn::Visit(node) => self.visit(node),
             Turn::Away(node) => self.away(node),
         }

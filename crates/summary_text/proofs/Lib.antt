@@ -1,1 +1,2 @@
 pub mod CoilSteps
+pub mod RingCounts

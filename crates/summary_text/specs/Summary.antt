@@ -9,6 +9,7 @@ use Rattle.controller_core.specs.declared.entry.Entry.TheVariants as entries
 use Rattle.joint_history.specs.declared.joint.ControllerLog.{ControllerLog}
 use Rattle.joint_history.specs.declared.joint.Joint.{Joint}
 use Rattle.joint_history.specs.Complete.{is_pass}
+use Rattle.joint_history.specs.Nets.{noted_on_rings}
 use Rattle.summary_text.specs.Coils.{coils_at_end}
 use Rattle.summary_text.specs.declared.counts.Counted.{Counted}
 use Rattle.summary_text.specs.declared.counts.Counted.TheVariants.{Solves, Peers, Good, Bad}
@@ -46,7 +47,7 @@ entries_that such logs = sum_by (λ log. count_by such log.entries) logs
 
 -- The counts of a joint history, each with its name: the controllers, the segments that they
 -- solved, the requests that they answered, their calls that ended well and badly, how often the
--- token was passed on, and the coils that are on at the end.
+-- tokens of the rings were passed on, and the coils that are on at the end.
 abbrev pub run_counts : Plant → Joint → List (List ℕ × ℕ)
 run_counts plant joint =
     (codes "controllers", length joint.controllers)
@@ -54,7 +55,7 @@ run_counts plant joint =
     ∷ (codes "peers", entries_that is_peer joint.controllers)
     ∷ (codes "good", entries_that is_good joint.controllers)
     ∷ (codes "bad", entries_that is_bad joint.controllers)
-    ∷ (codes "passes", count_by is_pass joint.ring)
+    ∷ (codes "passes", count_by is_pass (noted_on_rings joint))
     ∷ (codes "coils", coils_at_end plant joint) ∷ []
 
 -- A line: a name and its count.

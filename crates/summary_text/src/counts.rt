@@ -2,10 +2,11 @@
 ghost use Rattle.std.specs.Prelude.{◌≡◌};
 ghost use Rattle.std.specs.List.{count_by};
 ghost use Rattle.joint_history.specs.Complete.{is_pass};
+ghost use Rattle.joint_history.specs.Nets.{entries_of_rings};
 ghost use Rattle.summary_text.specs.Summary.{entries_that, is_bad, is_counted, is_good};
 
 use controller_core::Entry;
-use joint_history::ControllerLog;
+use joint_history::{ControllerLog, RingLog};
 use mstr_block::MstrResult;
 use ring_core::RingEntry;
 
@@ -73,9 +74,19 @@ fn is_pass(entry: &RingEntry) -> bool
     matches!(entry, RingEntry::Pass { .. })
 }
 
-/// How many times the token was passed on.
-pub fn passes_in(ring: &[RingEntry]) -> usize
-    ensures { result ≡ count_by is_pass ring.now }
+fn passes_in(entries: &[RingEntry]) -> usize
+    ensures { result ≡ count_by is_pass entries.now }
 {
-    ring.iter().filter(|entry| is_pass(entry)).count()
+    entries.iter().filter(|entry| is_pass(entry)).count()
+}
+
+/// How many times the token of any ring was passed on.
+pub fn passes_of(rings: &[RingLog]) -> u128
+    ensures { result ≡ count_by is_pass (entries_of_rings rings.now) }
+{
+    let mut total = 0;
+    for ring in rings {
+        total += passes_in(ring.entries.as_slice()) as u128;
+    }
+    total
 }

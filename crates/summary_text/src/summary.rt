@@ -5,7 +5,7 @@ ghost use Rattle.plant_types.specs.declared.plan.Plant.{Plant as AnyPlant};
 ghost use Rattle.summary_text.specs.Coils.{coils_at_end};
 ghost use Rattle.summary_text.specs.Summary.{count_line, summary};
 
-use crate::counts::{Counted, entries_that, passes_in};
+use crate::counts::{Counted, entries_that, passes_of};
 use joint_history::Joint;
 use std::alloc::{AllocError, Global};
 use std::fmt::Write;
@@ -23,8 +23,8 @@ fn push_counts(text: &mut String, counts: &[(&str, u128)]) -> Result<(), AllocEr
 
 /// The summary of a plant by what its stations noted, in seven lines: how many controllers it has,
 /// the segments that they solved, the requests that they answered, the calls of theirs that ended
-/// well and badly, how often the token was passed on, and how many coils are on at the end, which
-/// the caller counted.
+/// well and badly, how often the tokens of its rings were passed on, and how many coils are on at
+/// the end, which the caller counted.
 pub fn summary_text(alloc: Global, joint: &Joint, coils: u128) -> Result<Vec<u8>, AllocError>
     ensures { IfOk result (λ text. (plant : AnyPlant) → coils ≡ coils_at_end plant joint.now
         → text.items ≡ summary plant joint.now) }
@@ -36,7 +36,7 @@ pub fn summary_text(alloc: Global, joint: &Joint, coils: u128) -> Result<Vec<u8>
         ("peers", entries_that(Counted::Peers, logs)),
         ("good", entries_that(Counted::Good, logs)),
         ("bad", entries_that(Counted::Bad, logs)),
-        ("passes", passes_in(joint.ring.as_slice()) as u128),
+        ("passes", passes_of(joint.rings.as_slice())),
         ("coils", coils),
     ];
     let mut text = String::new(alloc);

@@ -1,7 +1,7 @@
 // What is counted of lists that are made by hand.
-use crate::counts::{Counted, entries_that, passes_in};
+use crate::counts::{Counted, entries_that, passes_of};
 use controller_core::Entry;
-use joint_history::ControllerLog;
+use joint_history::{ControllerLog, RingLog};
 use mstr_block::{CallId, MstrResult};
 use plant_types::{Block, List, Words};
 use ring_core::RingEntry;
@@ -47,22 +47,31 @@ fn entries_of_all_controllers_count(rt: HostRuntime) -> Result<(), AllocError> {
     Ok(())
 }
 
-#[test]
-fn passes_count(rt: HostRuntime) -> Result<(), AllocError> {
-    let alloc = rt.alloc();
-    let mut ring = Vec::new(alloc);
-    for node in 1..4u8 {
+// The list of a ring whose token was passed on so often.
+fn ring_log_of(alloc: Global, network: u8, passes: u8) -> Result<RingLog, AllocError> {
+    let mut entries = List::new(alloc);
+    for node in 0..passes {
         let words = Words::of(alloc, &[])?;
-        ring.push(RingEntry::Pass {
+        entries.push(RingEntry::Pass {
             node,
             done: false,
             words,
         })?;
-        ring.push(RingEntry::GiveUp {
+        entries.push(RingEntry::GiveUp {
             id: ID,
             word: 0x6103,
         })?;
     }
-    assert!(rt; passes_in(ring.as_slice()) == 3);
+    Ok(RingLog { network, entries })
+}
+
+#[test]
+fn passes_of_all_rings_count(rt: HostRuntime) -> Result<(), AllocError> {
+    let alloc = rt.alloc();
+    let mut rings = Vec::new(alloc);
+    rings.push(ring_log_of(alloc, 1, 3)?)?;
+    rings.push(ring_log_of(alloc, 2, 0)?)?;
+    rings.push(ring_log_of(alloc, 4, 2)?)?;
+    assert!(rt; passes_of(rings.as_slice()) == 5);
     Ok(())
 }

@@ -2,6 +2,8 @@
 #![tactic(auto)]
 
 #[cfg(test)]
+mod bridged;
+#[cfg(test)]
 mod read;
 #[cfg(test)]
 mod written;

@@ -23,7 +23,7 @@ LE 1 E
 ";
 
 /// Texts, and the number of the line where each is wrong; 0 where it is a journal.
-const TEXTS: [(&str, u32); 24] = [
+const TEXTS: [(&str, u32); 50] = [
     (ALONE, 0),
     ("", 1),
     ("%JOURNAL", 1),
@@ -31,7 +31,7 @@ const TEXTS: [(&str, u32); 24] = [
     ("%JOURNAL\r\nR\n%END\n", 1),
     ("%END\n", 1),
     ("%JOURNAL\n", 2),
-    ("%JOURNAL\n%END\n", 2),
+    ("%JOURNAL\n%END\n", 0),
     ("%JOURNAL\nR\n%END", 3),
     ("%JOURNAL\nR\n%END\r\n", 3),
     ("%JOURNAL\nR\n%END\n", 0),
@@ -48,6 +48,32 @@ const TEXTS: [(&str, u32); 24] = [
     ("%JOURNAL\nH 2\nH 1\nR\n%END\n", 3),
     ("%JOURNAL\nH 2\nC 3\nR\n%END\n", 3),
     ("%JOURNAL\nR\nC 2\n%END\n", 3),
+    ("%JOURNAL\nC 2\nB\n%END\n", 0),
+    ("%JOURNAL\nH 2\n%END\n", 0),
+    ("%JOURNAL\nW 9 12\n%END\n", 0),
+    ("%JOURNAL\nR\nJN 5\nR 1\nJN 5\nR 255\n%END\n", 0),
+    ("%JOURNAL\nR 0\n%END\n", 2),
+    ("%JOURNAL\nR 01\n%END\n", 2),
+    ("%JOURNAL\nR 256\n%END\n", 2),
+    ("%JOURNAL\nR \n%END\n", 2),
+    ("%JOURNAL\nR 1 \n%END\n", 2),
+    ("%JOURNAL\nR\nR\n%END\n", 3),
+    ("%JOURNAL\nR 2\nR 2\n%END\n", 3),
+    ("%JOURNAL\nR 2\nR 1\n%END\n", 3),
+    ("%JOURNAL\nR 2\nR\n%END\n", 3),
+    ("%JOURNAL\nC 1\nH 2\nW 0 255\nW 9 9\nR\n%END\n", 0),
+    ("%JOURNAL\nC 1\nW 9 12\nW 10 3\nR 7\n%END\n", 0),
+    ("%JOURNAL\nW 9 12\nW 9 13\n%END\n", 3),
+    ("%JOURNAL\nW 12 9\nW 9 12\n%END\n", 3),
+    ("%JOURNAL\nW 9\n%END\n", 2),
+    ("%JOURNAL\nW 9 12 \n%END\n", 2),
+    ("%JOURNAL\nW 09 12\n%END\n", 2),
+    ("%JOURNAL\nW 9 256\n%END\n", 2),
+    ("%JOURNAL\nW 9 12\nC 2\n%END\n", 3),
+    ("%JOURNAL\nW 9 12\nH 2\n%END\n", 3),
+    ("%JOURNAL\nR\nW 9 12\n%END\n", 3),
+    ("%JOURNAL\nR 1\nH 2\n%END\n", 3),
+    ("%JOURNAL\nW 9 12\nR\n%END\nR 1\n", 5),
 ];
 
 /// Lines of a controller, each right.
@@ -145,6 +171,58 @@ A 10.1.1 G 6103
 A 10.1.1 R\x20
 N 2.4.1 01
 B";
+
+/// Lines of a bridge, each right.
+const BRIDGE_RIGHT: &str = "T 9 2.1.1 5 0300000002
+T 9 2.1.1 5.6.7.8.9 0300000002
+T 9 2.1.1 - 0300000002
+T 0 0.0.0 0 01
+U 12 2.1.1 12.1.1 5 0300000002
+U 12 2.1.1 12.4.4294967295 5.6.7.8.9 0300000002
+A 12 12.1.1 R 0304002a002b
+A 12 12.1.1 B 6103
+V 9 2.1.1 0304002a002b
+G 9
+G 255";
+
+/// Lines of a bridge, each wrong in one way.
+const BRIDGE_WRONG: &str = "T 9 2.1.1 0300000002
+T 9 2.1.1  0300000002
+T 9 2.1.1 5
+T 9 2.1.1 -- 03
+T 9 2.1.1 -.5 03
+T 9 2.1.1 5.- 03
+T 9 2.1.1 5.6.7.8.9.10 03
+T 9 2.1.1 05 03
+T 09 2.1.1 5 03
+T 256 2.1.1 5 03
+T 2.1.1 5 03
+T 9 2.1 5 03
+T 9 2.1.1 5 03\x20
+T 9 2.1.1 5 0G
+U 12 2.1.1 12.1.1 - 03
+U 12 2.1.1 5 03
+U 12 2.1.1 12.1.1 5.6.7.8.9.10 03
+U 12 2.1.1 12.1.1 5
+U 12 2.1.1 12.1.1 03
+U 12 12.1.1 5 03
+A 12 12.1.1 G 0304
+A 12 12.1.1 R
+A 12 12.1.1 R\x20
+A 12 12.1.1 B 610
+A 12.1.1 R 03
+V 9 2.1.1
+V 9 2.1.1 -
+V 9 2.1.1 5 03
+V 2.1.1 03
+G
+G\x20
+G 09
+G 256
+G 9 12
+B
+Q 9.1.1 2 03
+JN 9";
 
 /// Lines of the ring, each right.
 const RING_RIGHT: &str = "PO 2 Q 2.1.1 5 0300000002
@@ -268,6 +346,15 @@ fn lines_of_a_host(rt: HostRuntime) -> Result<(), Fail> {
 }
 
 #[test]
+fn lines_of_a_bridge(rt: HostRuntime) -> Result<(), Fail> {
+    let alloc = rt.alloc();
+    let right = misread(alloc, "W 9 12", BRIDGE_RIGHT, 0)?;
+    let wrong = misread(alloc, "W 9 12", BRIDGE_WRONG, 3)?;
+    assert_eq!(rt; (right, wrong), (0, 0));
+    Ok(())
+}
+
+#[test]
 fn lines_of_the_ring(rt: HostRuntime) -> Result<(), Fail> {
     let alloc = rt.alloc();
     let right = misread(alloc, "R", RING_RIGHT, 0)?;
@@ -295,6 +382,8 @@ fn sizes(rt: HostRuntime) -> Result<(), Fail> {
         ("C 2", "F 2.1.1 G ", "abcd", 101, false),
         ("C 2", "O 1 ", "abcd", 101, false),
         ("R", "PA 2 0 ", "abcd", 1000, true),
+        ("W 9 12", "V 9 2.1.1 ", "00", 253, true),
+        ("W 9 12", "V 9 2.1.1 ", "00", 254, false),
     ];
     for (head, front, digits, count, right) in lines {
         let behind = repeated(alloc, digits, count)?;

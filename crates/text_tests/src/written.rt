@@ -3,7 +3,7 @@ ghost use Rattle.plant_types.specs.Routes.{FitsRoute};
 
 use controller_core::{Call, CallKind, Entry};
 use host_port::{HostEntry, HostResult};
-use joint_history::{ControllerLog, HostLog, Joint};
+use joint_history::{ControllerLog, HostLog, Joint, RingLog};
 use journal_text::{is_plain, journal_text};
 use mstr_block::{CallId, MstrResult};
 use plant_types::{Block, List, Pdu, Route, Words};
@@ -62,20 +62,20 @@ LO 3 2.1.2 RC G -
 %END
 ";
 
-fn id(node: u8, path: u8, seq: u32) -> CallId {
+pub(crate) fn id(node: u8, path: u8, seq: u32) -> CallId {
     CallId { node, path, seq }
 }
 
-fn pdu(alloc: Global, bytes: &[u8]) -> Result<Pdu, Fail> {
+pub(crate) fn pdu(alloc: Global, bytes: &[u8]) -> Result<Pdu, Fail> {
     let pdu = Pdu::of(alloc, bytes)?;
     Ok(pdu.ok_or("a PDU has a byte")?)
 }
 
 // What follows is put into lists that are lent, so that a call that fails drops nothing.
 
-const READS: [u8; 5] = [3, 0, 0, 0, 2];
+pub(crate) const READS: [u8; 5] = [3, 0, 0, 0, 2];
 
-const TELLS: [u8; 6] = [3, 4, 0, 42, 0, 43];
+pub(crate) const TELLS: [u8; 6] = [3, 4, 0, 42, 0, 43];
 
 /// Calls of a controller, and its entry for them.
 fn push_call(alloc: Global, calls: &mut List<Call>, to: u8, bytes: &[u8]) -> Result<(), Fail> {
@@ -203,7 +203,7 @@ fn push_served(alloc: Global, entries: &mut List<HostEntry>) -> Result<(), Fail>
 }
 
 /// Entries of the ring, with frames of the call 2.1.1.
-fn frame(alloc: Global, kind: FrameKind, to: u8, bytes: &[u8]) -> Result<Frame, Fail> {
+pub(crate) fn frame(alloc: Global, kind: FrameKind, to: u8, bytes: &[u8]) -> Result<Frame, Fail> {
     let pdu = pdu(alloc, bytes)?;
     let id = id(2, 1, 1);
     let rest = Route::of(&[]);
@@ -303,12 +303,22 @@ fn push_locals(ring: &mut List<RingEntry>) -> Result<(), AllocError> {
     push_local(ring, id(2, 1, 2), LocalOp::RemoteClear, none)
 }
 
-fn new_joint(alloc: Global) -> Joint {
+pub(crate) fn new_joint(alloc: Global) -> Joint {
     Joint {
         controllers: List::new(alloc),
         hosts: List::new(alloc),
-        ring: List::new(alloc),
+        bridges: List::new(alloc),
+        rings: List::new(alloc),
     }
+}
+
+/// The entries of a ring, under the number of its network.
+pub(crate) fn push_ring(
+    joint: &mut Joint,
+    network: u8,
+    entries: List<RingEntry>,
+) -> Result<(), AllocError> {
+    joint.rings.push(RingLog { network, entries })
 }
 
 fn push_controller(joint: &mut Joint, node: u8, entries: List<Entry>) -> Result<(), AllocError> {
@@ -353,18 +363,23 @@ fn add_host(alloc: Global, joint: &mut Joint) -> Result<(), Fail> {
 fn add_read(alloc: Global, joint: &mut Joint) -> Result<(), Fail> {
     add_reader(alloc, joint)?;
     add_target(alloc, joint)?;
-    push_turns(alloc, &mut joint.ring)
+    let mut ring = List::new(alloc);
+    push_turns(alloc, &mut ring)?;
+    push_ring(joint, 0, ring)?;
+    Ok(())
 }
 
 fn add_local(alloc: Global, joint: &mut Joint) -> Result<(), Fail> {
     add_asker(alloc, joint)?;
     add_host(alloc, joint)?;
-    push_locals(&mut joint.ring)?;
+    let mut ring = List::new(alloc);
+    push_locals(&mut ring)?;
+    push_ring(joint, 0, ring)?;
     Ok(())
 }
 
 /// Whether the journal of a plain joint history is a text.
-fn tells(alloc: Global, joint: &Joint, text: &str) -> Result<bool, AllocError> {
+pub(crate) fn tells(alloc: Global, joint: &Joint, text: &str) -> Result<bool, AllocError> {
     if !is_plain(joint) {
         return Ok(false);
     }
@@ -397,7 +412,9 @@ fn own_ports_and_a_host(rt: HostRuntime) -> Result<(), Fail> {
 fn a_reply_that_strays(rt: HostRuntime) -> Result<(), Fail> {
     let alloc = rt.alloc();
     let mut joint = new_joint(alloc);
-    push_post(alloc, &mut joint.ring, 5, 9)?;
+    let mut ring = List::new(alloc);
+    push_post(alloc, &mut ring, 5, 9)?;
+    push_ring(&mut joint, 0, ring)?;
     let plain = is_plain(&joint);
     assert!(rt; !plain);
     Ok(())
@@ -410,7 +427,9 @@ fn a_reply_that_goes_on(rt: HostRuntime) -> Result<(), Fail> {
     let mut joint = new_joint(alloc);
     let mut frame = frame(alloc, FrameKind::Reply, 2, &TELLS)?;
     frame.rest = Route::of(&[6]);
-    joint.ring.push(RingEntry::Post { node: 5, frame })?;
+    let mut ring = List::new(alloc);
+    ring.push(RingEntry::Post { node: 5, frame })?;
+    push_ring(&mut joint, 0, ring)?;
     let plain = is_plain(&joint);
     assert!(rt; !plain);
     Ok(())

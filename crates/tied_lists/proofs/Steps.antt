@@ -105,7 +105,7 @@ cons-append : {X : Type 0} (o : Option X) (xs ys : List X)
 cons-append None xs ys = refl
 cons-append (Some x) xs ys = refl
 
-ends-append : (station : Station) (asked : List Asked) (b c : List RingEntry)
+pub ends-append : (station : Station) (asked : List Asked) (b c : List RingEntry)
     → ended_by station asked (b ++ c) ≡ ended_by station
     asked b ++ ended_by station (asked ++ asked_by b) c
 ends-append station asked [] c = ap (λ l. ended_by station l c) (sym (append-nil asked))
@@ -124,14 +124,14 @@ ends-append station asked (x ∷ b) c =
     cons-join None xs = refl
     cons-join (Some x) xs = refl
 
-plain-append : (ts us : List Taken) → plain_items (ts ++ us) ≡ plain_items ts ++ plain_items us
+pub plain-append : (ts us : List Taken) → plain_items (ts ++ us) ≡ plain_items ts ++ plain_items us
 plain-append [] us = refl
 plain-append (Plain id rest pdu ∷ ts) us =
     ap (λ (l : List RequestItem). record { id = id; rest = rest; request = Some pdu } ∷ l)
     (plain-append ts us)
 plain-append (ForStats id pdu ∷ ts) us = plain-append ts us
 
-stats-append : (ts us : List Taken) → stats_items (ts ++ us) ≡ stats_items ts ++ stats_items us
+pub stats-append : (ts us : List Taken) → stats_items (ts ++ us) ≡ stats_items ts ++ stats_items us
 stats-append [] us = refl
 stats-append (Plain id rest pdu ∷ ts) us = stats-append ts us
 stats-append (ForStats id pdu ∷ ts) us =

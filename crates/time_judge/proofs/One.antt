@@ -10,6 +10,7 @@ use Rattle.entry_causes.specs.InTime.{IsInTime}
 use Rattle.entry_causes.proofs.Counts.{both}
 use Rattle.time_judge.specs.Reaching.{AreInTimeUpTo}
 use Rattle.time_judge.specs.Judging.{OneStandstill}
+use Rattle.joint_history.specs.Nets.{noted_on_rings}
 
 same-first : (ring : List RingEntry) (a b : List (Log StationEntry)) (l k : Log StationEntry)
     (c d : List (Log StationEntry)) → a ++ l ∷ c ≡ b ++ k ∷ d
@@ -29,15 +30,16 @@ up-to n list ring a b p q x y =
 
 pub one : OneStandstill
 one joint first other x y =
+    let ring = noted_on_rings joint in
     let same : y.log ≡ x.log = sym
-    (same-first joint.ring x.before y.before x.log y.log x.after y.after
+    (same-first ring x.before y.before x.log y.log x.after y.after
     (sym x.logs_are ∙ y.logs_are) x.in_time y.in_time x.here.late y.here.late) in
-    let there : AreInTimeUpTo x.log.node x.log.entries joint.ring other.entries other.place
-    = subst (λ (l : Log StationEntry). AreInTimeUpTo l.node l.entries joint.ring other.entries
+    let there : AreInTimeUpTo x.log.node x.log.entries ring other.entries other.place
+    = subst (λ (l : Log StationEntry). AreInTimeUpTo l.node l.entries ring other.entries
     other.place) same y.here.up_to in
-    let low = up-to x.log.node x.log.entries joint.ring first.entries other.entries first.place
+    let low = up-to x.log.node x.log.entries ring first.entries other.entries first.place
     other.place x.here.up_to there in
-    let high = up-to x.log.node x.log.entries joint.ring other.entries first.entries other.place
+    let high = up-to x.log.node x.log.entries ring other.entries first.entries other.place
     first.place there x.here.up_to in
     let nodes : first.node ≡ other.node = x.here.node
     ∙ (ap (λ (l : Log StationEntry). l.node) (sym same) ∙ sym y.here.node) in

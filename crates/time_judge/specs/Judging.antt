@@ -9,6 +9,7 @@ use Rattle.entry_causes.specs.InTime.{IsInTime}
 use Rattle.entry_causes.specs.Joint.{logs_of}
 use Rattle.time_judge.specs.declared.judging.Standstill.{Standstill}
 use Rattle.time_judge.specs.Reaching.{AreInTimeUpTo}
+use Rattle.joint_history.specs.Nets.{noted_on_rings}
 
 -- A station is not in time, and goes so far.
 pub record StandsStill (ring : List RingEntry) (log : Log StationEntry) (at : Standstill) : Type 0
@@ -40,5 +41,5 @@ IsFirstStandstill ring logs found =
 -- A joint history has one such standstill at most.
 abbrev pub OneStandstill : Type 0
 OneStandstill = (joint : Joint) (one other : Standstill)
-    → StandsStillFirst joint.ring (logs_of joint) one
-    → StandsStillFirst joint.ring (logs_of joint) other → one ≡ other
+    → StandsStillFirst (noted_on_rings joint) (logs_of joint) one
+    → StandsStillFirst (noted_on_rings joint) (logs_of joint) other → one ≡ other

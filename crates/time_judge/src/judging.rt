@@ -1,15 +1,17 @@
 //! Whether a joint history is in time.
-ghost use Rattle.std.specs.Prelude.{◌≡◌, IfOk, map};
+ghost use Rattle.std.specs.Prelude.{◌≡◌, ◌++◌, IfOk, OnOk, map};
 ghost use Rattle.ring_core.specs.Words.{maker};
 ghost use Rattle.one_order.specs.Fronts.{places_of};
 ghost use Rattle.entry_causes.specs.Joint.{controller_log, host_log, logs_of};
+ghost use Rattle.joint_history.specs.Nets.{entries_of_rings, noted_on_rings};
 ghost use Rattle.own_places.specs.Places.{ArePlaces};
 ghost use Rattle.time_judge.specs.Judging.{IsStandstill, IsFirstStandstill};
 
 use crate::counts::StationItem;
 use crate::reaching::how_far;
-use joint_history::{ControllerLog, HostLog, Joint};
+use joint_history::{ControllerLog, HostLog, Joint, RingLog};
 use own_places::OwnPlaces;
+use plant_types::{Copied, List};
 use ring_core::RingEntry;
 use std::alloc::{AllocError, Global};
 
@@ -21,7 +23,8 @@ pub struct Standstill {
     pub node: u8,
     /// How many entries of its list come before that; all of them where only the ring's waits.
     pub entries: usize,
-    /// How many entries of the ring's list do; all of them where only the station's waits.
+    /// How many entries of the rings do, one ring behind the other; all of them where only the
+    /// station's waits.
     pub place: usize,
 }
 
@@ -86,16 +89,58 @@ fn hosts_standstill(
     Ok(None)
 }
 
-/// The first station, the controllers before the hosts, that is not in time, and where; none where
-/// all lists fit one order in time. Takes time in proportion to all entries.
-pub fn first_standstill(alloc: Global, joint: &Joint) -> Result<Option<Standstill>, AllocError>
-    ensures { IfOk result (IsFirstStandstill joint.now.ring (logs_of joint.now)) }
+// The same of all stations, the controllers before the hosts.
+fn joint_standstill(
+    alloc: Global,
+    joint: &Joint,
+    ring: &[RingEntry],
+) -> Result<Option<Standstill>, AllocError>
+    ensures { IfOk result (IsFirstStandstill ring.now (logs_of joint.now)) }
 {
-    let ring = joint.ring.as_slice();
     let own = OwnPlaces::of(alloc, ring)?;
     let controllers = joint.controllers.as_slice();
     if let Some(at) = controllers_standstill(alloc, controllers, ring, &own)? {
         return Ok(Some(at));
     }
     hosts_standstill(alloc, joint.hosts.as_slice(), ring, &own)
+}
+
+fn add_copied(
+    alloc: Global,
+    noted: &mut List<RingEntry>,
+    entries: &[RingEntry],
+) -> Result<(), AllocError>
+    ensures { OnOk result (noted.new ≡ noted.old ++ entries.now) }
+{
+    for entry in entries {
+        noted.push(entry.copied(alloc)?)?;
+    }
+    Ok(())
+}
+
+// The entries of all rings.
+fn noted_copied(alloc: Global, rings: &[RingLog]) -> Result<List<RingEntry>, AllocError>
+    ensures { IfOk result (λ noted. noted ≡ entries_of_rings rings.now) }
+{
+    let mut noted = List::new(alloc);
+    for ring in rings {
+        add_copied(alloc, &mut noted, ring.entries.as_slice())?;
+    }
+    Ok(noted)
+}
+
+/// The first station, the controllers before the hosts, that is not in time, and where; none where
+/// all lists fit one order in time. Takes time in proportion to all entries, and copies those of
+/// the rings where there is more than one ring.
+pub fn first_standstill(alloc: Global, joint: &Joint) -> Result<Option<Standstill>, AllocError>
+    ensures { IfOk result (IsFirstStandstill (noted_on_rings joint.now) (logs_of joint.now)) }
+{
+    match joint.rings.as_slice() {
+        [] => joint_standstill(alloc, joint, &[]),
+        [ring] => joint_standstill(alloc, joint, ring.entries.as_slice()),
+        rings => {
+            let noted = noted_copied(alloc, rings)?;
+            joint_standstill(alloc, joint, noted.as_slice())
+        }
+    }
 }

@@ -1,7 +1,7 @@
 //! Small joint histories, told by their lists.
 use controller_core::{Call, CallKind, Entry};
 use host_port::{HostEntry, HostResult};
-use joint_history::{ControllerLog, HostLog, Joint};
+use joint_history::{ControllerLog, HostLog, Joint, RingLog};
 use mstr_block::{CallId, MstrResult};
 use plant_types::{List, Pdu, Route};
 use ring_core::{Frame, FrameKind, GET_STATISTICS, LeaveCause, LocalOp, RingEntry};
@@ -141,12 +141,18 @@ fn deed_of(alloc: Global, did: Did) -> Result<RingEntry, AllocError> {
     }
 }
 
-fn ring(alloc: Global, list: &[Did]) -> Result<List<RingEntry>, AllocError> {
+fn ring(alloc: Global, network: u8, list: &[Did]) -> Result<RingLog, AllocError> {
     let mut entries = List::new(alloc);
     for one in list {
         entries.push(deed_of(alloc, *one)?)?;
     }
-    Ok(entries)
+    Ok(RingLog { network, entries })
+}
+
+fn one_ring(alloc: Global, list: &[Did]) -> Result<List<RingLog>, AllocError> {
+    let mut rings = List::new(alloc);
+    rings.push(ring(alloc, 0, list)?)?;
+    Ok(rings)
 }
 
 /// Where controllers 1 and 2 and the ring stand still.
@@ -162,7 +168,8 @@ fn two_stand_still(
     let joint = Joint {
         controllers,
         hosts: List::new(alloc),
-        ring: ring(alloc, list)?,
+        bridges: List::new(alloc),
+        rings: one_ring(alloc, list)?,
     };
     first_standstill(alloc, &joint)
 }
@@ -436,20 +443,25 @@ fn answer() -> HostEntry {
     }
 }
 
-/// Where host 7, which asks once, and the ring stand still.
+/// Where host 7 and the rings stand still.
 fn host_stands_still(
     alloc: Global,
     entries: List<HostEntry>,
+    rings: List<RingLog>,
 ) -> Result<Option<Standstill>, AllocError> {
     let mut hosts = List::new(alloc);
     hosts.push(HostLog { node: 7, entries })?;
     let joint = Joint {
         controllers: List::new(alloc),
         hosts,
-        ring: ring(alloc, &[Did::Posts(7), Did::TakesReply(7)])?,
+        bridges: List::new(alloc),
+        rings,
     };
     first_standstill(alloc, &joint)
 }
+
+/// The host asks once.
+const ONCE: [Did; 2] = [Did::Posts(7), Did::TakesReply(7)];
 
 #[test]
 fn a_host_asks_first(rt: HostRuntime) -> Result<(), Fail> {
@@ -457,7 +469,7 @@ fn a_host_asks_first(rt: HostRuntime) -> Result<(), Fail> {
     let mut entries = List::new(alloc);
     entries.push(ask(alloc)?)?;
     entries.push(answer())?;
-    assert!(rt; host_stands_still(alloc, entries)?.is_none());
+    assert!(rt; host_stands_still(alloc, entries, one_ring(alloc, &ONCE)?)?.is_none());
     Ok(())
 }
 
@@ -472,6 +484,19 @@ fn a_host_is_answered_too_soon(rt: HostRuntime) -> Result<(), Fail> {
         entries: 0,
         place: 0,
     };
-    assert!(rt; host_stands_still(alloc, entries)? == Some(at));
+    assert!(rt; host_stands_still(alloc, entries, one_ring(alloc, &ONCE)?)? == Some(at));
+    Ok(())
+}
+
+// A ring's entries stand behind those of the ring before it.
+#[test]
+fn two_rings_are_read_in_turn(rt: HostRuntime) -> Result<(), Fail> {
+    let alloc = rt.alloc();
+    let mut entries = List::new(alloc);
+    entries.push(ask(alloc)?)?;
+    entries.push(answer())?;
+    let mut rings = one_ring(alloc, &ONCE[..1])?;
+    rings.push(ring(alloc, 1, &ONCE[1..])?)?;
+    assert!(rt; host_stands_still(alloc, entries, rings)?.is_none());
     Ok(())
 }

@@ -27,6 +27,7 @@ use Rattle.turn_laws.specs.Laws.{HostsComplete, RunsComplete}
 use Rattle.turn_laws.proofs.Passes.{nil-cons, none-said}
 use Rattle.turn_laws.proofs.Others.{no-replies, no-stays}
 use Rattle.turn_laws.proofs.HostDone.{host-ended}
+use Rattle.joint_history.specs.Nets.{net_of, noted_on_rings}
 
 no-holds : (plan : HostPlan) → AsksInItsHolds plan []
 no-holds plan [] after n f ask is kind asks = nil-cons is
@@ -116,15 +117,18 @@ zip-each P Q f (x ∷ xs) [] all = absurd all
 zip-each P Q f (x ∷ xs) (y ∷ ys) all = (f x y all.0, zip-each P Q f xs ys all.1)
 
 pub run-complete : ControllersComplete → HostsComplete → RunsComplete
-run-complete controllers hosts plant scans joint one two = record {
-  controllers = zip-each (HasFinished plant scans joint.ring) (IsCompleteLog plant scans joint.ring)
-      (λ plan log f. controllers (fixed_of plant scans plan) plant.net log.node log.entries
-      joint.ring f.stands f.keeps f.ended f.collected f.out)
-      plant.controllers joint.controllers one;
-  hosts = zip-each (HostHasFinished plant joint.ring) (IsCompleteHostLog plant joint.ring)
-      (λ plan log f. subst (λ n. HostIsComplete plan (host_items_of log.entries) (own n joint.ring)
-      × (status_at plant.net joint.ring n ≡ Gone)
-      × NodeIsComplete (host_items_of log.entries) (own n joint.ring))
-      (sym f.node) (hosts plan plant.net log.entries joint.ring f.stands f.keeps))
-      plant.hosts joint.hosts two;
-}
+run-complete controllers hosts plant scans joint one two bridges =
+    let ring = noted_on_rings joint in
+    record {
+      controllers = zip-each (HasFinished plant scans ring) (IsCompleteLog plant scans ring)
+          (λ plan log f. controllers (fixed_of plant scans plan) (net_of plant log.node) log.node
+          log.entries ring f.stands f.keeps f.ended f.collected f.out)
+          plant.controllers joint.controllers one;
+      hosts = zip-each (HostHasFinished plant ring) (IsCompleteHostLog plant ring)
+          (λ plan log f. subst (λ n. HostIsComplete plan (host_items_of log.entries) (own n ring)
+          × (status_at (net_of plant log.node) ring n ≡ Gone)
+          × NodeIsComplete (host_items_of log.entries) (own n ring))
+          (sym f.node) (hosts plan (net_of plant log.node) log.entries ring f.stands f.keeps))
+          plant.hosts joint.hosts two;
+      bridges = bridges;
+    }

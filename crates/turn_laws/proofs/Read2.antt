@@ -30,9 +30,11 @@ use Rattle.tied_lists.specs.Items.{due_replies, replied_by, taken_by}
 use Rattle.tied_lists.specs.Own.{own}
 use Rattle.tied_lists.specs.Waits.{status_at}
 use Rattle.joint_history.specs.declared.joint.ControllerLog.{ControllerLog}
+use Rattle.joint_history.specs.declared.joint.Joint.{Joint}
 use Rattle.joint_history.specs.Complete.{EndsEachCall, IsComplete, StaysDone}
 use Rattle.joint_history.specs.Complete.{NodeIsComplete, StandsIn, is_pass}
 use Rattle.joint_history.specs.Reading.{items_of}
+use Rattle.joint_history.proofs.OneRing.{ring_log}
 use Rattle.turn_laws.specs.KeepsOn.{SaidDone}
 use Rattle.turn_laws.proofs.Passes.{RepliesIn, nil-cons, none-said, replies-push, said-push}
 use Rattle.turn_laws.proofs.Passes.{stays-push}
@@ -211,9 +213,10 @@ abbrev plant : Plant
 plant = record {
   scan_time = 1;
   watchdog = 100;
-  net = net;
+  nets = net ∷ [];
   controllers = plan 2 ∷ plan 5 ∷ [];
   hosts = [];
+  bridges = [];
 }
 
 reader-ended : EndsEachCall (items_of reader)
@@ -236,7 +239,15 @@ five-gone = has-gone net ring (take 13 ring) (drop 14 ring) 5 refl tt
 five-complete : NodeIsComplete (items_of target) (own 5 ring)
 five-complete = record { replied = five.replied; done = five.stays; noticed = λ m c. refl }
 
-run-complete : IsComplete plant 2 (record { controllers = both; hosts = []; ring = ring })
+abbrev joint : Joint
+joint = record {
+  controllers = both;
+  hosts = [];
+  bridges = [];
+  rings = ring_log net ring ∷ [];
+}
+
+run-complete : IsComplete plant 2 joint
 run-complete = record {
   controllers = (
     (
@@ -254,4 +265,5 @@ run-complete = record {
     ),
   );
   hosts = tt;
+  bridges = tt;
 }

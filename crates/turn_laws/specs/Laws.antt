@@ -23,7 +23,7 @@ use Rattle.turn_laws.specs.KeepsOn.{HasFinished, HostHasFinished}
 use Rattle.turn_laws.specs.KeepsOn.{NoneSpent, is_out_of_ring, leaves_out}
 use Rattle.joint_history.specs.declared.joint.Joint.{Joint}
 use Rattle.joint_history.specs.Complete.{ControllerIsComplete, HostIsComplete, NodeIsComplete}
-use Rattle.joint_history.specs.Complete.{ControllerIsOut, IsComplete}
+use Rattle.joint_history.specs.Complete.{ControllerIsOut, IsComplete, IsCompleteBridgeLog}
 use Rattle.joint_history.specs.Reading.{is_ours, has_ended_at, has_started_at, is_off_at}
 use Rattle.joint_history.specs.Reading.{host_items_of, items_of}
 use Rattle.tied_lists.specs.Waits.{HasLeft, IsOnRing, has_left, status_at}
@@ -31,6 +31,7 @@ use Rattle.comm_port.specs.Parts.{calls_waiting}
 use Rattle.ring_core.specs.Machine.{addresses, ring_after}
 use Rattle.ring_core.specs.declared.status.NodeStatus.{NodeStatus}
 use Rattle.ring_core.specs.declared.status.NodeStatus.TheVariants.{In, Away, Gone}
+use Rattle.joint_history.specs.Nets.{noted_on_rings}
 
 -- A node is in; or it is 0, and each node is out of the ring.
 abbrev pub IsInOrNobody : NetPlan → List RingEntry → ℕ → Type 0
@@ -126,11 +127,12 @@ HostsComplete =
     × (status_at net ring plan.node ≡ Gone)
     × NodeIsComplete (host_items_of list) (own plan.node ring)
 
--- A run all of whose stations have finished is complete.
+-- A run all of whose stations have finished, and all of whose bridges are complete, is complete.
 abbrev pub RunsComplete : Type 0
 RunsComplete = (plant : Plant) (scans : ℕ) (joint : Joint)
-    → AllZip (HasFinished plant scans joint.ring) plant.controllers joint.controllers
-    → AllZip (HostHasFinished plant joint.ring) plant.hosts joint.hosts
+    → AllZip (HasFinished plant scans (noted_on_rings joint)) plant.controllers joint.controllers
+    → AllZip (HostHasFinished plant (noted_on_rings joint)) plant.hosts joint.hosts
+    → AllZip (IsCompleteBridgeLog plant (noted_on_rings joint)) plant.bridges joint.bridges
     → IsComplete plant scans joint
 
 -- Where a turn that ended so leaves its node: as it came back it asks to come in, or is in already.

@@ -104,7 +104,7 @@ pub fn hosts_complete()
     ensures { HostsComplete }
 {}
 
-/// A run all of whose stations have finished is complete.
+/// A run all of whose stations have finished, and all of whose bridges are complete, is complete.
 pub fn runs_complete()
     ensures { RunsComplete }
 {

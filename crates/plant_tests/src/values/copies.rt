@@ -180,14 +180,16 @@ fn stations(alloc: Global) -> Result<(List<ControllerPlan>, List<HostPlan>), All
 }
 
 fn plant(alloc: Global) -> Result<Plant, AllocError> {
-    let net = net(alloc)?;
+    let nets = only(alloc, net(alloc)?)?;
+    let bridges = only(alloc, BRIDGE)?;
     let (controllers, hosts) = stations(alloc)?;
     Ok(Plant {
         scan_time: 10,
         watchdog: 500,
-        net,
+        nets,
         controllers,
         hosts,
+        bridges,
     })
 }
 
@@ -357,9 +359,11 @@ fn a_plant_and_its_copy(rt: HostRuntime) -> Result<(), AllocError> {
     let copy = copy_of(rt.alloc(), plant(rt.alloc())?)?;
     assert!(rt;
         [copy.scan_time, copy.watchdog] == [10, 500]
-            && is_the_net(&copy.net)
+            && copy.nets.as_slice().len() == 1
+            && copy.nets.as_slice().iter().all(is_the_net)
             && copy.controllers.as_slice().iter().all(is_the_controller)
             && copy.hosts.as_slice().len() == 1
+            && copy.bridges.as_slice() == [BRIDGE].as_slice()
     );
     Ok(())
 }

@@ -4,7 +4,7 @@ use Rattle.bridge_relay.specs.Legal.{due_back}
 use Rattle.comm_port.proofs.Made.{kept-none}
 use Rattle.comm_port.proofs.Parts.{part-both, part-none}
 use Rattle.comm_port.proofs.RingTurns.{kept-both, kept-same}
-use Rattle.bridge_port.specs.EndParts.{ArePosted, IsBack}
+use Rattle.bridge_port.specs.EndParts.{ArePosted, IsBackEntry}
 use Rattle.bridge_port.specs.Sides.{BridgeSideIs}
 use Rattle.bridge_port.proofs.EndSteps.{end-rest, end-then}
 use Rattle.bridge_port.proofs.Posted.{posted-both}
@@ -15,7 +15,7 @@ loop-init g c = record {
   turning = c.requires.turning;
   kept = kept-none (g.R.RingSide.side c.args.ring.now) _ c.args.side c.requires.turning.own_turn;
   part = part-none g.B.BridgeSide.alone g.R.RingSide.alone (is_by c.args.side) c.args.side
-      (ArePosted IsBack c.args.side) _ _ (tt, refl);
+      (ArePosted IsBackEntry c.args.side) _ _ (tt, refl);
   step = end-rest g.B.BridgeSide g.R.RingSide c.args.side c.args.bridge.now c.args.ring.now
       c.requires.turning.legal c.requires.turning.own_turn.on.legal;
 }
@@ -29,9 +29,9 @@ loop-preserved g c =
       turning = s.turning;
       kept = kept-both (g.R.RingSide.side c.args.ring.now).net n _ _ _ i.kept
           (kept-same _ _ n _ _ (sym i.step.node.same) s.kept);
-      part = part-both g.B.BridgeSide.alone g.R.RingSide.alone (is_by n) n (ArePosted IsBack n)
-          (ArePosted IsBack n) (ArePosted IsBack n) _ _ _ _ _ _ (posted-both n IsBack) i.part
-          s.gave.part;
+      part = part-both g.B.BridgeSide.alone g.R.RingSide.alone (is_by n) n (ArePosted IsBackEntry n)
+          (ArePosted IsBackEntry n) (ArePosted IsBackEntry n) _ _ _ _ _ _
+          (posted-both n IsBackEntry) i.part s.gave.part;
       step = end-then g.B.BridgeSide g.R.RingSide n i.step s.step;
     }
 
@@ -50,9 +50,9 @@ returns-clause-gave g c =
     let s = c.in_ok-give_back.ensures in
     let n = c.args.side in
     record {
-      part = part-both g.B.BridgeSide.alone g.R.RingSide.alone (is_by n) n (ArePosted IsBack n)
-          (ArePosted IsBack n) (ArePosted IsBack n) _ _ _ _ _ _ (posted-both n IsBack) i.part
-          s.gave.part;
+      part = part-both g.B.BridgeSide.alone g.R.RingSide.alone (is_by n) n (ArePosted IsBackEntry n)
+          (ArePosted IsBackEntry n) (ArePosted IsBackEntry n) _ _ _ _ _ _
+          (posted-both n IsBackEntry) i.part s.gave.part;
       none_due = subst
           (λ (b : BridgeSideIs _). due_back b.plan
           (g.B.BridgeSide.known c.give_back.new.bridge) n ≡ None)

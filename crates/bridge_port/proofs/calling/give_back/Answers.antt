@@ -4,7 +4,7 @@ use Rattle.bridge_relay.specs.Bridge.{IsGivenBack}
 use Rattle.bridge_relay.specs.Legal.{due_back}
 use Rattle.comm_port.specs.Replies.{reply_frame}
 use Rattle.comm_port.proofs.Made.{kept-none}
-use Rattle.bridge_port.specs.EndParts.{IsBack}
+use Rattle.bridge_port.specs.EndParts.{IsBackEntry}
 use Rattle.bridge_port.proofs.EndSteps.{bridge-asked, bridge-called, end-bridge}
 use Rattle.bridge_port.proofs.EndTurns.{turning-across}
 use Rattle.bridge_port.proofs.Lists.{mine-one}
@@ -43,7 +43,7 @@ returns-clause-gave g c =
     let gave = gave-back g.B.BridgeSide.alone n _ _ _ _ _ c.in_ok-reply.field-0 f c.in-Some.is
     o.went o.legal c.requires.turning in
     record {
-      part = posted-one g.B.BridgeSide.alone g.R.RingSide.alone n IsBack (Back n f.id f.pdu)
+      part = posted-one g.B.BridgeSide.alone g.R.RingSide.alone n IsBackEntry (Back n f.id f.pdu)
           (reply_frame f.id f.pdu) _ _ _ _ tt refl refl gave.went p.grew;
       less = λ is. fewer-backs g.B.BridgeSide.alone _ n _ f.id f.pdu _
           c.requires.turning.is_open.end o.legal gave.went;
@@ -73,7 +73,7 @@ returns-in_default-clause-gave g c =
     let none = none-of g.B.BridgeSide.alone n (λ past. due_back plan past n)
     (λ past f. IsGivenBack plan past n f) _ _ _ c.in_default.is o.went in
     record {
-      part = posted-none g.B.BridgeSide.alone g.R.RingSide.alone n IsBack _ _ _
+      part = posted-none g.B.BridgeSide.alone g.R.RingSide.alone n IsBackEntry _ _ _
           (went-none g.B.BridgeSide.alone n (λ past. due_back plan past n)
           (λ past f. IsGivenBack plan past n f) _ _ _ o.went none);
       less = λ is. absurd (let no' : false ≡ true = is in cc);

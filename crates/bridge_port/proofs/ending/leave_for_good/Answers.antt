@@ -10,7 +10,7 @@ use Rattle.comm_port.specs.Giving.{IsAtRest}
 use Rattle.comm_port.specs.Parts.{InOrder, PartOf}
 use Rattle.comm_port.proofs.Parts.{net-as}
 use Rattle.comm_port.proofs.TurnsEnded.{left-at}
-use Rattle.bridge_port.specs.EndParts.{IsGivenUp}
+use Rattle.bridge_port.specs.EndParts.{EndGivesUp}
 use Rattle.bridge_port.specs.Sides.{BridgeSideIs}
 use Rattle.bridge_port.proofs.EndSteps.{bridge-called, end-bridge, end-then}
 use Rattle.bridge_port.proofs.Leaves.{due-waits, left-for-good, none-out-now, none-waiting}
@@ -95,7 +95,7 @@ returns-clause-leaves g c =
     record {
       given_list = bs.known c.give_up_where.new.bridge;
       gives_up = subst (λ (l : List CallId). PartOf bs.alone rs.alone (is_by n) n
-          (InOrder (IsGivenUp n) l) (bs.known c.args.bridge.now)
+          (InOrder (EndGivesUp n) l) (bs.known c.args.bridge.now)
           (bs.known c.give_up_where.new.bridge) before given)
           (due-waits net n before on c.requires.left) e.given;
       none_waits = none-waiting n given (λ p is. none-waits net n p before given is on on'

@@ -9,7 +9,7 @@ use Rattle.comm_port.proofs.HostGives.{left-at}
 use Rattle.comm_port.proofs.Made.{kept-none}
 use Rattle.comm_port.proofs.Parts.{net-as, part-none}
 use Rattle.comm_port.proofs.RingTurns.{kept-both, kept-same}
-use Rattle.bridge_port.specs.EndParts.{IsGivenUp}
+use Rattle.bridge_port.specs.EndParts.{EndGivesUp}
 use Rattle.bridge_port.proofs.EndSteps.{end-rest, end-then}
 use Rattle.bridge_port.proofs.GivesUp.{given-more, given-skip}
 use Rattle.bridge_port.proofs.giving.give_up_where.Goals as goal
@@ -36,7 +36,7 @@ loop-path-preserved g c =
       given = given-more bs.alone rs.alone side.net n _ c.loop-path.path _ _ _ _ _ _
           c.loop-path.auto.path c.loop-path-test.true c.if-not-chosen-path.false i.part i.given
           (net-as (λ (m : NetPlan). PartOf bs.alone rs.alone (is_by n) n
-          (InOrder (IsGivenUp n)
+          (InOrder (EndGivesUp n)
           (due_calls m n (rs.known c.loop-path.ring) (c.loop-path.path ∷ [])))
           (bs.known c.loop-path.bridge) (bs.known c.give_up_path.new.bridge)
           (rs.known c.loop-path.ring) (rs.known c.give_up_path.new.ring)) _ _ i.step.node.same
@@ -86,7 +86,7 @@ pub returns-clause-given : goal.returns-clause-given
 returns-clause-given g c =
     let n = c.args.side in
     subst (λ (k : ℕ). PartOf g.B.BridgeSide.alone g.R.RingSide.alone (is_by n) n
-    (InOrder (IsGivenUp n) (due_calls (g.R.RingSide.side c.args.ring.now).net n
+    (InOrder (EndGivesUp n) (due_calls (g.R.RingSide.side c.args.ring.now).net n
     (g.R.RingSide.known c.args.ring.now) (chosen_below c.args.chosen.now k)))
     (g.B.BridgeSide.known c.args.bridge.now) (g.B.BridgeSide.known c.loop-path.bridge)
     (g.R.RingSide.known c.args.ring.now) (g.R.RingSide.known c.loop-path.ring))

@@ -5,7 +5,7 @@ use Rattle.comm_port.specs.Giving.{GivesWhere, chosen_below, due_calls}
 use Rattle.comm_port.specs.Parts.{InOrder, PartOf}
 use Rattle.comm_port.specs.Sending.{sends_left}
 use Rattle.comm_port.specs.Turns.{KeepsInbox}
-use Rattle.bridge_port.specs.EndParts.{IsGivenUp}
+use Rattle.bridge_port.specs.EndParts.{EndGivesUp}
 use Rattle.bridge_port.specs.EndSteps.{EndStep}
 use Rattle.bridge_port.specs.EndTurns.{EndTurning}
 use Rattle.bridge_port.proofs.giving.give_up_where.Given as goal
@@ -22,7 +22,7 @@ invariant-loop-path g l = record {
   left : HasLeft (g.R.RingSide.side l.initial.ring).net (g.R.RingSide.known l.initial.ring) l.side
       → HasLeft (g.R.RingSide.side l.initial.ring).net (g.R.RingSide.known l.ring) l.side;
   given : PartOf g.B.BridgeSide.alone g.R.RingSide.alone (is_by l.side) l.side
-      (InOrder (IsGivenUp l.side) (due_calls (g.R.RingSide.side
+      (InOrder (EndGivesUp l.side) (due_calls (g.R.RingSide.side
       l.initial.ring).net l.side (g.R.RingSide.known l.initial.ring)
       (chosen_below l.chosen l.path))) (g.B.BridgeSide.known
       l.initial.bridge) (g.B.BridgeSide.known l.bridge) (g.R.RingSide.known l.initial.ring)

@@ -12,8 +12,8 @@ use Rattle.comm_port.specs.Turns.{KeepsInbox}
 use Rattle.comm_port.proofs.HostHolds.{ok-then}
 use Rattle.comm_port.proofs.Parts.{net-as}
 use Rattle.comm_port.proofs.RingTurns.{kept-both}
-use Rattle.bridge_port.specs.EndParts.{BacksAll, EndsEndTurn, ForwardsOn, HoldsEndTurn, IsGivenUp}
-use Rattle.bridge_port.specs.EndParts.{SendsAll}
+use Rattle.bridge_port.specs.EndParts.{BacksAll, EndsEndTurn, ForwardsOn, HoldsEndTurn, EndGivesUp}
+use Rattle.bridge_port.specs.EndParts.{EndSendsAll}
 use Rattle.bridge_port.proofs.EndSteps.{end-then}
 use Rattle.bridge_port.proofs.HoldTurns.{given-over, may-forward, plan-as, rest-sent}
 use Rattle.bridge_port.proofs.Leaves.{rest-given}
@@ -177,7 +177,7 @@ returns-clause-held g c =
     let forwards = net-as (λ (m : NetPlan). ForwardsOn bs.alone rs.alone plan m n l2 l3 r2 r3 fresh)
     _ _ two (plan-as (λ (p : BridgePlan). ForwardsOn bs.alone rs.alone p
     (rs.side c.give_all_back.new.ring).net n l2 l3 r2 r3 fresh) _ _ second d.forwarded) in
-    let sends = net-as (λ (m : NetPlan). SendsAll bs.alone rs.alone m n l3 l4 r3 r4) _ _ three
+    let sends = net-as (λ (m : NetPlan). EndSendsAll bs.alone rs.alone m n l3 l4 r3 r4) _ _ three
     e.sent in
     let called = net-as (λ (m : NetPlan). Holds m r3 n) _ _ two (d.kept.holds
     (net-as (λ (m : NetPlan). Holds m r2 n) _ _ (sym b.step.node.same) (b.kept.holds a.holds))) in
@@ -205,7 +205,7 @@ returns-clause-held g c =
       gives_up = given-over bs.alone rs.alone net n l4 l5 r4 r5 holds
           (rest-sent bs.alone rs.alone net n l3 l4 r3 r4 sends)
           (net-as (λ (m : NetPlan). PartOf bs.alone rs.alone (is_by n) n
-          (InOrder (IsGivenUp n) (due_calls m n r4 network_paths)) l4 l5 r4 r5) _ _ four f.given);
+          (InOrder (EndGivesUp n) (due_calls m n r4 network_paths)) l4 l5 r4 r5) _ _ four f.given);
       ends = subst (λ (some : Bool). EndsEndTurn bs.alone rs.alone plan net n c.args.budget some
           l5 l6 r5 r6 left) (c.is_any_chosen.ensures ∙ sym forwards.any)
           (net-as (λ (m : NetPlan). EndsEndTurn bs.alone rs.alone plan m n c.args.budget

@@ -1,17 +1,20 @@
-use Rattle.std.proofs.Common.{◌≡◌, [], All, map, sym, ap, subst, ◌∙◌}
+use Rattle.std.proofs.Common.{◌≡◌, [], ◌∷◌, All, map, sym, ap, subst, ◌∙◌}
 use Rattle.std.specs.List.{zip}
 use Rattle.turn_gate.specs.Known.{Owns, StartsWith}
 use Rattle.plant_types.specs.declared.net.HostPlan.{HostPlan}
+use Rattle.plant_types.specs.declared.net.NetPlan.{NetPlan}
 use Rattle.plant_types.specs.declared.plan.ControllerPlan.{ControllerPlan}
 use Rattle.plant_types.specs.declared.plan.Plant.{Plant}
-use Rattle.plant_types.specs.Plans.{IsPlant}
-use Rattle.ring_core.specs.Kept.{RingLog}
+use Rattle.plant_types.specs.Plans.{IsPlant, first_net}
+use Rattle.ring_core.specs.Kept.{KeptRing}
 use Rattle.ring_core.specs.Legal.{IsLegalRing}
 use Rattle.ring_core.specs.Words.{maker}
 use Rattle.joint_history.specs.declared.noted.Noted.{Noted}
 use Rattle.joint_history.specs.Complete.{IsComplete}
 use Rattle.joint_history.specs.JointLaws.{IsJoint, IsLegalJoint}
+use Rattle.joint_history.specs.Nets.{entries_of_rings, noted_on_rings}
 use Rattle.joint_history.specs.Noted.{IsNoted, notes_by_log}
+use Rattle.joint_history.proofs.OneRing.{ring_log}
 use Rattle.effect_laws.specs.Effects.{EffectsAreRight}
 use Rattle.entry_causes.specs.Joint.{IsInOneOrder}
 use Rattle.turn_laws.specs.KeepsOn.{NoneSpent}
@@ -43,8 +46,8 @@ through_ring-pass-requires-clause-serving g c κs within =
 pub through_ring-pass-requires-clause-net : goal.through_ring-pass-requires-clause-net
 through_ring-pass-requires-clause-net g c κs within =
     let made = c.new-3.ensures ∙ c.in_ok-ring.ensures in
-    (c.in_ok-gate.ensures.fixed ∙ ap (λ (r : RingLog). r.net) made)
-    ∙ ap (λ (p : Plant). p.net) (sym c.new-run.ensures.plant)
+    (c.in_ok-gate.ensures.fixed ∙ ap (λ (r : KeptRing). r.net) made)
+    ∙ (c.first_net-net.ensures ∙ ap first_net (sym c.new-run.ensures.plant))
 
 pub returns : goal.returns
 returns g c =
@@ -62,25 +65,34 @@ returns g c =
     let ring = c.into_history-ring.result in
     let made = c.new-3.ensures ∙ c.in_ok-ring.ensures in
     let unopened : p.gate.opening ≡ [] = ap (λ x. x.opening) through.gate_is
-    ∙ (c.in_ok-gate.ensures.opening ∙ ap (λ (r : RingLog). r.history) made) in
+    ∙ (c.in_ok-gate.ensures.opening ∙ ap (λ (r : KeptRing). r.history) made) in
     let inner : c.into_inner.result ≡ ring_in c.close.result = c.into_inner.ensures in
     let history : ring ≡ (ring_in c.close.result).history =
-    c.into_history-ring.ensures.history ∙ ap (λ (r : RingLog). r.history) inner in
-    let net : c.into_inner.result.net ≡ plant.net = ap (λ (r : RingLog). r.net) inner
+    c.into_history-ring.ensures.history ∙ ap (λ (r : KeptRing). r.history) inner in
+    let first : c.first_net-net.result.now ≡ first_net plant = c.first_net-net.ensures in
+    let net : c.into_inner.result.net ≡ first_net plant = ap (λ (r : KeptRing). r.net) inner
     ∙ (c.close.ensures.fixed
-    ∙ (c.in_ok-gate.ensures.fixed ∙ ap (λ (r : RingLog). r.net) made)) in
-    let legal : IsLegalRing plant.net ring =
+    ∙ (c.in_ok-gate.ensures.fixed ∙ ap (λ (r : KeptRing). r.net) made)) ∙ first in
+    let legal : IsLegalRing (first_net plant) ring =
     subst (λ n. IsLegalRing n ring) net
     (subst (IsLegalRing c.into_inner.result.net) (sym c.into_history-ring.ensures.history)
     c.into_history-ring.ensures.legal) in
     let ran = through.ran c.if-not-done.false in
     let served = through.served c.if-not-done.false in
-    let closed : (noted : Noted) → IsMadeOf logs hosts ring noted
+    let rings = c.in_ok-rings.rings in
+    let only : rings ≡ ring_log (first_net plant) ring ∷ [] =
+    c.in_ok-rings.ensures ∙ ap (λ (n : NetPlan). ring_log n ring ∷ []) first in
+    let on-it : (noted : Noted) → IsMadeOf logs hosts rings noted
+    → noted_on_rings noted.joint ≡ ring =
+    λ noted m. ap entries_of_rings (m.rings_are ∙ only) in
+    let closed : (noted : Noted) → IsMadeOf logs hosts rings noted
     → Closes plant scans noted.joint = λ noted m.
-    closes plant scans noted.joint p c.requires.plant.sound unopened
-    (subst (Owns maker p) (sym (m.ring_is ∙ history)) c.close.ensures.own)
-    (subst (λ l. All (StartsWith l) p.heard) (sym (m.ring_is ∙ history)) c.close.ensures.heard)
-    (subst (IsLegalRing plant.net) (sym m.ring_is) legal)
+    let is = on-it noted m in
+    closes plant scans noted.joint p c.requires.plant.sound m.bridges_are
+    (m.rings_are ∙ only ∙ ap (λ l. ring_log (first_net plant) l ∷ []) (sym is)) unopened
+    (subst (Owns maker p) (sym (is ∙ history)) c.close.ensures.own)
+    (subst (λ l. All (StartsWith l) p.heard) (sym (is ∙ history)) c.close.ensures.heard)
+    (subst (IsLegalRing (first_net plant)) (sym is) legal)
     (subst (λ l. AreBrought p.joined p.heard (λ (plan : ControllerPlan). plan.node)
     (CameToEnd plant scans) plant.controllers l) (sym m.controllers_are)
     (logs-brought plant scans p.joined p.heard plant.controllers logs ran))
@@ -89,15 +101,16 @@ returns g c =
     let brought = notes-brought plant scans p.joined p.heard c.notes_ask_no_scans.ensures
     plant.controllers logs ran in
     let each =
-    λ (Q : Noted → Type 0) (f : (noted : Noted) → IsMadeOf logs hosts ring noted → Q noted).
-    if-ok c.noted_of.result (IsMadeOf logs hosts ring) Q c.noted_of.ensures f in
+    λ (Q : Noted → Type 0) (f : (noted : Noted) → IsMadeOf logs hosts rings noted → Q noted).
+    if-ok c.noted_of.result (IsMadeOf logs hosts rings) Q c.noted_of.ensures f in
     record {
       legal = each (λ noted. IsLegalJoint plant scans noted.joint) (λ n m. (closed n m).legal);
       joint = each (λ noted. IsJoint noted.joint) (λ n m. (closed n m).ties);
       complete = each (λ noted. IsComplete plant scans noted.joint)
           (λ n m. c.runs_complete.ensures plant scans n.joint (closed n m).controllers
-          (closed n m).hosts);
-      unspent = each (λ noted. NoneSpent noted.joint.ring) (λ n m. (closed n m).unspent);
+          (closed n m).hosts (closed n m).bridges);
+      unspent = each (λ noted. NoneSpent (noted_on_rings noted.joint))
+          (λ n m. (closed n m).unspent);
       effects = each (λ noted. EffectsAreRight noted.joint)
           (λ n m. c.effects_are_right.ensures plant scans n.joint c.requires.plant.sound
           (closed n m).legal (closed n m).ties);

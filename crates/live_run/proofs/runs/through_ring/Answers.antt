@@ -4,7 +4,8 @@ use Rattle.std.specs.List.{AllZip}
 use Rattle.turn_gate.specs.Known.{PassFacts}
 use Rattle.plant_types.specs.declared.net.HostPlan.{HostPlan}
 use Rattle.plant_types.specs.declared.plan.ControllerPlan.{ControllerPlan}
-use Rattle.plant_types.specs.Plans.{controller_nodes, host_nodes}
+use Rattle.plant_types.specs.Plans.{controller_nodes, first_net, host_nodes}
+use Rattle.plant_types.proofs.OneNet.{on-net}
 use Rattle.ring_core.specs.Legal.{IsMember}
 use Rattle.ring_core.specs.declared.entry.RingEntry.{RingEntry}
 use Rattle.joint_history.specs.declared.joint.HostLog.{HostLog}
@@ -61,10 +62,12 @@ run_all-requires-clause-fresh g c κs within =
     let plant = c.args.run.now.plant.now in
     let plans = c.as_slice-plans.result.now in
     let plans-are : plans ≡ plant.controllers = c.as_slice-plans.ensures in
+    let on = on-net plant c.requires.plant in
     let all = fresh-all c.args.gate.now (λ (plan : ControllerPlan). plan.node) NotedLog plant
-    plans c.requires.plant.net c.requires.plant.no_bridge c.requires.net c.requires.opening
-    (subst (λ l. All (λ n. IsMember plant.net n) (map (λ (plan : ControllerPlan). plan.node) l))
-    (sym plans-are) (controllers-members plant c.requires.plant)) in
+    plans on.plan on.no_bridge c.requires.net c.requires.opening
+    (subst (λ l. All (λ n. IsMember (first_net plant) n)
+    (map (λ (plan : ControllerPlan). plan.node) l)) (sym plans-are)
+    (controllers-members plant c.requires.plant)) in
     subst (λ l. AreFresh seat_side seat_seen plant (λ (plan : ControllerPlan). plan.node) plans l)
     (sym (c.as_mut_slice.ensures.value ∙ c.deal-pass.ensures.stations)) all
 
@@ -73,9 +76,10 @@ run_all-requires-clause-fresh_hosts g c κs within =
     let plant = c.args.run.now.plant.now in
     let plans = c.as_slice-host_plans.result.now in
     let hosts-are : plans ≡ plant.hosts = c.as_slice-host_plans.ensures in
+    let on = on-net plant c.requires.plant in
     let all = fresh-all c.args.gate.now (λ (plan : HostPlan). plan.node) HostLog plant
-    plans c.requires.plant.net c.requires.plant.no_bridge c.requires.net c.requires.opening
-    (subst (λ l. All (λ n. IsMember plant.net n) (map (λ (plan : HostPlan). plan.node) l))
+    plans on.plan on.no_bridge c.requires.net c.requires.opening
+    (subst (λ l. All (λ n. IsMember (first_net plant) n) (map (λ (plan : HostPlan). plan.node) l))
     (sym hosts-are) (hosts-members plant c.requires.plant)) in
     subst (λ l. AreFresh seat_side seat_seen plant (λ (plan : HostPlan). plan.node) plans l)
     (sym (c.as_mut_slice-2.ensures.value ∙ c.deal-pass-2.ensures.stations)) all

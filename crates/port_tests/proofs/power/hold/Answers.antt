@@ -1,6 +1,5 @@
-use Rattle.std.proofs.Common.{ℕ, List, sym, ap, ◌∙◌, subst}
+use Rattle.std.proofs.Common.{ℕ, sym, ap, ◌∙◌, subst}
 use Rattle.plant_types.specs.declared.net.NetPlan.{NetPlan}
-use Rattle.ring_core.specs.declared.entry.RingEntry.{RingEntry}
 use Rattle.tied_lists.specs.Waits.{Holds}
 use Rattle.comm_port.specs.Failing.{IsAway}
 use Rattle.comm_port.specs.Turns.{IsNoBridge}

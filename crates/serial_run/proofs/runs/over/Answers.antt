@@ -1,4 +1,8 @@
-use Rattle.std.proofs.Common.{◌∙◌, refl, subst}
+use Rattle.std.proofs.Common.{◌∙◌, ap, subst, sym}
+use Rattle.plant_types.specs.declared.net.NetPlan.{NetPlan}
+use Rattle.joint_history.specs.Complete.{IsCompleteBridgeLog}
+use Rattle.joint_history.specs.Nets.{noted_on_rings}
+use Rattle.joint_history.proofs.OneRing.{bridges-zip}
 use Rattle.serial_run.specs.Serial.{Repeats}
 use Rattle.serial_run.specs.Stations.{joint_of}
 use Rattle.serial_run.proofs.Off.{nobody-away}
@@ -44,11 +48,14 @@ returns c =
       serial = record {
         ended_joint = repeats;
         repeats = subst (λ first. Repeats plant scans first repeats) start.nothing
-            (repeated.did.made plant scans start.stand refl);
+            (repeated.did.made plant scans start.stand
+            (sym (ap (λ (net : NetPlan). net.rotations) c.first_net.ensures)));
         finishes = finished.did.made plant scans stands;
       };
       complete = c.runs_complete.ensures plant scans (joint_of last)
           (all-finished-there plant scans last stand finished.left ended finished.off
           finished.visited)
-          (all-hosts-finished plant scans last stand finished.left);
+          (all-hosts-finished plant scans last stand finished.left)
+          (bridges-zip (IsCompleteBridgeLog plant (noted_on_rings (joint_of last))) plant
+          stand.sound);
     }

@@ -1,5 +1,7 @@
-use Rattle.std.proofs.Common.{subst}
+use Rattle.std.proofs.Common.{true, ap, subst, ◌∙◌}
+use Rattle.plant_types.specs.declared.net.NetPlan.{NetPlan}
 use Rattle.controller_core.specs.Controller.{ControllerIs, IsLegal}
+use Rattle.comm_port.specs.Worker.{new_worker}
 use Rattle.serial_run.proofs.Starting.{start-controller}
 use Rattle.serial_run.proofs.stations.controller_of.Goals as goal
 
@@ -9,4 +11,5 @@ returns c =
     start-controller c.args.plant.now c.args.scans c.args.plan.now c.in_ok-controller.controller
     c.in_ok-worker.worker c.requires.plant.sound
     c.requires.member (subst (λ (v : ControllerIs). IsLegal v.fixed v.history) is
-    c.history.ensures.legal) is c.in_ok-worker.ensures
+    c.history.ensures.legal) is (c.in_ok-worker.ensures
+    ∙ ap (λ (net : NetPlan). new_worker c.args.plan.now.node net true) c.first_net.ensures)

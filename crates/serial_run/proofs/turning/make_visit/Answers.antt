@@ -1,5 +1,5 @@
 use Rattle.std.proofs.Common.{◌≡◌, true, Bool, refl, sym, ap, subst, ◌∙◌}
-use Rattle.ring_core.specs.Kept.{RingLog}
+use Rattle.ring_core.specs.Kept.{KeptRing}
 use Rattle.controller_core.specs.Controller.{has_ended, has_started, is_off}
 use Rattle.joint_history.specs.Reading.{has_started_at}
 use Rattle.tied_lists.specs.Waits.{HasLeft, status_at}
@@ -14,7 +14,7 @@ use Rattle.serial_run.proofs.Keeping.{same-worker, stands-behind}
 use Rattle.serial_run.proofs.turning.make_visit.Goals as goal
 
 -- whose visit is due has left
-has-left : (s : ControllerStation) (ring : RingLog) → s.node ≡ s.worker.node
+has-left : (s : ControllerStation) (ring : KeptRing) → s.node ≡ s.worker.node
     → is_visit_due ring s ≡ true → HasLeft ring.net ring.history s.worker.node
 has-left s ring node due =
     out-left (has_ended s.controller && is_off s.controller)

@@ -1,6 +1,6 @@
 use Rattle.std.proofs.Common.{ap, ◌∙◌}
 use Rattle.turn_gate.specs.Known.{PassFacts}
-use Rattle.ring_core.specs.Kept.{RingLog}
+use Rattle.ring_core.specs.Kept.{KeptRing}
 use Rattle.ring_core.specs.Words.{maker}
 use Rattle.ring_core.specs.declared.entry.RingEntry.{RingEntry}
 use Rattle.tied_lists.specs.Own.{is_of}
@@ -18,7 +18,7 @@ returns-clause-went g c =
           (ap (λ (s : GatedRingIs). s.number) c.self.view_is
           ∙ c.requires.serves) c.enter-held.ensures.found
           (ap (λ (s : GatedRingIs). s.seen) c.self.view_is)
-          (ap (λ (v : RingLog). v.history) found) (c.awaits-answer.ensures.went.list)
+          (ap (λ (v : KeptRing). v.history) found) (c.awaits-answer.ensures.went.list)
           (ap (λ (p : PassFacts RingEntry). p.seen) c.leave.ensures.pass);
       kept = tt;
     }

@@ -1,6 +1,6 @@
 use Rattle.std.proofs.Common.{[], ap, ◌∙◌}
 use Rattle.turn_gate.specs.Known.{PassFacts}
-use Rattle.ring_core.specs.Kept.{RingLog}
+use Rattle.ring_core.specs.Kept.{KeptRing}
 use Rattle.ring_core.specs.Words.{maker}
 use Rattle.ring_core.specs.declared.entry.RingEntry.{RingEntry}
 use Rattle.tied_lists.specs.Own.{is_of}
@@ -16,7 +16,7 @@ returns-clause-went g c node serves =
       list = stay-went maker (is_of node) node (none-own node) c.self.inside.pass _ _ _ _ _ _
           (ap (λ (s : GatedRingIs). s.number) c.self.view_is ∙ serves) c.enter-held.ensures.found
           (ap (λ (s : GatedRingIs). s.seen) c.self.view_is)
-          (ap (λ (v : RingLog). v.history) found) (c.holder-answer.ensures.went node tt).list
+          (ap (λ (v : KeptRing). v.history) found) (c.holder-answer.ensures.went node tt).list
           (ap (λ (p : PassFacts RingEntry). p.seen) c.leave.ensures.pass);
       kept = tt;
     }
@@ -28,5 +28,5 @@ leave-requires-clause-added g c =
     stay-adds maker (is_of n) c.enter-held.new.pass n _ _ [] _
     (ap (λ (p : PassFacts RingEntry). p.number) c.enter-held.ensures.pass)
     (ap (λ (p : PassFacts RingEntry). p.seen) c.enter-held.ensures.pass)
-    (ap (λ (v : RingLog). v.history) found) (c.holder-answer.ensures.went n tt).list
+    (ap (λ (v : KeptRing). v.history) found) (c.holder-answer.ensures.went n tt).list
     (all_none maker n)

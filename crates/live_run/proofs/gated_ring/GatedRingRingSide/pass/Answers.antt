@@ -1,6 +1,6 @@
 use Rattle.std.proofs.Common.{ℕ, true, List, [], ◌∷◌, ap, subst, ◌∙◌, refl}
 use Rattle.turn_gate.specs.Known.{PassFacts}
-use Rattle.ring_core.specs.Kept.{RingLog}
+use Rattle.ring_core.specs.Kept.{KeptRing}
 use Rattle.ring_core.specs.Words.{maker}
 use Rattle.ring_core.specs.declared.entry.RingEntry.{RingEntry}
 use Rattle.tied_lists.specs.Own.{is_of}
@@ -19,7 +19,7 @@ leave-requires-clause-added g c =
     (ap (λ (p : PassFacts RingEntry). p.number) c.enter-held.ensures.pass
     ∙ (ap (λ (s : GatedRingIs). s.number) c.self.view_is ∙ c.requires.serves))
     (ap (λ (p : PassFacts RingEntry). p.seen) c.enter-held.ensures.pass)
-    (ap (λ (v : RingLog). v.history) found) c.pass-answer.ensures.went.list
+    (ap (λ (v : KeptRing). v.history) found) c.pass-answer.ensures.went.list
     (all_if maker c.args.node c.pass-answer.result (λ _. Pass c.args.node c.args.done
     (words_put c.args.node c.get_mut-ring.result.now.history)) (λ _. refl))
 
@@ -32,7 +32,7 @@ returns-clause-went g c =
           (ap (λ (s : GatedRingIs). s.number) c.self.view_is
           ∙ c.requires.serves) c.enter-held.ensures.found
           (ap (λ (s : GatedRingIs). s.seen) c.self.view_is)
-          (ap (λ (v : RingLog). v.history) found) (subst
+          (ap (λ (v : KeptRing). v.history) found) (subst
           (λ (words : List ℕ). WentOn true (is_of c.args.node) c.get_mut-ring.result.now.history
           (added_if c.pass-answer.result (λ _. Pass c.args.node c.args.done words ∷ []))
           c.pass-answer.new.self.history)
@@ -40,7 +40,7 @@ returns-clause-went g c =
           c.get_mut-ring.result.now.history
           (ap (λ (s : GatedRingIs). s.number) c.self.view_is
           ∙ c.requires.serves) c.enter-held.ensures.found
-          (ap (λ (s : GatedRingIs). s.seen) c.self.view_is) (ap (λ (v : RingLog). v.history) found))
+          (ap (λ (s : GatedRingIs). s.seen) c.self.view_is) (ap (λ (v : KeptRing). v.history) found))
           c.pass-answer.ensures.went.list)
           (ap (λ (p : PassFacts RingEntry). p.seen) c.leave.ensures.pass);
       kept = tt;

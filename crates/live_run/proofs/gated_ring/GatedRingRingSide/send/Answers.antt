@@ -1,6 +1,6 @@
 use Rattle.std.proofs.Common.{ap, ◌∙◌, refl}
 use Rattle.turn_gate.specs.Known.{PassFacts}
-use Rattle.ring_core.specs.Kept.{RingLog}
+use Rattle.ring_core.specs.Kept.{KeptRing}
 use Rattle.ring_core.specs.Words.{maker}
 use Rattle.ring_core.specs.declared.entry.RingEntry.{RingEntry}
 use Rattle.tied_lists.specs.Own.{is_of}
@@ -17,7 +17,7 @@ leave-requires-clause-added g c =
     (ap (λ (p : PassFacts RingEntry). p.number) c.enter-held.ensures.pass
     ∙ (ap (λ (s : GatedRingIs). s.number) c.self.view_is ∙ c.requires.serves))
     (ap (λ (p : PassFacts RingEntry). p.seen) c.enter-held.ensures.pass)
-    (ap (λ (v : RingLog). v.history) found) c.send-answer.ensures.went.list
+    (ap (λ (v : KeptRing). v.history) found) c.send-answer.ensures.went.list
     (all_if maker c.args.node c.send-answer.result (λ heard. Send c.args.node heard) (λ _. refl))
 
 pub returns-clause-went : goal.returns-clause-went
@@ -29,7 +29,7 @@ returns-clause-went g c =
           (ap (λ (s : GatedRingIs). s.number) c.self.view_is
           ∙ c.requires.serves) c.enter-held.ensures.found
           (ap (λ (s : GatedRingIs). s.seen) c.self.view_is)
-          (ap (λ (v : RingLog). v.history) found) (c.send-answer.ensures.went.list)
+          (ap (λ (v : KeptRing). v.history) found) (c.send-answer.ensures.went.list)
           (ap (λ (p : PassFacts RingEntry). p.seen) c.leave.ensures.pass);
       kept = tt;
     }

@@ -55,10 +55,11 @@ returns-in-Some-clause-did c =
     let new : Stations = record {
       controllers = with_item run.controllers at t;
       hosts = run.hosts;
+      network = run.network;
       ring = c.come_back.new.ring;
     } in
     on-ok c.come_back.result
-    (λ came. came-did run new at s t found.0 refl refl came c.args.node place)
+    (λ came. came-did run new at s t found.0 refl refl came refl c.args.node place)
     c.come_back.ensures
 
 pub returns-in-Some-clause-scans : goal.returns-in-Some-clause-scans
@@ -72,6 +73,7 @@ returns-in-Some-clause-scans c =
     let new : Stations = record {
       controllers = with_item run.controllers at t;
       hosts = run.hosts;
+      network = run.network;
       ring = c.come_back.new.ring;
     } in
     on-ok c.come_back.result (λ came. came-scans run new at s t found.0 refl came)
@@ -88,6 +90,7 @@ returns-in-Some-clause-gain c =
     let new : Stations = record {
       controllers = with_item run.controllers at t;
       hosts = run.hosts;
+      network = run.network;
       ring = c.come_back.new.ring;
     } in
     on-ok c.come_back.result

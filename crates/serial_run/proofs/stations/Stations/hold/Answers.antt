@@ -97,6 +97,7 @@ returns-in-Some-clause-off c =
     (record {
       controllers = with_item run.controllers at t;
       hosts = run.hosts;
+      network = run.network;
       ring = c.hold_controller.new.ring;
     }) at s t c.requires.all found.0 refl held) c.hold_controller.ensures
 
@@ -112,6 +113,7 @@ returns-in-Some-host_at-clause-off c =
     (record {
       controllers = run.controllers;
       hosts = with_item run.hosts at c.hold_host.new.station;
+      network = run.network;
       ring = c.hold_host.new.ring;
     }) at s c.hold_host.new.station c.requires.all found.0 refl held refl)
     c.hold_host.ensures
@@ -134,9 +136,10 @@ returns-in-Some-clause-held c =
     (record {
       controllers = with_item run.controllers at c.hold_controller.new.station;
       hosts = run.hosts;
+      network = run.network;
       ring = c.hold_controller.new.ring;
     }) at s c.hold_controller.new.station
-    found.0 holds refl refl budget held)
+    found.0 holds refl refl refl budget held)
     c.hold_controller.ensures
 
 pub returns-in-Some-clause-scans : goal.returns-in-Some-clause-scans
@@ -152,6 +155,7 @@ returns-in-Some-clause-scans c =
     (record {
       controllers = with_item run.controllers at c.hold_controller.new.station;
       hosts = run.hosts;
+      network = run.network;
       ring = c.hold_controller.new.ring;
     }) at s c.hold_controller.new.station
     found.0 refl budget held)
@@ -172,6 +176,7 @@ returns-in-Some-clause-less c =
     (record {
       controllers = with_item run.controllers at c.hold_controller.new.station;
       hosts = run.hosts;
+      network = run.network;
       ring = c.hold_controller.new.ring;
     }) at s c.hold_controller.new.station
     c.requires.all found.0 refl refl token held)
@@ -218,9 +223,10 @@ returns-in-Some-host_at-clause-held c =
     (λ held. host-hold-did run (record {
       controllers = run.controllers;
       hosts = with_item run.hosts at c.hold_host.new.station;
+      network = run.network;
       ring = c.hold_host.new.ring;
     }) at s c.hold_host.new.station found.0 refl refl budget held
-    none holds)
+    refl none holds)
     c.hold_host.ensures
 
 pub returns-in-Some-host_at-clause-scans : goal.returns-in-Some-host_at-clause-scans
@@ -230,6 +236,7 @@ returns-in-Some-host_at-clause-scans c = on-ok c.hold_host.result
       controllers = c.args.self.now.controllers;
       hosts = with_item c.args.self.now.hosts
           c.in-Some-host_at.at c.hold_host.new.station;
+      network = c.args.self.now.network;
       ring = c.hold_host.new.ring;
     }) refl)
     c.hold_host.ensures
@@ -251,6 +258,7 @@ returns-in-Some-host_at-clause-less c =
       controllers = run.controllers;
       hosts = with_item run.hosts at
           c.hold_host.new.station;
+      network = run.network;
       ring = c.hold_host.new.ring;
     }) at s c.hold_host.new.station
     c.requires.all found.0 refl refl token held)

@@ -9,6 +9,7 @@ use Rattle.serial_run.proofs.stations.Stations.scan_all.Goals as goal
 pub loop-at-init : goal.loop-at-init
 loop-at-init c = record {
   hosts = refl;
+  network = refl;
   ring = refl;
   some = none-scanned
       c.args.self.now.controllers.items;
@@ -40,6 +41,7 @@ loop-at-preserved c =
     let o = c.in_ok-scan.ensures in
     record {
       hosts = c.loop-at.invariant.hosts;
+      network = c.loop-at.invariant.network;
       ring = c.loop-at.invariant.ring;
       some = one-more-scanned first c.loop-at.self.controllers.items at s t c.loop-at.invariant.some
           (omega (arith, less, end, size))
@@ -54,7 +56,7 @@ returns-clause-scans c =
     let end = c.len-at-end.ensures in
     let size = c.args.self.now.controllers.ok.0 in
     let i = c.loop-at.invariant in
-    scan-all-did c.args.self.now c.loop-at.self (ap (λ v. v.items) i.hosts) i.ring
+    scan-all-did c.args.self.now c.loop-at.self (ap (λ v. v.items) i.hosts) i.network i.ring
     (everyone-scanned c.args.self.now.controllers.items c.loop-at.self.controllers.items
     c.loop-at.at (omega (arith, low, high, end, size)) i.some)
 

@@ -18,10 +18,11 @@ returns-in-Some c =
     let new : Stations = record {
       controllers = with_item run.controllers at t;
       hosts = run.hosts;
+      network = run.network;
       ring = run.ring;
     } in
     on-ok c.make_step.result (λ made. step-did run new c.args.node at s w found.0 place refl refl
-    refl made) c.make_step.ensures
+    refl refl made) c.make_step.ensures
 
 pub returns-in-None : goal.returns-in-None
 returns-in-None c = no-step-did c.args.self.now c.args.node

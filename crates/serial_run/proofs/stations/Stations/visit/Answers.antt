@@ -55,6 +55,7 @@ returns-in-Some-clause-gain c =
     let new : Stations = record {
       controllers = with_item run.controllers at t;
       hosts = run.hosts;
+      network = run.network;
       ring = c.visit_controller.new.ring;
     } in
     on-ok c.visit_controller.result
@@ -73,6 +74,7 @@ returns-in-Some-clause-off c =
     let new : Stations = record {
       controllers = with_item run.controllers at t;
       hosts = run.hosts;
+      network = run.network;
       ring = c.visit_controller.new.ring;
     } in
     on-ok c.visit_controller.result
@@ -91,6 +93,7 @@ returns-in-Some-clause-here c =
     let new : Stations = record {
       controllers = with_item run.controllers at t;
       hosts = run.hosts;
+      network = run.network;
       ring = c.visit_controller.new.ring;
     } in
     on-ok c.visit_controller.result (λ visited. visit-here run new at s t found.0 refl refl
@@ -115,10 +118,11 @@ returns-in-Some-clause-visited c =
     let new : Stations = record {
       controllers = with_item run.controllers at t;
       hosts = run.hosts;
+      network = run.network;
       ring = c.visit_controller.new.ring;
     } in
     on-ok c.visit_controller.result
-    (λ visited. visit-did run new at s t found.0 refl refl visited c.args.node place)
+    (λ visited. visit-did run new at s t found.0 refl refl visited refl c.args.node place)
     c.visit_controller.ensures
 
 pub returns-in-Some-clause-scans : goal.returns-in-Some-clause-scans
@@ -132,6 +136,7 @@ returns-in-Some-clause-scans c =
     let new : Stations = record {
       controllers = with_item run.controllers at t;
       hosts = run.hosts;
+      network = run.network;
       ring = c.visit_controller.new.ring;
     } in
     on-ok c.visit_controller.result (λ visited. visit-scans run new at s t found.0 refl visited)

@@ -5,7 +5,7 @@ use Rattle.joint_law.specs.LawEnds.{IsLawsEnd}
 use Rattle.joint_law.proofs.LawSteps.{none-of}
 use Rattle.joint_law.proofs.Verdicts.{end-spot, incomplete-spot, law-spot, laws-joint}
 use Rattle.joint_law.proofs.Verdicts.{legal-sections}
-use Rattle.joint_law.proofs.judging.spot_from_laws.Goals as goal
+use Rattle.joint_law.proofs.judging.spot_beside.Goals as goal
 
 pub returns-in-Some : goal.returns-in-Some
 returns-in-Some c =
@@ -15,8 +15,7 @@ returns-in-Some c =
 
 pub first_incomplete-requires-clause-sections : goal.first_incomplete-requires-clause-sections
 first_incomplete-requires-clause-sections c =
-    legal-sections c.args.plant.now c.args.scans c.args.joint.now c.requires.legal.controllers
-    c.requires.legal.hosts
+    legal-sections c.args.plant.now c.args.scans c.args.joint.now c.requires.legal
 
 pub returns-in-Some-2 : goal.returns-in-Some-2
 returns-in-Some-2 c =

@@ -10,13 +10,13 @@ use Rattle.tied_lists.specs.Items.{OverNet, Outcome, Replied, Lacked, Items, Ite
 use Rattle.tied_lists.specs.Items.{with_calls, with_answer, with_end}
 
 -- The entries that an end made, in order.
-abbrev pub made_by : ℕ → List BridgeEntry → List BridgeEntry
-made_by side list = filter (is_by side) list
+abbrev pub made_at_end : ℕ → List BridgeEntry → List BridgeEntry
+made_at_end side list = filter (is_by side) list
 
 -- What a call of an end came to.
-abbrev pub outcome_of : RelayResult → Outcome
-outcome_of (Reply pdu) = Replied pdu
-outcome_of (Bad word) = Lacked word
+abbrev pub relay_outcome : RelayResult → Outcome
+relay_outcome (Reply pdu) = Replied pdu
+relay_outcome (Bad word) = Lacked word
 
 -- What an entry of an end adds to the items: a request that it sent on is a call, one that it
 -- accepted is answered, by whatever it gives back later, and a call that it finished has ended.
@@ -25,7 +25,7 @@ side_item_next a (Accept side id route request) = with_answer a
     (record { id = id; rest = route; request = Some request; reply = None })
 side_item_next a (Forward side old id route request) =
     with_calls a (record { id = id; sort = OverNet route request } ∷ [])
-side_item_next a (Finish side id result) = with_end a id (outcome_of result)
+side_item_next a (Finish side id result) = with_end a id (relay_outcome result)
 side_item_next a _ = a
 
 abbrev pub side_items_after : Items → List BridgeEntry → Items
@@ -34,7 +34,7 @@ side_items_after a (e ∷ es) = side_items_after (side_item_next a e) es
 
 -- The items of a bridge's list for one of its ends.
 abbrev pub side_items : ℕ → List BridgeEntry → Items
-side_items side list = side_items_after no_items (made_by side list)
+side_items side list = side_items_after no_items (made_at_end side list)
 
 -- A reply that was given back.
 abbrev pub back_of : BridgeEntry → Option Item
@@ -43,4 +43,4 @@ back_of _ = None
 
 -- The replies that an end gave back, in order.
 abbrev pub backs_of : ℕ → List BridgeEntry → List Item
-backs_of side list = filter_map back_of (made_by side list)
+backs_of side list = filter_map back_of (made_at_end side list)

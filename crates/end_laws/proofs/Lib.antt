@@ -1,0 +1,8 @@
+pub mod Rows
+pub mod Others
+pub mod Ended
+pub mod Complete
+pub mod Silent
+pub mod Parts
+pub mod Turn
+pub mod Worked

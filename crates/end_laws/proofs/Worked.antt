@@ -1,0 +1,106 @@
+-- Worked lists of the end 7 of a bridge, which answers a request for its statistics between two
+-- Passes that say done, and leaves; and of one that asks something there.
+use Rattle.std.proofs.Common.{◌≡◌, true, false, List, [], ◌∷◌, refl, arith}
+use Rattle.plant_types.specs.declared.net.BridgePlan.{BridgePlan}
+use Rattle.plant_types.specs.declared.net.Fate.TheVariants.{D}
+use Rattle.plant_types.specs.declared.net.NetPlan.{NetPlan}
+use Rattle.mstr_block.specs.declared.call.CallId.{CallId}
+use Rattle.mstr_block.specs.declared.call.MstrResult.TheVariants.{Good}
+use Rattle.bridge_relay.specs.declared.entry.BridgeEntry.TheVariants.{Gone}
+use Rattle.ring_core.specs.Statistics.{get_statistics}
+use Rattle.ring_core.specs.declared.frame.Frame.{Frame}
+use Rattle.ring_core.specs.declared.frame.FrameKind.TheVariants.{Request, Reply}
+use Rattle.ring_core.specs.declared.entry.LeaveCause.TheVariants.{Ended}
+use Rattle.ring_core.specs.declared.entry.LocalOp.TheVariants.{RemoteGet}
+use Rattle.ring_core.specs.declared.entry.RingEntry.{RingEntry}
+use Rattle.ring_core.specs.declared.entry.RingEntry.TheVariants.{Post, Take, Local, Pass, Leave}
+use Rattle.joint_history.specs.Complete.{LeavesQuietly, SaysDone}
+use Rattle.end_laws.specs.EndKeeps.{EndKeepsOn, IsQuietSinceDone}
+use Rattle.end_laws.proofs.Rows.{each-all, leaves-more, leaves-none, leaves-push}
+use Rattle.end_laws.proofs.Rows.{quiet-more, quiet-none, quiet-push}
+
+abbrev bridge : BridgePlan
+bridge = record { left_net = 1; left = 7; right_net = 2; right = 8 }
+
+abbrev net : NetPlan
+net = record {
+  number = 1;
+  members = 5 ∷ 7 ∷ [];
+  bridges = 7 ∷ [];
+  fates = D ∷ [];
+  answer = 2;
+  rotations = 1;
+  rounds = 1;
+  holds = 9;
+}
+
+abbrev call : CallId
+call = record { node = 5; path = 1; seq = 1 }
+
+abbrev asks : Frame
+asks = record { kind = Request; to = 7; rest = []; id = call; pdu = get_statistics }
+
+abbrev tells : Frame
+tells = record { kind = Reply; to = 5; rest = []; id = call; pdu = 8 ∷ [] }
+
+abbrev done : RingEntry
+done = Pass 7 true []
+
+abbrev answers : List RingEntry
+answers = Take 7 asks ∷ Local 7 call RemoteGet (Good []) ∷ Post 7 tells ∷ []
+
+-- it answers, which is no call of its own
+abbrev answered : List RingEntry
+answered = done ∷ Take 7 asks ∷ Local 7 call RemoteGet (Good []) ∷ Post 7 tells ∷ done ∷ []
+
+is-quiet : IsQuietSinceDone answered
+is-quiet = quiet-push (done ∷ answers) done
+    (quiet-more (done ∷ []) answers (refl, (refl, (refl, tt)))
+    (λ row. (tt, ((λ same. omega (arith, same)), (refl, tt))))
+    (quiet-push [] done quiet-none (λ row. tt)))
+    (λ row. tt)
+
+leaves-no : LeavesQuietly answered
+leaves-no = leaves-push (done ∷ answers) done
+    (leaves-more (done ∷ []) answers (refl, (refl, (refl, tt)))
+    (leaves-push [] done leaves-none (λ n is. absurd cc)))
+    (λ n is. absurd cc)
+
+keeps : EndKeepsOn bridge net 7 [] answered false
+keeps = record {
+  leaves = leaves-no;
+  quiet = λ stays. is-quiet;
+  none_out = λ stays before between node words d. refl;
+  gone = λ left. absurd (let bad : false ≡ true = left in cc);
+}
+
+-- it leaves then, as all is done
+abbrev left_ring : List RingEntry
+left_ring = done ∷ Take 7 asks ∷ Local 7 call RemoteGet (Good []) ∷ Post 7 tells ∷ done
+    ∷ Leave 7 Ended ∷ []
+
+keeps-left : EndKeepsOn bridge net 7 (Gone 7 ∷ []) left_ring true
+keeps-left = record {
+  leaves = leaves-push answered (Leave 7 Ended) leaves-no (λ n is. is-quiet);
+  quiet = λ stays. absurd (let bad : true ≡ false = stays in cc);
+  none_out = λ stays. absurd (let bad : true ≡ false = stays in cc);
+  gone = λ left. record { bridge = refl; on_ring = refl; none = refl };
+}
+
+-- ---- it asks between them
+
+abbrev own_call : CallId
+own_call = record { node = 7; path = 1; seq = 1 }
+
+abbrev asked : Frame
+asked = record { kind = Request; to = 5; rest = []; id = own_call; pdu = get_statistics }
+
+not-quiet : IsQuietSinceDone (done ∷ Post 7 asked ∷ done ∷ []) → ⊥
+not-quiet law =
+    let quiet = law [] (Post 7 asked ∷ done ∷ []) 7 []
+    (record { stands = refl; done = each-all SaysDone (Post 7 asked ∷ done ∷ []) (tt, (refl, tt)) })
+    in
+    let bad : Request ≡ Reply = quiet 0 done (omega arith) in cc
+
+not-so : EndKeepsOn bridge net 7 [] (done ∷ Post 7 asked ∷ done ∷ []) false → ⊥
+not-so k = not-quiet (k.quiet refl)

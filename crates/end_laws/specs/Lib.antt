@@ -1,0 +1,2 @@
+pub mod EndKeeps
+pub mod Laws

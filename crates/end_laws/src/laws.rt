@@ -1,0 +1,29 @@
+//! Laws of the turns of a bridge's end, whoever else writes between their entries. This project's
+//! own.
+ghost use Rattle.end_laws.specs.Laws.{EndsStartKeep, EndTurnsKeepOn, EndOthersKeepOn};
+ghost use Rattle.end_laws.specs.Laws.{EndsAcrossKeepOn, EndsComplete};
+
+/// An end whose node has no entry yet has all that turns keep.
+pub fn ends_start_keep()
+    ensures { EndsStartKeep }
+{}
+
+/// A hold of the token by a bridge's end keeps it.
+pub fn end_turns_keep_on()
+    ensures { EndTurnsKeepOn }
+{}
+
+/// Entries of other nodes keep it.
+pub fn end_others_keep_on()
+    ensures { EndOthersKeepOn }
+{}
+
+/// Entries of the other end of the bridge keep it.
+pub fn ends_across_keep_on()
+    ensures { EndsAcrossKeepOn }
+{}
+
+/// An end that has left is complete.
+pub fn ends_complete()
+    ensures { EndsComplete }
+{}

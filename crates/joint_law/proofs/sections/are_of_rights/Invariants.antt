@@ -1,0 +1,6 @@
+use Rattle.std.proofs.Common.{◌≡◌, map, take}
+use Rattle.joint_law.proofs.sections.are_of_rights.Given as goal
+
+abbrev pub invariant-loop-at : goal.invariant-loop-at
+invariant-loop-at l =
+    map (λ log. log.right) (take l.at l.logs) ≡ map (λ plan. plan.right) (take l.at l.plans)

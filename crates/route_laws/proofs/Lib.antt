@@ -1,0 +1,17 @@
+pub mod Sums
+pub mod Members
+pub mod Rings
+pub mod Sent
+pub mod Ends
+pub mod Once
+pub mod Homes
+pub mod Effects
+pub mod Ways
+pub mod Given
+pub mod Plain
+pub mod Places
+pub mod Sides
+pub mod Traces
+pub mod Success
+pub mod Plants
+mod Example
