@@ -3,12 +3,12 @@ use Rattle.std.proofs.Common.{◌≡◌, ◌≢◌, ℕ, ◌-◌, ◌<◌, ◌�
 use Rattle.std.proofs.Common.{length, get_or, map, take, drop, eqb}
 use Rattle.std.proofs.Common.{refl, sym, ap, subst, ◌∙◌, ⊎_elim, arith}
 use Rattle.std.specs.Prelude.{◌==◌, if◌then◌else◌}
-use Rattle.std.specs.List.{All, Any, IsDistinct, zip}
+use Rattle.std.specs.List.{All, Any, IsDistinct, flat_map, zip}
 use Rattle.std.proofs.Math.ListN.{get_or-map}
 use Rattle.std.proofs.lemmas.Bool.{cases_eq, cases_lt, eq-eqb}
-use Rattle.std.proofs.lemmas.List.{get_or_append_left, get_or_default, length-append, length-map}
-use Rattle.std.proofs.lemmas.List.{map-append, take-append-drop, take-take}
-use Rattle.std.proofs.lemmas.Map.Keys.{IsDistinct-from_apart, apart_from_distinct}
+use Rattle.std.proofs.lemmas.List.{get_or_default, length-map, map-append, take-append-drop}
+use Rattle.std.proofs.lemmas.List.{take-take}
+use Rattle.std.proofs.lemmas.Map.Keys.{apart_from_distinct}
 use Rattle.plant_types.specs.declared.net.BridgePlan.{BridgePlan}
 use Rattle.plant_types.specs.declared.net.HostPlan.{HostPlan}
 use Rattle.plant_types.specs.declared.net.NetPlan.{NetPlan}
@@ -18,7 +18,7 @@ use Rattle.plant_types.specs.Plans.{IsPlant, controller_nodes, end_nodes, host_n
 use Rattle.plant_types.proofs.OneNet.{rising-distinct}
 use Rattle.ring_core.specs.declared.entry.RingEntry.{RingEntry}
 use Rattle.ring_core.specs.Legal.{IsLegalRing}
-use Rattle.tied_lists.specs.Items.{downs_by}
+use Rattle.tied_lists.specs.Items.{ABridge, AController, AHost, Item, Items, Station, downs_by}
 use Rattle.controller_core.specs.Controller.{IsLegal}
 use Rattle.controller_core.specs.Laws.{FrontsAreLegal}
 use Rattle.host_port.specs.Legal.{IsHostHistory}
@@ -32,9 +32,8 @@ use Rattle.joint_history.specs.Complete.{IsComplete}
 use Rattle.joint_history.specs.JointLaws.{IsJoint, IsLegalBridgeLog, IsLegalHostLog, IsLegalLog}
 use Rattle.joint_history.specs.JointLaws.{IsLegalRingLog, fixed_of}
 use Rattle.joint_history.specs.Nets.{noted_on_rings}
-use Rattle.joint_law.specs.Bound.{Bound, BreaksLaw, KeepsLaw, bounds_of, controller_bound}
-use Rattle.joint_law.specs.Bound.{host_bound}
-use Rattle.joint_law.specs.Bound.{number_of}
+use Rattle.joint_law.specs.Bound.{Bound, BreaksLaw, BreaksReplies, KeepsLaw, bounds_of}
+use Rattle.joint_law.specs.Bound.{controller_bound, host_bound, number_of, side_bounds}
 use Rattle.joint_law.specs.Differing.{BreaksAt, DifferAt}
 use Rattle.joint_law.specs.Failing.{AreFounded}
 use Rattle.joint_law.specs.Spots.{AreLegalBridgeLogs, AreLegalHostLogs, AreLegalLogs}
@@ -48,6 +47,7 @@ use Rattle.joint_law.specs.declared.verdict.Verdict.{Verdict}
 use Rattle.joint_law.specs.declared.verdict.Verdict.TheVariants.{Legal, Illegal}
 use Rattle.joint_law.proofs.CourseSteps.{same-size}
 use Rattle.joint_law.proofs.Founded.{founded-front}
+use Rattle.joint_law.proofs.SideBounds.{side-nodes}
 use Rattle.joint_law.proofs.Verdicts.{bridge-front, complete-at, host-front, joint-keeps}
 use Rattle.joint_law.proofs.Verdicts.{kept-unbroken, legal-sections, no-break, ring-front}
 use Rattle.joint_law.proofs.Verdicts.{some-pair}
@@ -85,23 +85,22 @@ break-once Good fronts entries p q d e =
     (λ (l : q ≤ p). break-less Good fronts entries q p (omega arith) e d) (cases_lt p q)))
     (cases_eq p q)
 
+replies-once : (station : Station) (items : Items) (backs : List Item) (ring : List RingEntry)
+    (p q : ℕ) → BreaksReplies station items backs ring p → BreaksReplies station items backs ring q
+    → p ≡ q
+replies-once AController items backs ring p q d e = differ-once _ _ p q d e
+replies-once AHost items backs ring p q d e = differ-once _ _ p q d e
+replies-once ABridge items backs ring p q d e = differ-once _ _ p q d e
+
 law-once : (law : Law) (s : Bound) (p q : ℕ) → BreaksLaw law s p → BreaksLaw law s q → p ≡ q
 law-once Asks s p q d e = differ-once _ _ p q d e
 law-once Answers s p q d e = differ-once _ _ p q d e
-law-once Replies s p q d e = differ-once _ _ p q d e
+law-once Replies s p q d e = replies-once s.station s.items s.backs s.ring p q d e
 law-once Ends s p q d e = differ-once _ _ p q d e
 law-once Downs s p q d e =
     break-once (AreFounded s.items.fails) (founded-front s.items.fails) (downs_by s.ring) p q d e
 
 -- ---- addresses
-
-distinct-first : (xs ys : List ℕ) → IsDistinct eqb (xs ++ ys) → IsDistinct eqb xs
-distinct-first xs ys distinct =
-    let n = length-append xs ys in
-    IsDistinct-from_apart eqb xs (λ i j d less low.
-    sym (λ k. eqb (get_or_append_left xs ys d i (omega (arith, less, low)) k)
-    (get_or_append_left xs ys d j low k))
-    ∙ apart_from_distinct eqb (xs ++ ys) i j d distinct less (omega (arith, low, n)))
 
 same-place : (xs : List ℕ) → IsDistinct eqb xs → (i j d : ℕ) → i < length xs → j < length xs
     → get_or xs i d ≡ get_or xs j d → i ≡ j
@@ -175,15 +174,19 @@ host-bound-nodes ring (g ∷ gs) = ap (λ (l : List ℕ). g.node ∷ l) (host-bo
 bounds-distinct : (plant : Plant) (joint : Joint) → IsPlant plant → HasSections plant joint
     → IsDistinct eqb (map (λ (s : Bound). s.node) (bounds_of joint))
 bounds-distinct plant joint sound sections =
-    let nodes : map (λ (s : Bound). s.node) (bounds_of joint) ≡ controller_nodes plant
-    ++ host_nodes plant =
-    map-append (λ (s : Bound). s.node)
-    (map (controller_bound (noted_on_rings joint)) joint.controllers)
-    (map (host_bound (noted_on_rings joint)) joint.hosts)
-    ∙ (λ i. (bound-nodes (noted_on_rings joint) joint.controllers ∙ sections.controllers) i
-    ++ (host-bound-nodes (noted_on_rings joint) joint.hosts ∙ sections.hosts) i) in
-    subst (IsDistinct eqb) (sym nodes)
-    (distinct-first (controller_nodes plant ++ host_nodes plant) (end_nodes plant) sound.once)
+    let node : Bound → ℕ = λ (s : Bound). s.node in
+    let controllers = map (controller_bound (noted_on_rings joint)) joint.controllers in
+    let hosts = map (host_bound (noted_on_rings joint)) joint.hosts in
+    let nodes : map node (bounds_of joint) ≡ controller_nodes plant ++ host_nodes plant
+    ++ end_nodes plant =
+    map-append node (controllers ++ hosts)
+    (flat_map (side_bounds (noted_on_rings joint)) joint.bridges)
+    ∙ (λ i. (map-append node controllers hosts
+    ∙ (λ j. (bound-nodes (noted_on_rings joint) joint.controllers ∙ sections.controllers) j
+    ++ (host-bound-nodes (noted_on_rings joint) joint.hosts ∙ sections.hosts) j)) i
+    ++ side-nodes (noted_on_rings joint) plant.bridges joint.bridges sections.lefts
+    sections.rights i) in
+    subst (IsDistinct eqb) (sym nodes) sound.once
 
 -- ---- how far a joint history is in order
 

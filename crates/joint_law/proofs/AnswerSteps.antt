@@ -6,7 +6,7 @@ use Rattle.std.specs.List.{cons_option, filter_map}
 use Rattle.std.proofs.lemmas.List.Elements.{filter_map-append}
 use Rattle.tied_lists.specs.Items.{Answered, ForStats, Item, Plain, RequestItem, Taken}
 use Rattle.tied_lists.specs.Items.{due_replies, due_reply, first_reply, item_of, rest_of}
-use Rattle.joint_law.specs.Bound.{Sorted, sorted, sorted_answer}
+use Rattle.joint_law.specs.Bound.{Sorted, SortedOf, sorted, sorted_answer}
 use Rattle.joint_law.specs.Taking.{DueNext, items_for, left_plain, left_stats}
 
 pub items_for-append : (statistics : Bool) (xs ys : List Taken)
@@ -52,46 +52,48 @@ left_stats-append (Plain id rest pdu ∷ ts) us L = left_stats-append ts us L
 left_stats-append (ForStats id pdu ∷ ts) us L = left_stats-append ts us (rest_of L)
 
 -- two joined lists of two sorts are one where their parts are
-abbrev pick : Bool → Bool → RequestItem → Option RequestItem
+abbrev pick : {A : Type 0} → Bool → Bool → A → Option A
 pick true true item = Some item
 pick true false item = None
 pick false true item = None
 pick false false item = Some item
 
-abbrev of-sort : Bool → Sorted → Option RequestItem
+abbrev of-sort : {A : Type 0} → Bool → SortedOf A → Option A
 of-sort statistics s = pick statistics s.statistics s.item
 
-picks-own : (statistics : Bool) (xs : List RequestItem)
+picks-own : {A : Type 0} (statistics : Bool) (xs : List A)
     → filter_map (of-sort statistics) (map (sorted statistics) xs) ≡ xs
 picks-own true [] = refl
-picks-own true (x ∷ xs) = ap (λ (l : List RequestItem). x ∷ l) (picks-own true xs)
+picks-own true (x ∷ xs) = ap (λ l. x ∷ l) (picks-own true xs)
 picks-own false [] = refl
-picks-own false (x ∷ xs) = ap (λ (l : List RequestItem). x ∷ l) (picks-own false xs)
+picks-own false (x ∷ xs) = ap (λ l. x ∷ l) (picks-own false xs)
 
-picks-other : (xs : List RequestItem) → filter_map (of-sort true) (map (sorted false) xs) ≡ []
+picks-other : {A : Type 0} (xs : List A)
+    → filter_map (of-sort true) (map (sorted false) xs) ≡ []
 picks-other [] = refl
 picks-other (x ∷ xs) = picks-other xs
 
-picks-another : (xs : List RequestItem) → filter_map (of-sort false) (map (sorted true) xs) ≡ []
+picks-another : {A : Type 0} (xs : List A)
+    → filter_map (of-sort false) (map (sorted true) xs) ≡ []
 picks-another [] = refl
 picks-another (x ∷ xs) = picks-another xs
 
-abbrev joined : List RequestItem → List RequestItem → List Sorted
+abbrev joined : {A : Type 0} → List A → List A → List (SortedOf A)
 joined peers port = map (sorted false) peers ++ map (sorted true) port
 
-first-part : (peers port : List RequestItem)
+first-part : {A : Type 0} (peers port : List A)
     → filter_map (of-sort false) (joined peers port) ≡ peers
 first-part peers port =
     filter_map-append (of-sort false) (map (sorted false) peers) (map (sorted true) port)
     ∙ ((λ i. picks-own false peers i ++ picks-another port i) ∙ append-nil peers)
 
-second-part : (peers port : List RequestItem)
+second-part : {A : Type 0} (peers port : List A)
     → filter_map (of-sort true) (joined peers port) ≡ port
 second-part peers port =
     filter_map-append (of-sort true) (map (sorted false) peers) (map (sorted true) port)
     ∙ (λ i. picks-other peers i ++ picks-own true port i)
 
-pub parts-same : (peers port peers' port' : List RequestItem)
+pub parts-same : {A : Type 0} (peers port peers' port' : List A)
     → joined peers port ≡ joined peers' port'
     → (peers ≡ peers') × (port ≡ port')
 parts-same peers port peers' port' e = (

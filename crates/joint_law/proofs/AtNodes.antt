@@ -3,7 +3,7 @@ use Rattle.std.proofs.Common.{◌≡◌, ℕ, ◌+◌, ◌<◌, ◌≤◌, Bool,
 use Rattle.std.proofs.Common.{length}
 use Rattle.std.proofs.Common.{get_or, map}
 use Rattle.std.proofs.Common.{refl, sym, ap, subst, ◌∙◌, ◌⊎◌, ⊎_elim, arith}
-use Rattle.std.specs.List.{All, AllZip, Contains, zip}
+use Rattle.std.specs.List.{All, AllZip, Contains, flat_map, zip}
 use Rattle.std.proofs.Math.ListN.{get_or-map}
 use Rattle.std.proofs.lemmas.Bool.{cases_lt}
 use Rattle.std.proofs.lemmas.List.{get_or_default, length-map, length-append, get_or_append_left}
@@ -11,6 +11,7 @@ use Rattle.std.proofs.lemmas.List.{get_or-append-add}
 use Rattle.std.proofs.lemmas.List.Elements.{All-append, All-map}
 use Rattle.std.proofs.lemmas.List.Sorted.{All-permutation, IsPermutation-sym}
 use Rattle.std.proofs.lemmas.Slice.Zip.{get_or-zip, length-zip}
+use Rattle.plant_types.specs.declared.net.BridgePlan.{BridgePlan}
 use Rattle.plant_types.specs.declared.net.HostPlan.{HostPlan}
 use Rattle.plant_types.specs.declared.net.NetPlan.{NetPlan}
 use Rattle.plant_types.specs.declared.plan.ControllerPlan.{ControllerPlan}
@@ -20,6 +21,7 @@ use Rattle.plant_types.specs.Plans.{first_net}
 use Rattle.plant_types.proofs.OneNet.{on-net}
 use Rattle.ring_core.specs.Machine.{addresses}
 use Rattle.ring_core.specs.declared.entry.RingEntry.{RingEntry}
+use Rattle.joint_history.specs.declared.joint.BridgeLog.{BridgeLog}
 use Rattle.joint_history.specs.declared.joint.ControllerLog.{ControllerLog}
 use Rattle.joint_history.specs.declared.joint.HostLog.{HostLog}
 use Rattle.joint_history.specs.declared.joint.Joint.{Joint}
@@ -44,13 +46,14 @@ use Rattle.host_port.specs.declared.entry.HostEntry.{HostEntry}
 use Rattle.std.specs.Prelude.{◌↔◌, IsTrue, count_by, Option}
 use Rattle.joint_law.specs.declared.complete.Followed.{Followed}
 use Rattle.joint_law.specs.declared.complete.Standing.{Standing}
-use Rattle.joint_law.specs.Bound.{Bound, bounds_of, controller_bound, host_bound}
+use Rattle.joint_law.specs.Bound.{Bound, bounds_of, controller_bound, host_bound, side_bounds}
 use Rattle.joint_law.specs.Spots.{HasSections, IsCompleteAt}
-use Rattle.joint_law.proofs.CourseSteps.{same-size, zip-all}
+use Rattle.joint_law.proofs.CourseSteps.{same-node, same-size, zip-all}
 use Rattle.joint_law.proofs.Fitting.{all-from, done-from, holds-from, host-each, node-each}
 use Rattle.joint_law.proofs.Fitting.{noticed-from, notices-ended, replies-from}
 use Rattle.joint_law.proofs.Founded.{fails-of, host-fails}
 use Rattle.joint_law.proofs.Outside.{out-by, out-from}
+use Rattle.joint_law.proofs.SideBounds.{sides-all}
 use Rattle.joint_history.specs.Nets.{noted_on_rings}
 
 -- ---- addresses
@@ -75,12 +78,12 @@ nodes-all plant sound P all =
     (IsPermutation-sym (controller_nodes plant ++ host_nodes plant) (first_net plant).members
     (on-net plant sound).members) all
 
-first-part : {X : Type 0} (P : X → Type 0) (xs ys : List X) → All P (xs ++ ys) → All P xs
+pub first-part : {X : Type 0} (P : X → Type 0) (xs ys : List X) → All P (xs ++ ys) → All P xs
 first-part P xs ys all k d low =
     let n = length-append xs ys in
     subst P (get_or_append_left xs ys d k low) (all k d (omega (arith, n)))
 
-second-part : {X : Type 0} (P : X → Type 0) (xs ys : List X) → All P (xs ++ ys) → All P ys
+pub second-part : {X : Type 0} (P : X → Type 0) (xs ys : List X) → All P (xs ++ ys) → All P ys
 second-part P xs ys all k d low =
     let n = length-append xs ys in
     subst P (get_or-append-add xs ys k d) (all (length xs + k) d (omega (arith, n)))
@@ -115,18 +118,41 @@ members-low plant sound k d low =
 members-in : (xs : List ℕ) → All (Contains xs) xs
 members-in xs k d low = (k, low, get_or_default xs k (get_or xs k d) d low)
 
+-- so are those of the ends of bridges
+sides-low : (plant : Plant) (joint : Joint) → IsPlant plant → HasSections plant joint
+    → (k : ℕ) (d : BridgeLog) → k < length joint.bridges
+    → ((get_or joint.bridges k d).left < addresses) × ((get_or joint.bridges k d).right < addresses)
+sides-low plant joint sound sections k d low =
+    let size = same-size (λ (p : BridgePlan). p.left) (λ (g : BridgeLog). g.left) plant.bridges
+    joint.bridges sections.lefts in
+    let within : k < length plant.bridges = omega (arith, size, low) in
+    let plan = sound.bridges k any_plan within in
+    let left = same-node (λ (p : BridgePlan). p.left) (λ (g : BridgeLog). g.left) plant.bridges
+    joint.bridges sections.lefts k any_plan d within in
+    let right = same-node (λ (p : BridgePlan). p.right) (λ (g : BridgeLog). g.right) plant.bridges
+    joint.bridges sections.rights k any_plan d within in (
+      let t = plan.plan.left.to in omega (arith, t, left),
+      let t = plan.plan.right.to in omega (arith, t, right),
+    )
+  where
+    any_plan : BridgePlan
+    any_plan = record { left_net = 0; left = 0; right_net = 0; right = 0 }
+
 pub bounds-low : (plant : Plant) (joint : Joint) → IsPlant plant → HasSections plant joint
     → All (λ (s : Bound). s.node < addresses) (bounds_of joint)
 bounds-low plant joint sound sections =
-    All-append (λ (s : Bound). s.node < addresses)
-    (map (controller_bound (noted_on_rings joint)) joint.controllers)
-    (map (host_bound (noted_on_rings joint)) joint.hosts)
-    (All-map (λ (s : Bound). s.node < addresses) (controller_bound (noted_on_rings joint))
-    joint.controllers
+    let low : Bound → Type 0 = λ (s : Bound). s.node < addresses in
+    let controllers = map (controller_bound (noted_on_rings joint)) joint.controllers in
+    let hosts = map (host_bound (noted_on_rings joint)) joint.hosts in
+    All-append low (controllers ++ hosts)
+    (flat_map (side_bounds (noted_on_rings joint)) joint.bridges)
+    (All-append low controllers hosts
+    (All-map low (controller_bound (noted_on_rings joint)) joint.controllers
     (controllers-all plant joint sound sections (λ m. m < addresses)
     (members-low plant sound)))
-    (All-map (λ (s : Bound). s.node < addresses) (host_bound (noted_on_rings joint)) joint.hosts
-    (hosts-all plant joint sound sections (λ m. m < addresses) (members-low plant sound)))
+    (All-map low (host_bound (noted_on_rings joint)) joint.hosts
+    (hosts-all plant joint sound sections (λ m. m < addresses) (members-low plant sound))))
+    (sides-all low (noted_on_rings joint) joint.bridges (sides-low plant joint sound sections))
 
 -- ---- one node
 

@@ -73,7 +73,8 @@ host-end-ids-more es i e low is =
 
 -- the ends of a call among the names of all ends
 ends-named : (ends : List Ended) (call : CallId)
-    → times_ended (map id_of_end ends) call ≡ count_by (λ (end : Ended). is_same_call end.id call) ends
+    → times_ended (map id_of_end ends) call
+    ≡ count_by (λ (end : Ended). is_same_call end.id call) ends
 ends-named [] call = refl
 ends-named (e ∷ es) call =
     count-cons (λ (id : CallId). is_same_call id call) e.id (map id_of_end es)

@@ -19,16 +19,20 @@ use Rattle.std.proofs.lemmas.List.{map-append}
 use Rattle.controller_core.specs.declared.call.Call.{Call}
 use Rattle.controller_core.specs.declared.entry.Entry.{Entry}
 use Rattle.host_port.specs.declared.entry.HostEntry.{HostEntry}
+use Rattle.bridge_relay.specs.declared.entry.BridgeEntry.{BridgeEntry}
+use Rattle.joint_history.specs.Bridges.{side_items}
 use Rattle.joint_history.specs.Reading.{called_of, host_items_of, items_of, sort_of}
 use Rattle.joint_law.specs.Endings.{NotesAsk, NotesCalls, NotesKind, end_with, ring_end_with}
 use Rattle.joint_law.specs.Endings.{frame_end_with, host_end_with, kind_at, or_kind, pdu_for}
+use Rattle.joint_law.specs.Endings.{side_end_with}
 use Rattle.joint_law.specs.Kinds.{kind_as}
 use Rattle.joint_law.specs.Named.{value_of_call}
-use Rattle.joint_law.specs.Readings.{calls_in, host_call_in}
+use Rattle.joint_law.specs.Readings.{calls_in, host_call_in, side_calls_in}
 use Rattle.joint_law.specs.declared.by_call.ByCall.{ByCall}
 use Rattle.joint_law.specs.declared.ending.EndKind.{EndKind}
 use Rattle.joint_law.proofs.Lists.{calls-more, ends-more, filter_map-push, host-calls-more}
 use Rattle.joint_law.proofs.Lists.{host-ends-more, take-push}
+use Rattle.joint_law.proofs.Sides.{side-calls-more, side-ends-more}
 
 pub kind-append : (xs ys : List Called) (q : CallId)
     → kind_in (xs ++ ys) q ≡ or_kind (kind_in xs q) (kind_in ys q)
@@ -170,6 +174,22 @@ host-ends-step old new list list' es i e low is kinds listed notes ended = (
       ∙ ap (λ l. kind_in l q) (sym (host-calls-more es i e low is)))),
   ended ∙ ((λ j. listed j ++ cons_option (host_end_with (λ q. kinds q j) e) [])
       ∙ sym (host-ends-more es i e low is)),
+)
+
+pub side-ends-step : (side : ℕ) (old new : ByCall EndKind) (list list' : List Ended)
+    (es : List BridgeEntry) (i : ℕ) (e : BridgeEntry) → i < length es → e ≡ get_or es i e
+    → ((q : CallId) → kind_at old q ≡ kind_in (side_items side (take i es)).calls q)
+    → list ≡ (side_items side (take i es)).ends
+    → NotesCalls old (side_calls_in side e) new
+    → list' ≡ list ++ cons_option (side_end_with side (kind_at old) e) []
+    → ((q : CallId) → kind_at new q ≡ kind_in (side_items side (take (i + 1) es)).calls q)
+    × (list' ≡ (side_items side (take (i + 1) es)).ends)
+side-ends-step side old new list list' es i e low is kinds listed notes ended = (
+  λ q. notes q ∙ (ap (λ k. or_kind k (kind_in (side_calls_in side e) q)) (kinds q)
+      ∙ (sym (kind-append (side_items side (take i es)).calls (side_calls_in side e) q)
+      ∙ ap (λ l. kind_in l q) (sym (side-calls-more side es i e low is)))),
+  ended ∙ ((λ j. listed j ++ cons_option (side_end_with side (λ q. kinds q j) e) [])
+      ∙ sym (side-ends-more side es i e low is)),
 )
 
 pub met-step : (station : Station) (old new : ByCall (List ℕ)) (list list' : List Ended)

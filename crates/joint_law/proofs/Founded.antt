@@ -8,9 +8,13 @@ use Rattle.controller_core.specs.declared.entry.Entry.{Entry}
 use Rattle.controller_core.specs.declared.entry.Entry.TheVariants as entries
 use Rattle.host_port.specs.declared.entry.HostEntry.{HostEntry}
 use Rattle.host_port.specs.declared.entry.HostEntry.TheVariants as host_entries
-use Rattle.tied_lists.specs.Items.{Items, Station, downs_by, last_from, no_items}
+use Rattle.bridge_relay.specs.declared.entry.BridgeEntry.{BridgeEntry}
+use Rattle.bridge_relay.specs.declared.entry.BridgeEntry.TheVariants as bridge_entries
+use Rattle.tied_lists.specs.Items.{Item, Items, Station, downs_by, last_from, no_items}
 use Rattle.tied_lists.specs.Tied.{RiseAbove}
 use Rattle.tied_lists.proofs.Boxes.{count-cons}
+use Rattle.joint_history.specs.Bridges.{made_at_end, side_item_next, side_items}
+use Rattle.joint_history.specs.Bridges.{side_items_after}
 use Rattle.joint_history.specs.Reading.{host_item_next, host_items_after, item_next, items_after}
 use Rattle.joint_history.specs.Reading.{items_of}
 use Rattle.joint_law.specs.Comparing.{IsLawEnd}
@@ -55,6 +59,21 @@ host-next-fails a (host_entries.Served id request reply) = refl
 pub host-fails : (a : Items) (es : List HostEntry) → (host_items_after a es).fails ≡ a.fails
 host-fails a [] = refl
 host-fails a (e ∷ es) = host-fails (host_item_next a e) es ∙ host-next-fails a e
+
+side-next-fails : (a : Items) (e : BridgeEntry) → (side_item_next a e).fails ≡ a.fails
+side-next-fails a (bridge_entries.Accept side id route request) = refl
+side-next-fails a (bridge_entries.Forward side old id route request) = refl
+side-next-fails a (bridge_entries.Finish side id result) = refl
+side-next-fails a (bridge_entries.Back side id reply) = refl
+side-next-fails a (bridge_entries.Gone side) = refl
+
+side-after-fails : (a : Items) (es : List BridgeEntry) → (side_items_after a es).fails ≡ a.fails
+side-after-fails a [] = refl
+side-after-fails a (e ∷ es) = side-after-fails (side_item_next a e) es ∙ side-next-fails a e
+
+-- nor does a bridge's
+pub side-fails : (side : ℕ) (es : List BridgeEntry) → (side_items side es).fails ≡ 0
+side-fails side es = side-after-fails no_items (made_at_end side es)
 
 -- ---- numbers that rise
 
@@ -134,17 +153,27 @@ last-next downs place low =
     sym (ap (last_from 0) (take_more downs place 0 low)
     ∙ last-push 0 (take place downs) (get_or downs place 0))
 
+-- where power never fails there is no Down, and the other way
+pub founded-none : (downs : List ℕ) → AreFounded 0 downs → downs ≡ []
+founded-none [] are = refl
+founded-none (k ∷ ks) are =
+    absurd (let above = are.0.0 in let low = are.1.0 in omega (arith, above, low))
+
+pub none-founded : (downs : List ℕ) (fails : ℕ) → downs ≡ [] → AreFounded fails downs
+none-founded downs fails none = subst (AreFounded fails) (sym none) (tt, tt)
+
 -- ---- the fifth law
 
-at-downs : (station : Station) (items : Items) (ring : List RingEntry) (end : Option ℕ)
-    → GoUpTo items.fails (downs_by ring) end → IsLawEnd Downs station items ring end
-at-downs station items ring None h = h
-at-downs station items ring (Some place) h = h
+at-downs : (station : Station) (items : Items) (backs : List Item) (ring : List RingEntry)
+    (end : Option ℕ) → GoUpTo items.fails (downs_by ring) end
+    → IsLawEnd Downs station items backs ring end
+at-downs station items backs ring None h = h
+at-downs station items backs ring (Some place) h = h
 
-pub downs-end : (law : Law) (station : Station) (items : Items) (ring : List RingEntry)
-    (fails : ℕ) (end : Option ℕ) → law ≡ Downs → items.fails ≡ fails
-    → GoUpTo fails (downs_by ring) end → IsLawEnd law station items ring end
-downs-end law station items ring fails end is count h =
-    subst (λ (l : Law). IsLawEnd l station items ring end) (sym is)
-    (at-downs station items ring end
+pub downs-end : (law : Law) (station : Station) (items : Items) (backs : List Item)
+    (ring : List RingEntry) (fails : ℕ) (end : Option ℕ) → law ≡ Downs → items.fails ≡ fails
+    → GoUpTo fails (downs_by ring) end → IsLawEnd law station items backs ring end
+downs-end law station items backs ring fails end is count h =
+    subst (λ (l : Law). IsLawEnd l station items backs ring end) (sym is)
+    (at-downs station items backs ring end
     (subst (λ (n : ℕ). GoUpTo n (downs_by ring) end) (sym count) h))

@@ -1,24 +1,30 @@
 -- The laws at stations.
-use Rattle.std.proofs.Common.{◌≡◌, ℕ, ◌+◌, ◌<◌, ◌≤◌, true, false, List, ◌++◌, length, get_or, map}
-use Rattle.std.proofs.Common.{Option, Some, None}
-use Rattle.std.proofs.Common.{refl, sym, ap, subst, ◌∙◌, ⊎_elim, arith}
-use Rattle.std.specs.List.{All, Any}
+use Rattle.std.proofs.Common.{◌≡◌, ℕ, ◌+◌, ◌<◌, ◌≤◌, true, false, List, [], ◌∷◌, ◌++◌, length}
+use Rattle.std.proofs.Common.{get_or, map, take, drop, Option, Some, None}
+use Rattle.std.proofs.Common.{refl, sym, ap, subst, ◌∙◌, ⊎_elim, arith, append-nil}
+use Rattle.std.specs.Prelude.{is_some}
+use Rattle.std.specs.List.{All, Any, flat_map}
 use Rattle.std.proofs.lemmas.Bool.{cases_lt}
 use Rattle.std.proofs.Math.ListN.{get_or-map}
-use Rattle.std.proofs.lemmas.List.{get_or_read, get_or-append-add}
-use Rattle.std.proofs.lemmas.List.{length-append, length-map}
-use Rattle.std.proofs.lemmas.List.Elements.{All-append, All-map}
+use Rattle.std.proofs.lemmas.List.{get_or_append_left, get_or_read, get_or-append-add}
+use Rattle.std.proofs.lemmas.List.{length-append, length-map, take-append-drop, take_all}
+use Rattle.std.proofs.lemmas.Grind.{flat_map-append}
+use Rattle.std.proofs.lemmas.List.Concat.{flat_map-cons}
+use Rattle.std.proofs.lemmas.List.Elements.{All-append, All-cons, All-map, All-nil}
 use Rattle.ring_core.specs.declared.entry.RingEntry.{RingEntry}
-use Rattle.tied_lists.specs.Items.{Answered, Items, Station, item_of, plain_items, port_answers}
-use Rattle.tied_lists.specs.Items.{stats_items, taken_by}
+use Rattle.tied_lists.specs.Items.{ABridge, Answered, Item, Items, Station, item_of, plain_items}
+use Rattle.tied_lists.specs.Items.{port_answers, stats_items, taken_by}
+use Rattle.tied_lists.specs.Tied.{RepliesAreBacks}
 use Rattle.joint_law.specs.Bound.{Bound, BreaksLaw, KeepsLaw, Sorted, answered_in_order, sorted}
-use Rattle.joint_law.specs.Bound.{sorted_answer}
-use Rattle.joint_law.specs.Bound.{taken_in_order}
+use Rattle.joint_law.specs.Bound.{given_in_order, port_replies, replied_in_order, replied_to}
+use Rattle.joint_law.specs.Bound.{sorted_answer, taken_in_order}
 use Rattle.joint_law.specs.Comparing.{Compared, IsLawEnd}
 use Rattle.joint_law.specs.LawEnds.{IsLogEnd, IsLogsEnd}
 use Rattle.joint_law.specs.declared.law.Law.{Law}
-use Rattle.joint_law.specs.declared.law.Law.TheVariants.{Answers}
+use Rattle.joint_law.specs.declared.law.Law.TheVariants.{Answers, Replies}
+use Rattle.joint_history.specs.declared.joint.BridgeLog.{BridgeLog}
 use Rattle.joint_law.proofs.AnswerSteps.{parts-same, sorted-items}
+use Rattle.joint_law.proofs.Lists.{take-push}
 
 -- the second law by its joined lists
 joined-items : (answers : List Answered) (ring : List RingEntry)
@@ -36,23 +42,54 @@ keeps-answers answers ring e =
     (plain_items (taken_by ring)) (stats_items (taken_by ring))
     (sym (joined-items answers ring) ∙ e)
 
-at-answers : (station : Station) (items : Items) (ring : List RingEntry) (end : Option ℕ)
-    → Compared (answered_in_order items.answers ring) (taken_in_order ring) end
-    → IsLawEnd Answers station items ring end
-at-answers station items ring None h = keeps-answers items.answers ring h
-at-answers station items ring (Some place) h = h
+at-answers : (station : Station) (items : Items) (backs : List Item) (ring : List RingEntry)
+    (end : Option ℕ) → Compared (answered_in_order items.answers ring) (taken_in_order ring) end
+    → IsLawEnd Answers station items backs ring end
+at-answers station items backs ring None h = keeps-answers items.answers ring h
+at-answers station items backs ring (Some place) h = h
 
-pub answers-end : (law : Law) (station : Station) (items : Items) (ring : List RingEntry)
-    (answers : List Sorted) (end : Option ℕ) → law ≡ Answers
+pub answers-end : (law : Law) (station : Station) (items : Items) (backs : List Item)
+    (ring : List RingEntry) (answers : List Sorted) (end : Option ℕ) → law ≡ Answers
     → answers ≡ map (sorted_answer false) items.answers
     → Compared (answers ++ map (sorted_answer true) (port_answers ring)) (taken_in_order ring)
     end
-    → IsLawEnd law station items ring end
-answers-end law station items ring answers end is made h =
-    subst (λ (l : Law). IsLawEnd l station items ring end) (sym is)
-    (at-answers station items ring end
+    → IsLawEnd law station items backs ring end
+answers-end law station items backs ring answers end is made h =
+    subst (λ (l : Law). IsLawEnd l station items backs ring end) (sym is)
+    (at-answers station items backs ring end
     (subst (λ (l : List Sorted). Compared (l ++ map (sorted_answer true) (port_answers ring))
     (taken_in_order ring) end) made h))
+
+-- the third law at an end of a bridge by its joined lists
+backs-same : (backs : List Item) (ring : List RingEntry)
+    → replied_in_order ring ≡ given_in_order backs ring → RepliesAreBacks backs ring
+backs-same backs ring e =
+    let parts = parts-same (replied_to false ring) (replied_to true ring) backs
+    (port_replies ring) e in
+    record { given = parts.0; told = parts.1 }
+
+pub same-backs : (backs : List Item) (ring : List RingEntry) → RepliesAreBacks backs ring
+    → replied_in_order ring ≡ given_in_order backs ring
+same-backs backs ring keeps i =
+    map (sorted false) (keeps.given i) ++ map (sorted true) (keeps.told i)
+
+at-backs : (items : Items) (backs : List Item) (ring : List RingEntry) (end : Option ℕ)
+    → Compared (replied_in_order ring) (given_in_order backs ring) end
+    → IsLawEnd Replies ABridge items backs ring end
+at-backs items backs ring None h = backs-same backs ring h
+at-backs items backs ring (Some place) h = h
+
+pub backs-end : (law : Law) (items : Items) (backs : List Item) (ring : List RingEntry)
+    (end : Option ℕ) → law ≡ Replies
+    → Compared (replied_in_order ring) (given_in_order backs ring) end
+    → IsLawEnd law ABridge items backs ring end
+backs-end law items backs ring end is h =
+    subst (λ (l : Law). IsLawEnd l ABridge items backs ring end) (sym is)
+    (at-backs items backs ring end h)
+
+flat_map-one : (bounds : BridgeLog → List Bound) (x : BridgeLog)
+    → flat_map bounds (x ∷ []) ≡ bounds x
+flat_map-one bounds x = flat_map-cons bounds x [] ∙ append-nil (bounds x)
 
 -- stations so far, and one more
 pub logs-more : {L : Type 0} (bound : L → Bound) (law : Law) (node : ℕ) (logs : List L) (i : ℕ)
@@ -93,6 +130,15 @@ pub none-of : {X : Type 0} (o : Option X) → ((x : X) → o ≡ Some x → ⊥)
 none-of None no' = refl
 none-of (Some x) no' = absurd (no' x refl)
 
+any-left : {X : Type 0} (P : X → Type 0) (xs ys : List X) → Any P xs → Any P (xs ++ ys)
+any-left P xs ys a = (
+  a.0,
+  a.1,
+  let n = length-append xs ys in let l = a.2 in omega (arith, n, l),
+  get_or_append_left xs ys a.1 a.0 a.2 ∙ a.3,
+  a.4,
+)
+
 any-right : {X : Type 0} (P : X → Type 0) (xs ys : List X) → Any P ys → Any P (xs ++ ys)
 any-right P xs ys a = (
   length xs + a.0,
@@ -109,6 +155,72 @@ joined-end law node xs ys None all more =
     All-append (λ (s : Bound). s.node ≡ node → KeepsLaw law s) xs ys all more
 joined-end law node xs ys (Some place) all any =
     any-right (λ (s : Bound). (s.node ≡ node) × BreaksLaw law s (place + 1)) xs ys any
+
+pub joined-break : (law : Law) (node : ℕ) (xs ys : List Bound) (place : ℕ)
+    → IsLogsEnd law node xs (Some place) → IsLogsEnd law node (xs ++ ys) (Some place)
+joined-break law node xs ys place any =
+    any-left (λ (s : Bound). (s.node ≡ node) × BreaksLaw law s (place + 1)) xs ys any
+
+-- one station alone, and two of them
+pub alone-end : (law : Law) (node : ℕ) (s : Bound) (end : Option ℕ) → IsLogEnd law node s end
+    → IsLogsEnd law node (s ∷ []) end
+alone-end law node s None keeps =
+    All-cons (λ (x : Bound). x.node ≡ node → KeepsLaw law x) s [] keeps
+    (All-nil (λ (x : Bound). x.node ≡ node → KeepsLaw law x))
+alone-end law node s (Some place) breaks = (0, s, omega arith, refl, breaks)
+
+pub first-end : (law : Law) (node : ℕ) (one other : Bound) (end : Option ℕ)
+    → is_some end ≡ true → IsLogEnd law node one end → IsLogsEnd law node (one ∷ other ∷ []) end
+first-end law node one other None some end = absurd cc
+first-end law node one other (Some place) some breaks =
+    joined-break law node (one ∷ []) (other ∷ []) place
+    (alone-end law node one (Some place) breaks)
+
+pub second-end : (law : Law) (node : ℕ) (one other : Bound) (first end : Option ℕ)
+    → is_some first ≡ false → IsLogEnd law node one first → IsLogEnd law node other end
+    → IsLogsEnd law node (one ∷ other ∷ []) end
+second-end law node one other None end none keeps more =
+    joined-end law node (one ∷ []) (other ∷ []) end (alone-end law node one None keeps)
+    (alone-end law node other end more)
+second-end law node one other (Some place) end none keeps more = absurd cc
+
+-- the ends of bridges so far, and those of one more
+pub sides-more : (bounds : BridgeLog → List Bound) (law : Law) (node : ℕ) (logs : List BridgeLog)
+    (i : ℕ) (x : BridgeLog) → i < length logs → x ≡ get_or logs i x
+    → IsLogsEnd law node (flat_map bounds (take i logs)) None
+    → IsLogsEnd law node (bounds x) None
+    → IsLogsEnd law node (flat_map bounds (take (i + 1) logs)) None
+sides-more bounds law node logs i x low is before more =
+    subst (λ (l : List Bound). IsLogsEnd law node l None)
+    (sym (ap (flat_map bounds) (take-push logs i x low is)
+    ∙ (flat_map-append bounds (take i logs) (x ∷ [])
+    ∙ ap (λ (l : List Bound). flat_map bounds (take i logs) ++ l) (flat_map-one bounds x))))
+    (joined-end law node (flat_map bounds (take i logs)) (bounds x) None before more)
+
+pub sides-any : (bounds : BridgeLog → List Bound) (law : Law) (node : ℕ) (logs : List BridgeLog)
+    (i : ℕ) (x : BridgeLog) (place : ℕ) → i < length logs → x ≡ get_or logs i x
+    → IsLogsEnd law node (flat_map bounds (take i logs)) None
+    → IsLogsEnd law node (bounds x) (Some place)
+    → IsLogsEnd law node (flat_map bounds logs) (Some place)
+sides-any bounds law node logs i x place low is before more =
+    subst (λ (l : List BridgeLog). IsLogsEnd law node (flat_map bounds l) (Some place))
+    (take-append-drop (i + 1) logs)
+    (subst (λ (l : List Bound). IsLogsEnd law node l (Some place))
+    (sym (flat_map-append bounds (take (i + 1) logs) (drop (i + 1) logs)))
+    (joined-break law node (flat_map bounds (take (i + 1) logs))
+    (flat_map bounds (drop (i + 1) logs)) place
+    (subst (λ (l : List Bound). IsLogsEnd law node l (Some place))
+    (sym (ap (flat_map bounds) (take-push logs i x low is)
+    ∙ (flat_map-append bounds (take i logs) (x ∷ [])
+    ∙ ap (λ (l : List Bound). flat_map bounds (take i logs) ++ l) (flat_map-one bounds x))))
+    (joined-end law node (flat_map bounds (take i logs)) (bounds x) (Some place) before more))))
+
+pub sides-end : (bounds : BridgeLog → List Bound) (law : Law) (node : ℕ) (logs : List BridgeLog)
+    (i : ℕ) → length logs ≤ i → IsLogsEnd law node (flat_map bounds (take i logs)) None
+    → IsLogsEnd law node (flat_map bounds logs) None
+sides-end bounds law node logs i all kept =
+    subst (λ (l : List BridgeLog). IsLogsEnd law node (flat_map bounds l) None)
+    (take_all i logs all) kept
 
 pub keeps-joined : (answers : List Answered) (ring : List RingEntry)
     → map item_of answers ≡ plain_items (taken_by ring)

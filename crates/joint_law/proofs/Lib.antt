@@ -1,5 +1,6 @@
 pub mod Lists
 pub mod AnswerSteps
+pub mod Names
 pub mod Due
 pub mod Founded
 pub mod CallKeys
@@ -12,6 +13,8 @@ pub mod LawSteps
 pub mod Progress
 pub mod RingSteps
 pub mod Rings
+pub mod Sides
+pub mod SideBounds
 pub mod OwnPlaces
 pub mod Outside
 pub mod Verdicts

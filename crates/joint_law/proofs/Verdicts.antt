@@ -1,13 +1,12 @@
 -- What a judge finds, as a verdict; and a whole run has no spot.
-use Rattle.std.proofs.Common.{◌≡◌, ℕ, ◌+◌, ◌<◌, List, [], ◌∷◌, ◌++◌, length, get_or, map, take}
+use Rattle.std.proofs.Common.{◌≡◌, ℕ, ◌<◌, List, [], ◌∷◌, ◌++◌, length, get_or, map, take}
 use Rattle.std.proofs.Common.{drop, Some, None}
 use Rattle.std.proofs.Common.{refl, sym, ap, subst, ◌∙◌, append_assoc, arith}
-use Rattle.std.specs.List.{All, AllZip, Any, zip}
+use Rattle.std.specs.List.{All, AllZip, Any, flat_map, zip}
 use Rattle.std.proofs.Math.ListN.{get_or-map}
-use Rattle.std.proofs.lemmas.List.{get_or-append-add, get_or_append_left, length-append}
 use Rattle.std.proofs.lemmas.List.{length-map}
 use Rattle.std.proofs.lemmas.List.{take-append-drop}
-use Rattle.std.proofs.lemmas.List.Elements.{All-append, All-map, All-nil, filter_map-append}
+use Rattle.std.proofs.lemmas.List.Elements.{All-append, All-map, filter_map-append}
 use Rattle.std.proofs.lemmas.Slice.Zip.{get_or-zip, length-zip}
 use Rattle.plant_types.specs.declared.net.BridgePlan.{BridgePlan}
 use Rattle.plant_types.specs.declared.net.HostPlan.{HostPlan}
@@ -31,16 +30,18 @@ use Rattle.joint_history.specs.declared.joint.RingLog.{RingLog}
 use Rattle.joint_history.specs.declared.joint.Joint.{Joint}
 use Rattle.joint_history.specs.Complete.{IsComplete, IsCompleteHostLog, IsCompleteLog}
 use Rattle.joint_history.specs.JointLaws.{IsJoint, IsLegalBridgeLog, IsLegalHostLog, IsLegalJoint}
-use Rattle.joint_history.specs.JointLaws.{IsLegalLog, IsLegalRingLog, IsTiedBridge}
+use Rattle.joint_history.specs.JointLaws.{IsLegalLog, IsLegalRingLog, IsTiedSide}
 use Rattle.joint_history.specs.JointLaws.{IsTiedController, IsTiedHost, fixed_of}
 use Rattle.joint_history.specs.Nets.{noted_on_rings}
 use Rattle.joint_history.proofs.OneRing.{bridges-none}
 use Rattle.joint_law.specs.AllComplete.{IsFirstIncomplete}
-use Rattle.joint_law.specs.Bound.{Bound, BreaksLaw, KeepsLaw, bounds_of, controller_bound}
-use Rattle.joint_law.specs.Bound.{host_bound}
+use Rattle.joint_law.specs.Bound.{Bound, BreaksLaw, BreaksReplies, KeepsLaw, KeepsReplies}
+use Rattle.joint_law.specs.Bound.{bounds_of, controller_bound, host_bound, side_bound, side_bounds}
 use Rattle.joint_law.specs.Differing.{BreaksAt, DifferAt}
 use Rattle.joint_law.specs.Failing.{AreFounded}
-use Rattle.tied_lists.specs.Items.{downs_by}
+use Rattle.tied_lists.specs.Items.{ABridge, AController, AHost, Item, Items, Station, downs_by}
+use Rattle.tied_lists.specs.Own.{own}
+use Rattle.joint_history.specs.Bridges.{side_items}
 use Rattle.joint_law.specs.LawEnds.{AllKeep, IsFirstBreak, IsLawsEnd}
 use Rattle.joint_law.specs.Spots.{HasSections, IsCompleteAt}
 use Rattle.joint_law.specs.Spots.{IsFirstSpot, IsSpot, IsVerdict, IsWholeRun}
@@ -50,10 +51,11 @@ use Rattle.joint_law.specs.declared.verdict.Spot.{Spot}
 use Rattle.joint_law.specs.declared.verdict.Spot.TheVariants as spots
 use Rattle.joint_law.specs.declared.verdict.Verdict.{Verdict}
 use Rattle.joint_law.specs.declared.verdict.Verdict.TheVariants.{Legal, Illegal}
-use Rattle.joint_law.proofs.AtNodes.{all-complete, bounds-low}
+use Rattle.joint_law.proofs.AtNodes.{all-complete, bounds-low, first-part, second-part}
 use Rattle.joint_law.proofs.CourseSteps.{same-size, zip-at, zip-map}
-use Rattle.joint_law.proofs.LawSteps.{keeps-joined}
-use Rattle.joint_law.proofs.Founded.{founded-front}
+use Rattle.joint_law.proofs.LawSteps.{keeps-joined, same-backs}
+use Rattle.joint_law.proofs.Founded.{founded-front, founded-none, none-founded, side-fails}
+use Rattle.joint_law.proofs.SideBounds.{sides-all, sides-each}
 
 -- ---- sections
 
@@ -80,55 +82,82 @@ legal-sections plant scans joint legal = record {
 
 -- ---- the laws
 
+-- each station and each end of a bridge keeps it
+record EachKeeps (law : Law) (joint : Joint) : Type 0 where
+  controllers : (k : ℕ) (d : ControllerLog) → k < length joint.controllers
+      → KeepsLaw law (controller_bound (noted_on_rings joint) (get_or joint.controllers k d))
+  hosts : (k : ℕ) (d : HostLog) → k < length joint.hosts
+      → KeepsLaw law (host_bound (noted_on_rings joint) (get_or joint.hosts k d))
+  bridges : (k : ℕ) (d : BridgeLog) → k < length joint.bridges
+      → KeepsLaw law (side_bound (noted_on_rings joint) (get_or joint.bridges k d)
+      (get_or joint.bridges k d).left)
+      × KeepsLaw law (side_bound (noted_on_rings joint) (get_or joint.bridges k d)
+      (get_or joint.bridges k d).right)
+
 each-of : (law : Law) (joint : Joint) → All (KeepsLaw law) (bounds_of joint)
-    → ((k : ℕ) (d : ControllerLog) → k < length joint.controllers
-    → KeepsLaw law (controller_bound (noted_on_rings joint) (get_or joint.controllers k d)))
-    × ((k : ℕ) (d : HostLog) → k < length joint.hosts
-    → KeepsLaw law (host_bound (noted_on_rings joint) (get_or joint.hosts k d)))
+    → EachKeeps law joint
 each-of law joint all =
     let xs = map (controller_bound (noted_on_rings joint)) joint.controllers in
     let ys = map (host_bound (noted_on_rings joint)) joint.hosts in
-    let n = length-append xs ys in
+    let zs = flat_map (side_bounds (noted_on_rings joint)) joint.bridges in
+    let stations = first-part (KeepsLaw law) (xs ++ ys) zs all in
+    let controllers = first-part (KeepsLaw law) xs ys stations in
+    let hosts = second-part (KeepsLaw law) xs ys stations in
     let a = length-map joint.controllers (controller_bound (noted_on_rings joint)) in
-    let b = length-map joint.hosts (host_bound (noted_on_rings joint)) in (
-      λ k d low. subst (KeepsLaw law)
-          (get_or_append_left xs ys (controller_bound (noted_on_rings joint) d) k
-          (omega (arith, a))
-          ∙ get_or-map (controller_bound (noted_on_rings joint)) joint.controllers k d)
-          (all k (controller_bound (noted_on_rings joint) d) (omega (arith, n, a))),
-      λ k d low. subst (KeepsLaw law)
-          (get_or-append-add xs ys k (host_bound (noted_on_rings joint) d)
-          ∙ get_or-map (host_bound (noted_on_rings joint)) joint.hosts k d)
-          (all (length xs + k) (host_bound (noted_on_rings joint) d) (omega (arith, n, b))),
-    )
+    let b = length-map joint.hosts (host_bound (noted_on_rings joint)) in
+    record {
+      controllers = λ k d low. subst (KeepsLaw law)
+          (get_or-map (controller_bound (noted_on_rings joint)) joint.controllers k d)
+          (controllers k (controller_bound (noted_on_rings joint) d) (omega (arith, a)));
+      hosts = λ k d low. subst (KeepsLaw law)
+          (get_or-map (host_bound (noted_on_rings joint)) joint.hosts k d)
+          (hosts k (host_bound (noted_on_rings joint) d) (omega (arith, b)));
+      bridges = sides-each (KeepsLaw law) (noted_on_rings joint) joint.bridges
+          (second-part (KeepsLaw law) (xs ++ ys) zs all);
+    }
+
+-- an end of a bridge keeps all laws
+tied-end : (ring : List RingEntry) (log : BridgeLog) (side : ℕ)
+    → ((law : Law) → KeepsLaw law (side_bound ring log side)) → IsTiedSide ring log side
+tied-end ring log side keeps = record {
+  asks = keeps Asks;
+  peers = (keeps Answers).0;
+  port = (keeps Answers).1;
+  replies = keeps Replies;
+  ends = keeps Ends;
+  downs =
+      founded-none (downs_by (own side ring))
+      (subst (λ (fails : ℕ). AreFounded fails (downs_by (own side ring)))
+      (side-fails side log.entries) (keeps Downs));
+}
 
 pub keeps-joint : (joint : Joint) → ((law : Law) → All (KeepsLaw law) (bounds_of joint))
-    → joint.bridges ≡ [] → IsJoint joint
-keeps-joint joint all none =
-    let asks = each-of Asks joint (all Asks) in
-    let answers = each-of Answers joint (all Answers) in
-    let replies = each-of Replies joint (all Replies) in
-    let ends = each-of Ends joint (all Ends) in
-    let downs = each-of Downs joint (all Downs) in
+    → IsJoint joint
+keeps-joint joint all =
+    let each : (law : Law) → EachKeeps law joint = λ law. each-of law joint (all law) in
     record {
       controllers = λ k d low. record {
-        asks = asks.0 k d low;
-        peers = (answers.0 k d low).0;
-        port = (answers.0 k d low).1;
-        replies = replies.0 k d low;
-        ends = ends.0 k d low;
-        downs = downs.0 k d low;
+        asks = (each Asks).controllers k d low;
+        peers = ((each Answers).controllers k d low).0;
+        port = ((each Answers).controllers k d low).1;
+        replies = (each Replies).controllers k d low;
+        ends = (each Ends).controllers k d low;
+        downs = (each Downs).controllers k d low;
       };
       hosts = λ k d low. record {
-        asks = asks.1 k d low;
-        peers = (answers.1 k d low).0;
-        port = (answers.1 k d low).1;
-        replies = replies.1 k d low;
-        ends = ends.1 k d low;
-        downs = downs.1 k d low;
+        asks = (each Asks).hosts k d low;
+        peers = ((each Answers).hosts k d low).0;
+        port = ((each Answers).hosts k d low).1;
+        replies = (each Replies).hosts k d low;
+        ends = (each Ends).hosts k d low;
+        downs = (each Downs).hosts k d low;
       };
-      bridges = subst (All (IsTiedBridge (noted_on_rings joint))) (sym none)
-          (All-nil (IsTiedBridge (noted_on_rings joint)));
+      bridges = λ k d low. record {
+        left = tied-end (noted_on_rings joint) (get_or joint.bridges k d)
+            (get_or joint.bridges k d).left (λ law. ((each law).bridges k d low).0);
+        right = tied-end (noted_on_rings joint) (get_or joint.bridges k d)
+            (get_or joint.bridges k d).right (λ law. ((each law).bridges k d low).1);
+      };
     }
 
 controller-keeps : (law : Law) (ring : List RingEntry) (log : ControllerLog)
@@ -147,16 +176,33 @@ host-keeps Replies ring log t = t.replies
 host-keeps Ends ring log t = t.ends
 host-keeps Downs ring log t = t.downs
 
+side-keeps : (law : Law) (ring : List RingEntry) (log : BridgeLog) (side : ℕ)
+    → IsTiedSide ring log side → KeepsLaw law (side_bound ring log side)
+side-keeps Asks ring log side t = t.asks
+side-keeps Answers ring log side t = (t.peers, t.port)
+side-keeps Replies ring log side t = t.replies
+side-keeps Ends ring log side t = t.ends
+side-keeps Downs ring log side t =
+    none-founded (downs_by (own side ring)) (side_items side log.entries).fails t.downs
+
 pub joint-keeps : (joint : Joint) (law : Law) → IsJoint joint
     → All (KeepsLaw law) (bounds_of joint)
 joint-keeps joint law j =
-    All-append (KeepsLaw law) (map (controller_bound (noted_on_rings joint)) joint.controllers)
-    (map (host_bound (noted_on_rings joint)) joint.hosts)
+    let controllers = map (controller_bound (noted_on_rings joint)) joint.controllers in
+    let hosts = map (host_bound (noted_on_rings joint)) joint.hosts in
+    All-append (KeepsLaw law) (controllers ++ hosts)
+    (flat_map (side_bounds (noted_on_rings joint)) joint.bridges)
+    (All-append (KeepsLaw law) controllers hosts
     (All-map (KeepsLaw law) (controller_bound (noted_on_rings joint)) joint.controllers
     (λ k d low. controller-keeps law (noted_on_rings joint) (get_or joint.controllers k d)
     (j.controllers k d low)))
     (All-map (KeepsLaw law) (host_bound (noted_on_rings joint)) joint.hosts
-    (λ k d low. host-keeps law (noted_on_rings joint) (get_or joint.hosts k d) (j.hosts k d low)))
+    (λ k d low. host-keeps law (noted_on_rings joint) (get_or joint.hosts k d) (j.hosts k d low))))
+    (sides-all (KeepsLaw law) (noted_on_rings joint) joint.bridges (λ k d low.
+    let log = get_or joint.bridges k d in (
+      side-keeps law (noted_on_rings joint) log log.left (j.bridges k d low).left,
+      side-keeps law (noted_on_rings joint) log log.right (j.bridges k d low).right,
+    )))
 
 -- all addresses are low, so a law kept below is kept by all
 pub low-keep : (law : Law) (stations : List Bound)
@@ -186,7 +232,6 @@ pub laws-joint : (plant : Plant) (scans : ℕ) (joint : Joint) → IsPlant plant
 laws-joint plant scans joint sound legal all =
     let low = bounds-low plant joint sound (legal-sections plant scans joint legal) in
     keeps-joint joint (λ law. low-keep law (bounds_of joint) low (all law))
-    (bridges-none plant scans joint sound legal)
 
 -- ---- the stations that were done
 
@@ -251,12 +296,22 @@ no-break Good fronts entries place good breaks =
 no-difference : {A : Type 0} (xs ys : List A) (place : ℕ) → xs ≡ ys → DifferAt xs ys place → ⊥
 no-difference xs ys place same differ = differ.here (ap (take place) same)
 
+replies-unbroken : (station : Station) (items : Items) (backs : List Item) (ring : List RingEntry)
+    (place : ℕ) → KeepsReplies station items backs ring
+    → BreaksReplies station items backs ring place → ⊥
+replies-unbroken AController items backs ring place keeps breaks =
+    no-difference _ _ place keeps breaks
+replies-unbroken AHost items backs ring place keeps breaks = no-difference _ _ place keeps breaks
+replies-unbroken ABridge items backs ring place keeps breaks =
+    no-difference _ _ place (same-backs backs ring keeps) breaks
+
 pub kept-unbroken : (law : Law) (s : Bound) (place : ℕ) → KeepsLaw law s → BreaksLaw law s place
     → ⊥
 kept-unbroken Asks s place keeps breaks = no-difference _ _ place keeps breaks
 kept-unbroken Answers s place keeps breaks =
     no-difference _ _ place (keeps-joined s.items.answers s.ring keeps.0 keeps.1) breaks
-kept-unbroken Replies s place keeps breaks = no-difference _ _ place keeps breaks
+kept-unbroken Replies s place keeps breaks =
+    replies-unbroken s.station s.items s.backs s.ring place keeps breaks
 kept-unbroken Ends s place keeps breaks = no-difference _ _ place keeps breaks
 kept-unbroken Downs s place keeps breaks =
     no-break (AreFounded s.items.fails) (founded-front s.items.fails) (downs_by s.ring) place keeps

@@ -1,8 +1,9 @@
 -- What comes of comparing the two lists of a law. This project's own.
 use Rattle.std.specs.Prelude.{◌≡◌, ◌++◌, ℕ, ◌+◌, List, Option, Some, None}
 use Rattle.ring_core.specs.declared.entry.RingEntry.{RingEntry}
-use Rattle.tied_lists.specs.Items.{Items, Station, replied_by}
-use Rattle.joint_law.specs.Bound.{Bound, BreaksLaw, KeepsLaw, Sorted, port_items, taken_in_order}
+use Rattle.tied_lists.specs.Items.{Item, Items, Station, replied_by}
+use Rattle.joint_law.specs.Bound.{Bound, BreaksLaw, KeepsLaw, Sorted, given_in_order, port_items}
+use Rattle.joint_law.specs.Bound.{replied_in_order, taken_in_order}
 use Rattle.joint_law.specs.Differing.{DifferAt}
 use Rattle.joint_law.specs.Taking.{due_behind}
 use Rattle.joint_law.specs.declared.law.Law.{Law}
@@ -21,13 +22,18 @@ ComparesAnswers answers b = Compared (answers ++ port_items b) (taken_in_order b
 abbrev pub ComparesReplies : List (Option (List ℕ)) → List RingEntry → Option ℕ → Type 0
 ComparesReplies peers b = Compared (replied_by b) (due_behind peers b)
 
+-- The Replies that the node of an end of a bridge posted, compared with what the bridge gave back
+-- and with what the port told.
+abbrev pub ComparesBacks : List Item → List RingEntry → Option ℕ → Type 0
+ComparesBacks backs b = Compared (replied_in_order b) (given_in_order backs b)
+
 -- A station, whatever its address.
-abbrev pub any_bound : Station → Items → List RingEntry → Bound
-any_bound station items ring =
-    record { node = 0; station = station; items = items; ring = ring }
+abbrev pub any_bound : Station → Items → List Item → List RingEntry → Bound
+any_bound station items backs ring =
+    record { node = 0; station = station; items = items; backs = backs; ring = ring }
 
 -- A station keeps a law, or breaks it first at a place counted from 0.
-abbrev pub IsLawEnd : Law → Station → Items → List RingEntry → Option ℕ → Type 0
-IsLawEnd law station items ring None = KeepsLaw law (any_bound station items ring)
-IsLawEnd law station items ring (Some place) =
-    BreaksLaw law (any_bound station items ring) (place + 1)
+abbrev pub IsLawEnd : Law → Station → Items → List Item → List RingEntry → Option ℕ → Type 0
+IsLawEnd law station items backs ring None = KeepsLaw law (any_bound station items backs ring)
+IsLawEnd law station items backs ring (Some place) =
+    BreaksLaw law (any_bound station items backs ring) (place + 1)

@@ -1,5 +1,5 @@
 -- Ends of calls, where calls and requests are found by their names. This project's own.
-use Rattle.std.specs.Prelude.{◌≡◌, ℕ, if◌then◌else◌, List, [], Option, Some, None}
+use Rattle.std.specs.Prelude.{◌≡◌, ◌==◌, ℕ, if◌then◌else◌, List, [], Option, Some, None}
 use Rattle.std.specs.List.{cons_option}
 use Rattle.std.specs.Option.{option_map}
 use Rattle.mstr_block.specs.Call.{is_same_call}
@@ -13,9 +13,12 @@ use Rattle.controller_core.specs.declared.entry.Entry.{Entry}
 use Rattle.controller_core.specs.declared.entry.Entry.TheVariants as entries
 use Rattle.host_port.specs.declared.entry.HostEntry.{HostEntry}
 use Rattle.host_port.specs.declared.entry.HostEntry.TheVariants as host_entries
+use Rattle.bridge_relay.specs.declared.entry.BridgeEntry.{BridgeEntry}
+use Rattle.bridge_relay.specs.declared.entry.BridgeEntry.TheVariants as bridge_entries
 use Rattle.tied_lists.specs.Items.{Asked, Called, Came, Ended, Kind, NetCall, Outcome, Station}
 use Rattle.tied_lists.specs.Items.{ended_at_home, kind_in, outcome_of_reply}
 use Rattle.tied_lists.specs.Items.{or_some, outcome_of_word}
+use Rattle.joint_history.specs.Bridges.{relay_outcome}
 use Rattle.joint_history.specs.Reading.{outcome_of}
 use Rattle.joint_law.specs.declared.by_call.ByCall.{ByCall}
 use Rattle.joint_law.specs.declared.ending.EndKind.{EndKind}
@@ -64,6 +67,16 @@ host_end_with kinds (host_entries.Answer id result) =
     Some (record { id = id; kind = kinds id; outcome = outcome_of result })
 host_end_with kinds _ = None
 
+-- The end that an entry of a bridge tells for one of its ends.
+abbrev pub side_end_with : ℕ → (CallId → Option Kind) → BridgeEntry → Option Ended
+side_end_with side kinds (bridge_entries.Finish near id result) =
+    if near == side then Some (record {
+      id = id;
+      kind = kinds id;
+      outcome = relay_outcome result;
+    }) else None
+side_end_with side kinds _ = None
+
 -- The end that a frame gives which was taken.
 abbrev pub frame_end_with : Station → (CallId → Option (List ℕ))
     → FrameKind → Frame → Option Ended
@@ -92,6 +105,10 @@ told_ends kinds e = cons_option (end_with (kind_at kinds) e) []
 -- The end that an entry of a host tells, by the calls that were noted before it.
 abbrev pub host_told_ends : ByCall EndKind → HostEntry → List Ended
 host_told_ends kinds e = cons_option (host_end_with (kind_at kinds) e) []
+
+-- The end that an entry of a bridge tells for one of its ends, by the calls that were noted before.
+abbrev pub side_told_ends : ℕ → ByCall EndKind → BridgeEntry → List Ended
+side_told_ends side kinds e = cons_option (side_end_with side (kind_at kinds) e) []
 
 -- The end that an entry of the ring gives, by the requests that were noted before it.
 abbrev pub ring_ends : Sort → ByCall (List ℕ) → RingEntry → List Ended

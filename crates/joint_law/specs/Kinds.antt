@@ -1,17 +1,18 @@
 -- Kinds and outcomes of calls, as the laws name them. This project's own.
-use Rattle.tied_lists.specs.Items.{AController, AHost, Came, Kind, Lacked, LocalCall, NetCall}
+use Rattle.tied_lists.specs.Items.{ABridge, AController, AHost, Came, Kind, Lacked, LocalCall, NetCall}
 use Rattle.tied_lists.specs.Items.{Outcome, Replied, Station}
 use Rattle.joint_law.specs.declared.ending.EndKind.{EndKind}
 use Rattle.joint_law.specs.declared.ending.EndKind.TheVariants as kinds
 use Rattle.joint_law.specs.declared.ending.Outcome.{Outcome as End}
 use Rattle.joint_law.specs.declared.ending.Outcome.TheVariants as ends
 use Rattle.joint_law.specs.declared.ending.Sort.{Sort}
-use Rattle.joint_law.specs.declared.ending.Sort.TheVariants.{Controller, Host}
+use Rattle.joint_law.specs.declared.ending.Sort.TheVariants.{Bridge, Controller, Host}
 
 -- What a station is.
 abbrev pub station_of : Sort → Station
 station_of Controller = AController
 station_of Host = AHost
+station_of Bridge = ABridge
 
 -- The kind of a call that ended.
 abbrev pub kind_as : EndKind → Kind

@@ -1,4 +1,5 @@
 pub mod Agreement
+pub mod Backs
 pub mod Differing
 pub mod Failing
 pub mod Taking

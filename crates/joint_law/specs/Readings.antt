@@ -1,11 +1,13 @@
 -- What each entry of a station's list adds to what the laws read of it. This project's own.
-use Rattle.std.specs.Prelude.{ℕ, List, [], map, Option, Some, None, ◌∷◌}
+use Rattle.std.specs.Prelude.{ℕ, ◌==◌, if◌then◌else◌, List, [], map, Option, Some, None, ◌∷◌}
 use Rattle.std.specs.List.{cons_option}
 use Rattle.controller_core.specs.declared.entry.Entry.{Entry}
 use Rattle.controller_core.specs.declared.entry.Entry.TheVariants as entries
 use Rattle.host_port.specs.declared.entry.HostEntry.{HostEntry}
 use Rattle.host_port.specs.declared.entry.HostEntry.TheVariants as host_entries
-use Rattle.tied_lists.specs.Items.{Answered, Called, OverNet, replies_in}
+use Rattle.bridge_relay.specs.declared.entry.BridgeEntry.{BridgeEntry}
+use Rattle.bridge_relay.specs.declared.entry.BridgeEntry.TheVariants as bridge_entries
+use Rattle.tied_lists.specs.Items.{Answered, Called, Item, OverNet, replies_in}
 use Rattle.joint_history.specs.Reading.{answered_here, called_of}
 
 -- The calls that an entry of a controller adds.
@@ -32,7 +34,33 @@ host_answer_in (host_entries.Served id request reply) =
     Some (answered_here id request (Some reply))
 host_answer_in _ = None
 
+-- The call that an entry of a bridge adds for one of its ends.
+abbrev pub side_call_in : ℕ → BridgeEntry → Option Called
+side_call_in side (bridge_entries.Forward near old id route request) =
+    if near == side then Some (record { id = id; sort = OverNet route request }) else None
+side_call_in side _ = None
+
+-- The answer that an entry of a bridge adds for one of its ends.
+abbrev pub side_answer_in : ℕ → BridgeEntry → Option Answered
+side_answer_in side (bridge_entries.Accept near id route request) =
+    if near == side then Some (record {
+      id = id;
+      rest = route;
+      request = Some request;
+      reply = None;
+    }) else None
+side_answer_in side _ = None
+
+-- The reply that an entry of a bridge gives back for one of its ends.
+abbrev pub side_back_in : ℕ → BridgeEntry → Option Item
+side_back_in side (bridge_entries.Back near id reply) =
+    if near == side then Some (id, Some reply) else None
+side_back_in side _ = None
+
 -- The same as a list of one, or of none.
+abbrev pub side_calls_in : ℕ → BridgeEntry → List Called
+side_calls_in side e = cons_option (side_call_in side e) []
+
 abbrev pub host_calls_in : HostEntry → List Called
 host_calls_in e = cons_option (host_call_in e) []
 

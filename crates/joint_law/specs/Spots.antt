@@ -33,8 +33,8 @@ pub record CanBeJudged (plant : Plant) (scans : ℕ) : Type 0 where
   pub sound : IsPlant plant
   pub runs : All (λ plan. IsRunnable (fixed_of plant scans plan)) plant.controllers
 
--- The lists are those of the plant's controllers, hosts, bridges and networks, in its order; that of
--- a bridge is under both of its addresses.
+-- The lists are those of the plant's controllers, hosts, bridges and networks, in its order; that
+-- of a bridge is under both of its addresses.
 pub record HasSections (plant : Plant) (joint : Joint) : Type 0 where
   pub controllers : map (λ (log : ControllerLog). log.node) joint.controllers
       ≡ controller_nodes plant

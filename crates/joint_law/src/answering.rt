@@ -1,15 +1,17 @@
 //! The second law: what a station and its port answered is what was taken for each.
 ghost use Rattle.std.specs.Prelude.{◌≡◌, ◌++◌, [], true, false, Some, IfOk, OnOk, map};
 ghost use Rattle.tied_lists.specs.Items.{answered_of, request_of};
+ghost use Rattle.joint_history.specs.Bridges.{side_items};
 ghost use Rattle.joint_history.specs.Reading.{host_items_of, items_of};
 ghost use Rattle.joint_law.specs.Bound.{port_items, sorted, sorted_answer, sorted_answers};
 ghost use Rattle.joint_law.specs.Bound.{sorted_taken, taken_in_order, taken_places};
-ghost use Rattle.joint_law.specs.Readings.{answer_in, host_answer_in};
+ghost use Rattle.joint_law.specs.Readings.{answer_in, host_answer_in, side_answer_in};
 ghost use Rattle.joint_law.specs.Picked.{AreWithin, picked};
 ghost use Rattle.joint_law.specs.Taking.{entry_taken, frame_taken};
 
 use crate::differing::Same;
 use crate::same::same_bytes;
+use bridge_relay::BridgeEntry;
 use controller_core::Entry;
 use host_port::HostEntry;
 use mstr_block::CallId;
@@ -124,6 +126,46 @@ pub(crate) fn host_answered(alloc: Global, entries: &[HostEntry]) -> Result<Vec<
     let mut list = Vec::new(alloc);
     for entry in entries {
         add_host_answer(alloc, &mut list, entry)?;
+    }
+    Ok(list)
+}
+
+fn add_side_answer(
+    alloc: Global,
+    side: u8,
+    list: &mut Vec<Served>,
+    entry: &BridgeEntry,
+) -> Result<(), AllocError>
+    ensures { OnOk result
+        (list.new.items ≡ list.old.items ++ sorted_answers false (side_answer_in side entry.now)) }
+{
+    let BridgeEntry::Accept {
+        side: near,
+        id,
+        route,
+        request,
+    } = entry
+    else {
+        return Ok(());
+    };
+    if *near == side {
+        list.push(serving(alloc, false, *id, *route, request)?)?;
+    }
+    Ok(())
+}
+
+/// What an end of a bridge accepted.
+pub(crate) fn side_answered(
+    alloc: Global,
+    side: u8,
+    entries: &[BridgeEntry],
+) -> Result<Vec<Served>, AllocError>
+    ensures { IfOk result (λ list. list.items
+        ≡ map (sorted_answer false) (side_items side entries.now).answers) }
+{
+    let mut list = Vec::new(alloc);
+    for entry in entries {
+        add_side_answer(alloc, side, &mut list, entry)?;
     }
     Ok(list)
 }

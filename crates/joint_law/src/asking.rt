@@ -2,12 +2,14 @@
 ghost use Rattle.std.specs.Prelude.{◌≡◌, ◌++◌, [], ◌+◌, None, IfOk, IfSome, OnOk, filter_map, map};
 ghost use Rattle.std.specs.List.{cons_option};
 ghost use Rattle.tied_lists.specs.Items.{asked_by, asked_of, net_ask};
+ghost use Rattle.joint_history.specs.Bridges.{side_items};
 ghost use Rattle.joint_history.specs.Reading.{called_of, host_items_of, items_of};
-ghost use Rattle.joint_law.specs.Readings.{calls_in, host_calls_in};
+ghost use Rattle.joint_law.specs.Readings.{calls_in, host_calls_in, side_calls_in};
 ghost use Rattle.joint_law.specs.Picked.{AreWithin, picked};
 
 use crate::differing::Same;
 use crate::same::same_way;
+use bridge_relay::BridgeEntry;
 use controller_core::{Call, CallKind, Entry};
 use host_port::HostEntry;
 use mstr_block::CallId;
@@ -158,6 +160,47 @@ pub(crate) fn host_called(alloc: Global, entries: &[HostEntry]) -> Result<Vec<As
     let mut list = Vec::new(alloc);
     for entry in entries {
         add_host_entry(alloc, &mut list, entry)?;
+    }
+    Ok(list)
+}
+
+fn add_side_entry(
+    alloc: Global,
+    side: u8,
+    list: &mut Vec<Asking>,
+    entry: &BridgeEntry,
+) -> Result<(), AllocError>
+    ensures { OnOk result (list.new.items
+        ≡ list.old.items ++ filter_map net_ask (side_calls_in side entry.now)) }
+{
+    let BridgeEntry::Forward {
+        side: near,
+        id,
+        route,
+        request,
+        ..
+    } = entry
+    else {
+        return Ok(());
+    };
+    if *near == side {
+        list.push(ask_along(alloc, *id, *route, request)?)?;
+    }
+    Ok(())
+}
+
+/// What an end of a bridge asks.
+pub(crate) fn side_called(
+    alloc: Global,
+    side: u8,
+    entries: &[BridgeEntry],
+) -> Result<Vec<Asking>, AllocError>
+    ensures { IfOk result
+        (λ list. list.items ≡ filter_map net_ask (side_items side entries.now).calls) }
+{
+    let mut list = Vec::new(alloc);
+    for entry in entries {
+        add_side_entry(alloc, side, &mut list, entry)?;
     }
     Ok(list)
 }

@@ -3,19 +3,21 @@ ghost use Rattle.std.specs.Prelude.{◌≡◌, ◌↔◌, ◌++◌, [], IfOk, Is
 ghost use Rattle.std.specs.Option.{option_map};
 ghost use Rattle.tied_lists.specs.Items.{asked_of, ended_at_home, ended_by, kind_of_sort};
 ghost use Rattle.tied_lists.specs.Items.{outcome_of_word};
+ghost use Rattle.joint_history.specs.Bridges.{relay_outcome, side_items};
 ghost use Rattle.joint_history.specs.Reading.{called_of, host_items_of, items_of, outcome_of};
 ghost use Rattle.joint_history.specs.Reading.{sort_of};
 ghost use Rattle.joint_law.specs.Endings.{NotesAsk, NotesCalls, NotesKind, frame_end};
 ghost use Rattle.joint_law.specs.Endings.{host_told_ends, kind_at, reply_outcome};
-ghost use Rattle.joint_law.specs.Endings.{ring_end_with, ring_ends, told_ends};
+ghost use Rattle.joint_law.specs.Endings.{ring_end_with, ring_ends, side_told_ends, told_ends};
 ghost use Rattle.joint_law.specs.Kinds.{kind_as, outcome_as, station_of};
 ghost use Rattle.joint_law.specs.Named.{value_of_call};
-ghost use Rattle.joint_law.specs.Readings.{calls_in, host_calls_in};
+ghost use Rattle.joint_law.specs.Readings.{calls_in, host_calls_in, side_calls_in};
 ghost use Rattle.joint_law.specs.Picked.{AreWithin, picked};
 
 use crate::by_call::ByCall;
 use crate::differing::Same;
 use crate::same::same_result;
+use bridge_relay::{BridgeEntry, RelayResult};
 use controller_core::{Call, CallKind, Entry};
 use host_port::{HostEntry, HostResult};
 use mstr_block::{CallId, MstrResult};
@@ -30,6 +32,7 @@ use std::marker::Model;
 pub(crate) enum Sort {
     Controller,
     Host,
+    Bridge,
 }
 
 /// The kind of a call.
@@ -259,6 +262,79 @@ pub(crate) fn host_ends(alloc: Global, entries: &[HostEntry]) -> Result<Vec<Endi
     Ok(list)
 }
 
+fn outcome_of_relay(alloc: Global, told: &RelayResult) -> Result<Outcome, AllocError>
+    ensures { IfOk result (λ outcome. outcome_as outcome ≡ relay_outcome told.now) }
+{
+    match told {
+        RelayResult::Reply(pdu) => Ok(Outcome::Replied(pdu.copied(alloc)?)),
+        RelayResult::Bad(word) => Ok(Outcome::Lacked(*word)),
+    }
+}
+
+/// Notes the call that an end of a bridge made by an entry.
+fn note_side_call(
+    kinds: &mut ByCall<EndKind>,
+    side: u8,
+    entry: &BridgeEntry,
+) -> Result<(), AllocError>
+    ensures { OnOk result (NotesCalls kinds.old (side_calls_in side entry.now) kinds.new) }
+{
+    match entry {
+        BridgeEntry::Forward { side: near, id, .. } if *near == side => {
+            note_kind(kinds, *id, EndKind::Net)
+        }
+        _ => Ok(()),
+    }
+}
+
+/// Adds the end that an entry tells of a call of an end of a bridge.
+fn add_side_end(
+    alloc: Global,
+    kinds: &ByCall<EndKind>,
+    side: u8,
+    list: &mut Vec<Ending>,
+    entry: &BridgeEntry,
+) -> Result<(), AllocError>
+    ensures { OnOk result (list.new.items
+        ≡ list.old.items ++ side_told_ends side kinds.now entry.now) }
+{
+    let BridgeEntry::Finish {
+        side: near,
+        id,
+        result,
+    } = entry
+    else {
+        return Ok(());
+    };
+    if *near == side {
+        let kind = known_kind(alloc, kinds, *id)?;
+        let outcome = outcome_of_relay(alloc, result)?;
+        list.push(Ending {
+            id: *id,
+            kind,
+            outcome,
+        })?;
+    }
+    Ok(())
+}
+
+/// The ends that a bridge's list tells for one of its ends.
+pub(crate) fn side_ends(
+    alloc: Global,
+    side: u8,
+    entries: &[BridgeEntry],
+) -> Result<Vec<Ending>, AllocError>
+    ensures { IfOk result (λ list. list.items ≡ (side_items side entries.now).ends) }
+{
+    let mut kinds = ByCall::new(alloc);
+    let mut list = Vec::new(alloc);
+    for entry in entries {
+        add_side_end(alloc, &kinds, side, &mut list, entry)?;
+        note_side_call(&mut kinds, side, entry)?;
+    }
+    Ok(list)
+}
+
 /// What a reply comes to, by the request that it answers, if that was posted.
 fn outcome_of_reply(
     alloc: Global,
@@ -271,7 +347,7 @@ fn outcome_of_reply(
         (λ outcome. outcome_as outcome ≡ reply_outcome sort asked.now id reply.now) }
 {
     match sort {
-        Sort::Host => Ok(Outcome::Replied(reply.copied(alloc)?)),
+        Sort::Host | Sort::Bridge => Ok(Outcome::Replied(reply.copied(alloc)?)),
         Sort::Controller => match asked.get(id) {
             None => Ok(Outcome::Came(MstrResult::Bad(NO_RESULT))),
             Some(request) => Ok(Outcome::Came(result_of(request, reply))),
@@ -283,7 +359,7 @@ fn outcome_of_word(sort: Sort, word: u16) -> Outcome
     ensures { outcome_as result ≡ outcome_of_word (station_of sort) word }
 {
     match sort {
-        Sort::Host => Outcome::Lacked(word),
+        Sort::Host | Sort::Bridge => Outcome::Lacked(word),
         Sort::Controller => Outcome::Came(MstrResult::Bad(word)),
     }
 }

@@ -1,6 +1,7 @@
 //! The first law that is broken, and where.
-ghost use Rattle.std.specs.Prelude.{◌≡◌, ◌+◌, ◌^◌, ◌≤◌, ◌↔◌, IfOk, IsErr, map};
+ghost use Rattle.std.specs.Prelude.{◌≡◌, ◌+◌, ◌^◌, ◌≤◌, ◌↔◌, IfOk, IsErr, flat_map, map};
 ghost use Rattle.joint_law.specs.Bound.{bounds_of, controller_bound, host_bound, number_of};
+ghost use Rattle.joint_law.specs.Bound.{side_bound, side_bounds};
 ghost use Rattle.joint_law.specs.LawEnds.{IsLawsEnd, IsLogEnd, IsLogsEnd, IsNodesEnd};
 ghost use Rattle.joint_law.specs.Picked.{AreOfNode};
 ghost use Rattle.joint_history.specs.Nets.{noted_on_rings};
@@ -8,9 +9,9 @@ ghost use Rattle.joint_law.specs.OnRings.{AreOnRings};
 
 use crate::law::Law;
 use crate::on_rings::{OnRings, joined};
-use crate::stations::{controller_breaks, host_breaks};
+use crate::stations::{controller_breaks, host_breaks, side_breaks};
 use crate::verdict::Spot;
-use joint_history::{ControllerLog, HostLog, Joint};
+use joint_history::{BridgeLog, ControllerLog, HostLog, Joint};
 use own_places::OwnPlaces;
 use plant_types::ADDRESSES;
 use ring_core::RingEntry;
@@ -101,7 +102,64 @@ fn host_logs_break(
     Ok(None)
 }
 
-/// Where the station of a node breaks a law.
+/// Where an end of the bridge of a log breaks a law, if it is the one of this node.
+fn side_log_breaks(
+    alloc: Global,
+    law: Law,
+    ring: &[RingEntry],
+    places: &[usize],
+    node: u8,
+    log: &BridgeLog,
+    side: u8,
+) -> Result<Option<usize>, AllocError>
+    requires { AreOfNode ring.now node places.now }
+    ensures { IfOk result (IsLogEnd law node (side_bound ring.now log.now side)) }
+{
+    if side != node {
+        return Ok(None);
+    }
+    side_breaks(alloc, law, side, log.entries.as_slice(), ring, places)
+}
+
+/// Where one of its ends does, the left one first.
+fn bridge_log_breaks(
+    alloc: Global,
+    law: Law,
+    ring: &[RingEntry],
+    places: &[usize],
+    node: u8,
+    log: &BridgeLog,
+) -> Result<Option<usize>, AllocError>
+    requires { AreOfNode ring.now node places.now }
+    ensures { IfOk result (IsLogsEnd law node (side_bounds ring.now log.now)) }
+{
+    let left = side_log_breaks(alloc, law, ring, places, node, log, log.left)?;
+    if left.is_some() {
+        return Ok(left);
+    }
+    side_log_breaks(alloc, law, ring, places, node, log, log.right)
+}
+
+fn bridge_logs_break(
+    alloc: Global,
+    law: Law,
+    ring: &[RingEntry],
+    places: &[usize],
+    node: u8,
+    logs: &[BridgeLog],
+) -> Result<Option<usize>, AllocError>
+    requires { AreOfNode ring.now node places.now }
+    ensures { IfOk result (IsLogsEnd law node (flat_map (side_bounds ring.now) logs.now)) }
+{
+    for log in logs {
+        if let Some(place) = bridge_log_breaks(alloc, law, ring, places, node, log)? {
+            return Ok(Some(place));
+        }
+    }
+    Ok(None)
+}
+
+/// Where the station or the end of a bridge of a node breaks a law.
 fn node_breaks(
     alloc: Global,
     law: Law,
@@ -117,7 +175,11 @@ fn node_breaks(
     if let Some(place) = logs_break(alloc, law, on.ring, places, node, logs)? {
         return Ok(Some(place));
     }
-    host_logs_break(alloc, law, on.ring, places, node, joint.hosts.as_slice())
+    let host_logs = joint.hosts.as_slice();
+    if let Some(place) = host_logs_break(alloc, law, on.ring, places, node, host_logs)? {
+        return Ok(Some(place));
+    }
+    bridge_logs_break(alloc, law, on.ring, places, node, joint.bridges.as_slice())
 }
 
 /// A place, counted from 1. A spot has no number above 2^32 - 1; for such a place the answer is

@@ -4,6 +4,7 @@
 
 mod answering;
 mod asking;
+mod backs;
 mod by_call;
 mod complete;
 mod completing;

@@ -143,7 +143,7 @@ fn push_words(bytes: &mut Vec<u8>, words: &[u16]) -> Result<(), AllocError>
 }
 
 /// The reply that tells what an operation for another node came to.
-fn reply_of(alloc: Global, outcome: &MstrResult) -> Result<Pdu, AllocError>
+pub(crate) fn reply_of(alloc: Global, outcome: &MstrResult) -> Result<Pdu, AllocError>
     ensures { IfOk result (λ pdu. pdu ≡ reply_of outcome.now) }
 {
     let words = outcome.words_told();

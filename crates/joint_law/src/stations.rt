@@ -1,20 +1,25 @@
-//! The laws at one station.
+//! The laws at one station, and at one end of a bridge.
 ghost use Rattle.std.specs.Prelude.{[], IfOk};
-ghost use Rattle.tied_lists.specs.Items.{AController, AHost, asked_by, downs_by};
+ghost use Rattle.tied_lists.specs.Items.{ABridge, AController, AHost, asked_by, downs_by};
 ghost use Rattle.tied_lists.specs.Items.{ended_by};
+ghost use Rattle.joint_history.specs.Bridges.{backs_of, side_items};
 ghost use Rattle.joint_history.specs.Reading.{host_items_of, items_of};
 ghost use Rattle.joint_law.specs.Failing.{GoUpTo};
 ghost use Rattle.joint_law.specs.Comparing.{Compared, ComparesAnswers, ComparesReplies, IsLawEnd};
 ghost use Rattle.joint_law.specs.Kinds.{station_of};
 ghost use Rattle.joint_law.specs.Picked.{AreWithin, picked};
 
-use crate::answering::{Served, add_port_answers, answered, host_answered, taken_in_order};
-use crate::asking::{Asking, asked, called, host_called};
+use crate::answering::{
+    Served, add_port_answers, answered, host_answered, side_answered, taken_in_order,
+};
+use crate::asking::{Asking, asked, called, host_called, side_called};
+use crate::backs::compare_backs;
 use crate::differing::first_difference;
-use crate::ending::{Ending, Sort, ends, host_ends, met};
+use crate::ending::{Ending, Sort, ends, host_ends, met, side_ends};
 use crate::failing::{count_fails, downs, first_unfounded};
 use crate::law::Law;
 use crate::replying::{Replies, answers, due, host_answers, replied};
+use bridge_relay::BridgeEntry;
 use controller_core::Entry;
 use host_port::HostEntry;
 use ring_core::RingEntry;
@@ -98,7 +103,7 @@ pub(crate) fn controller_breaks(
     places: &[usize],
 ) -> Result<Option<usize>, AllocError>
     requires { AreWithin ring.now places.now }
-    ensures { IfOk result (IsLawEnd law AController (items_of entries.now)
+    ensures { IfOk result (IsLawEnd law AController (items_of entries.now) []
         (picked ring.now places.now)) }
 {
     match law {
@@ -119,7 +124,7 @@ pub(crate) fn host_breaks(
     places: &[usize],
 ) -> Result<Option<usize>, AllocError>
     requires { AreWithin ring.now places.now }
-    ensures { IfOk result (IsLawEnd law AHost (host_items_of entries.now)
+    ensures { IfOk result (IsLawEnd law AHost (host_items_of entries.now) []
         (picked ring.now places.now)) }
 {
     match law {
@@ -127,6 +132,34 @@ pub(crate) fn host_breaks(
         Law::Answers => compare_answers(alloc, ring, places, host_answered(alloc, entries)?),
         Law::Replies => compare_replies(alloc, ring, places, host_answers(alloc, entries)?),
         Law::Ends => compare_ends(alloc, Sort::Host, ring, places, host_ends(alloc, entries)?),
+        Law::Downs => judge_downs(alloc, ring, places, 0),
+    }
+}
+
+/// Where an end of a bridge breaks a law, counted from 0.
+pub(crate) fn side_breaks(
+    alloc: Global,
+    law: Law,
+    side: u8,
+    entries: &[BridgeEntry],
+    ring: &[RingEntry],
+    places: &[usize],
+) -> Result<Option<usize>, AllocError>
+    requires { AreWithin ring.now places.now }
+    ensures { IfOk result (IsLawEnd law ABridge (side_items side entries.now)
+        (backs_of side entries.now) (picked ring.now places.now)) }
+{
+    match law {
+        Law::Asks => compare_asks(alloc, ring, places, side_called(alloc, side, entries)?),
+        Law::Answers => {
+            let accepted = side_answered(alloc, side, entries)?;
+            compare_answers(alloc, ring, places, accepted)
+        }
+        Law::Replies => compare_backs(alloc, side, entries, ring, places),
+        Law::Ends => {
+            let ends = side_ends(alloc, side, entries)?;
+            compare_ends(alloc, Sort::Bridge, ring, places, ends)
+        }
         Law::Downs => judge_downs(alloc, ring, places, 0),
     }
 }

@@ -3,8 +3,8 @@ use Rattle.std.proofs.Common.{◌≡◌, ◌⊎◌, ℕ, zero, suc, ◌+◌, ◌
 use Rattle.std.proofs.Common.{cond, List, []}
 use Rattle.std.proofs.Common.{◌∷◌, ◌++◌, Option, Some, None, map, refl, sym, ap, ◌∙◌, subst}
 use Rattle.std.proofs.Common.{inl, inr, ⊎_elim, arith, append_assoc, append-nil, get_or}
-use Rattle.std.specs.Prelude.{Contains, slice_get, nat_lt, slice_index}
-use Rattle.std.specs.Prelude.{option_map}
+use Rattle.std.specs.Prelude.{Contains, slice_get, nat_le, nat_lt, slice_index, length, ◌==◌, ◌||◌}
+use Rattle.std.specs.Prelude.{if◌then◌else◌, option_map}
 use Rattle.std.specs.List.{AllByRecursion as Each}
 use Rattle.std.proofs.lemmas.Bool.{and_parts, cases_eq, cases_lt, eq-eqb, eqb-true, le-leb, ne_eqb}
 use Rattle.std.proofs.lemmas.Bool.{lt-ltb}
@@ -12,6 +12,7 @@ use Rattle.std.proofs.lemmas.List.Elements.{Contains-append_left, Contains-push}
 use Rattle.std.proofs.lemmas.List.Elements.{Contains-push_cases}
 use Rattle.host_port.proofs.Lists.{all_append}
 use Rattle.plant_types.specs.declared.net.BridgePlan.{BridgePlan}
+use Rattle.modbus_pdu.specs.Exceptions.{illegal_function}
 use Rattle.modbus_pdu.specs.Spelling.{exception_code}
 use Rattle.mstr_block.specs.declared.call.CallId.{CallId}
 use Rattle.ring_core.specs.Legal.{IsPath}
@@ -24,7 +25,7 @@ use Rattle.bridge_relay.specs.declared.entry.RelayResult.TheVariants.{Reply, Bad
 use Rattle.bridge_relay.specs.Machine.{EndIs, OutCall, RelayIs, RelayPath, Returned, Waiting}
 use Rattle.bridge_relay.specs.Machine.{exception_to, near_end, new_end, relay_after, relay_path}
 use Rattle.bridge_relay.specs.Machine.{code_of_word, no_path_code, returned, side_of, unsent}
-use Rattle.bridge_relay.specs.Machine.{unused_path}
+use Rattle.bridge_relay.specs.Machine.{busy_code, no_answer_code, unused_path, waiting_limit}
 use Rattle.bridge_relay.specs.Kept.{code_between, near_accepted, far_accepted, near_after}
 use Rattle.bridge_relay.specs.Kept.{far_after}
 use Rattle.bridge_relay.specs.Legal.{IsBridgeHistory, IsBridgeStep}
@@ -33,6 +34,7 @@ use Rattle.bridge_relay.proofs.Paths.{known_path}
 use Rattle.bridge_relay.proofs.Steps.{step_left, step_right, after_more}
 use Rattle.effect_laws.specs.Success.{is_exception_reply}
 use Rattle.effect_laws.proofs.Sources.{in-none}
+use Rattle.route_laws.specs.Ends.{IsBridgeCode}
 
 -- ---- exceptions
 
@@ -51,7 +53,7 @@ exception-high function = ⊎_elim
     at true high = omega arith
     at false high = high
 
-exceptions-are : (request : List ℕ) (code : ℕ)
+pub exceptions-are : (request : List ℕ) (code : ℕ)
     → is_exception_reply (exception_to request code) ≡ true
 exceptions-are request code =
     is-exception (exception_code (slice_index request 0)) code
@@ -60,10 +62,18 @@ exceptions-are request code =
 -- ---- what a list says
 
 -- an end accepted a request with this route
-pub record AcceptIn (h : List BridgeEntry) (id : CallId) (route : List ℕ) : Type 0 where
+pub record AcceptIn (h : List BridgeEntry) (id : CallId) (route request : List ℕ) : Type 0 where
   pub side : ℕ
-  pub request : List ℕ
   pub there : Contains h (Accept side id route request)
+
+-- a request that was accepted was answered by an exception that the bridge made of it
+pub record Refused (h : List BridgeEntry) (id : CallId) (reply : List ℕ) : Type 0 where
+  pub route : List ℕ
+  pub request : List ℕ
+  pub code : ℕ
+  pub got : AcceptIn h id route request
+  pub is_code : IsBridgeCode code
+  pub is : reply ≡ exception_to request code
 
 -- a request was sent on, and the call ended with this reply
 pub record GoneOn (h : List BridgeEntry) (old : CallId) (reply : List ℕ) : Type 0 where
@@ -74,16 +84,17 @@ pub record GoneOn (h : List BridgeEntry) (old : CallId) (reply : List ℕ) : Typ
   pub sent : Contains h (Forward side old id route request)
   pub ended : Contains h (Finish side id (Reply reply))
 
--- a reply that is given back is an exception, or that of the call which was sent on
+-- a reply that is given back is an exception to what was accepted, or that of the call which was
+-- sent on
 abbrev pub GivenIn : List BridgeEntry → CallId → List ℕ → Type 0
-GivenIn h id reply = (is_exception_reply reply ≡ true) ⊎ GoneOn h id reply
+GivenIn h id reply = Refused h id reply ⊎ GoneOn h id reply
 
 -- the call that is out on a path was sent on there
 record OutBy (h : List BridgeEntry) (side at last : ℕ) (call : OutCall) : Type 0 where
   id : CallId
   route : List ℕ
-  request : List ℕ
-  sent : Contains h (Forward side call.old id route request)
+  got : AcceptIn h call.old route call.request
+  sent : Contains h (Forward side call.old id route call.request)
   node : id.node ≡ side
   is_path : IsPath id.path
   path : id.path - 1 ≡ at
@@ -93,7 +104,7 @@ abbrev IsOutBy : List BridgeEntry → ℕ → ℕ → RelayPath → Type 0
 IsOutBy h side at path = (call : OutCall) → path.out ≡ Some call → OutBy h side at path.last call
 
 abbrev Waits : List BridgeEntry → Waiting → Type 0
-Waits h item = AcceptIn h item.id item.route
+Waits h item = AcceptIn h item.id item.route item.request
 
 abbrev Given : List BridgeEntry → Returned → Type 0
 Given h item = GivenIn h item.id item.reply
@@ -106,17 +117,23 @@ record Comes (h : List BridgeEntry) (side : ℕ) (end : EndIs) : Type 0 where
 
 -- ---- lists that go on
 
-more-accepts : (h : List BridgeEntry) (e : BridgeEntry) (id : CallId) (route : List ℕ)
-    → AcceptIn h id route → AcceptIn (h ++ e ∷ []) id route
-more-accepts h e id route a = record {
+more-accepts : (h : List BridgeEntry) (e : BridgeEntry) (id : CallId) (route request : List ℕ)
+    → AcceptIn h id route request → AcceptIn (h ++ e ∷ []) id route request
+more-accepts h e id route request a = record {
   side = a.side;
-  request = a.request;
   there = Contains-append_left h (e ∷ []) _ a.there;
 }
 
 more-given : (h : List BridgeEntry) (e : BridgeEntry) (id : CallId) (reply : List ℕ)
     → GivenIn h id reply → GivenIn (h ++ e ∷ []) id reply
-more-given h e id reply (inl is) = inl is
+more-given h e id reply (inl no') = inl (record {
+  route = no'.route;
+  request = no'.request;
+  code = no'.code;
+  got = more-accepts h e id no'.route no'.request no'.got;
+  is_code = no'.is_code;
+  is = no'.is;
+})
 more-given h e id reply (inr on) = inr (record {
   side = on.side;
   id = on.id;
@@ -133,7 +150,7 @@ more-out h e side at path out call is =
     record {
       id = by.id;
       route = by.route;
-      request = by.request;
+      got = more-accepts h e call.old by.route call.request by.got;
       sent = Contains-append_left h (e ∷ []) _ by.sent;
       node = by.node;
       is_path = by.is_path;
@@ -145,7 +162,7 @@ more-comes : (h : List BridgeEntry) (e : BridgeEntry) (side : ℕ) (end : EndIs)
     → Comes (h ++ e ∷ []) side end
 more-comes h e side end c = record {
   sends = each-map (Waits h) (Waits (h ++ e ∷ [])) end.to_send
-      (λ item. more-accepts h e item.id item.route) c.sends;
+      (λ item. more-accepts h e item.id item.route item.request) c.sends;
   gives = each-map (Given h) (Given (h ++ e ∷ [])) end.to_give
       (λ item. more-given h e item.id item.reply) c.gives;
   paths = λ at. more-out h e side at (get_or end.paths at unused_path) (c.paths at);
@@ -153,18 +170,44 @@ more-comes h e side end c = record {
 
 -- ---- one entry more
 
+refused : (h : List BridgeEntry) (item : Waiting) (code : ℕ) → Waits h item → IsBridgeCode code
+    → Given h (record { id = item.id; reply = exception_to item.request code })
+refused h item code got is_code = inl (record {
+  route = item.route;
+  request = item.request;
+  code = code;
+  got = got;
+  is_code = is_code;
+  is = refl;
+})
+
+-- the code with which a request is answered at once
+code-is : (across : ℕ) (far : EndIs) (route : List ℕ) (code : ℕ)
+    → code_between across far route ≡ Some code → IsBridgeCode code
+code-is across far [] code is = let same : illegal_function ≡ code = cc in inl (sym same)
+code-is across far (next ∷ rest) code is =
+    at (far.gone || (next == across)) (nat_le waiting_limit (length far.to_send)) is
+  where
+    at : (b c : Bool)
+        → (if b then Some no_path_code else if c then Some busy_code else None) ≡ Some code
+        → IsBridgeCode code
+    at true c is' = let same : no_path_code ≡ code = cc in inr (inr (inl (sym same)))
+    at false true is' = let same : busy_code ≡ code = cc in inr (inl (sym same))
+    at false false is' = absurd cc
+
 near-accepted : (h : List BridgeEntry) (side : ℕ) (near : EndIs) (item : Waiting)
-    (code : Option ℕ) → Comes h side near → Comes h side (near_accepted near item code)
-near-accepted h side near item None c = c
-near-accepted h side near item (Some code) c = record {
+    (code : Option ℕ) → Waits h item → ((c : ℕ) → code ≡ Some c → IsBridgeCode c)
+    → Comes h side near → Comes h side (near_accepted near item code)
+near-accepted h side near item None got coded c = c
+near-accepted h side near item (Some code) got coded c = record {
   sends = c.sends;
   gives = all_append (Given h) near.to_give _ c.gives
-      (inl (exceptions-are item.request code), tt);
+      (refused h item code got (coded code refl), tt);
   paths = c.paths;
 }
 
 far-accepted : (h : List BridgeEntry) (side : ℕ) (far : EndIs) (item : Waiting)
-    (code : Option ℕ) → AcceptIn h item.id item.route → Comes h side far
+    (code : Option ℕ) → Waits h item → Comes h side far
     → Comes h side (far_accepted far item code)
 far-accepted h side far item None got c = record {
   sends = all_append (Waits h) far.to_send _ c.sends (got, tt);
@@ -174,26 +217,37 @@ far-accepted h side far item None got c = record {
 far-accepted h side far item (Some code) got c = c
 
 -- what the step of a Forward tells of it
-abbrev IsMade : BridgeEntry → Type 0
-IsMade (Forward side old id route request) = (id.node ≡ side) × IsPath id.path
-IsMade _ = Unit {0}
+abbrev IsMade : List BridgeEntry → BridgeEntry → Type 0
+IsMade h (Forward side old id route request) =
+    (id.node ≡ side) × IsPath id.path × AcceptIn h old route request
+IsMade h _ = Unit {0}
+
+more-made : (h : List BridgeEntry) (x e : BridgeEntry) → IsMade h e → IsMade (h ++ x ∷ []) e
+more-made h x (Accept side id route request) made = tt
+more-made h x (Forward side old id route request) made =
+    (made.0, made.1, more-accepts h x old route request made.2)
+more-made h x (Finish side id result) made = tt
+more-made h x (Back side id reply) made = tt
+more-made h x (Gone side) made = tt
 
 near-comes : (h : List BridgeEntry) (across : ℕ) (near far : EndIs) (e : BridgeEntry)
-    → Contains h e → IsMade e → Comes h (side_of e) near
+    → Contains h e → IsMade h e → Comes h (side_of e) near
     → Comes h (side_of e) (near_after across near far e)
 near-comes h across near far (Accept side id route request) there made c =
     near-accepted h side near (record { id = id; route = route; request = request })
-    (code_between across far route) c
+    (code_between across far route) (record { side = side; there = there })
+    (code-is across far route) c
 near-comes h across near far (Forward side old id route request) there made c =
     let call : OutCall = record { old = old; request = request } in
     let now : RelayPath = record { last = id.seq; out = Some call } in
     let here : IsOutBy h side (id.path - 1) now = λ other is.
+    let same : call ≡ other = cc in
     record {
       id = id;
       route = route;
-      request = request;
-      sent = subst (λ (o : OutCall). Contains h (Forward side o.old id route request))
-          (let same : call ≡ other = cc in same) there;
+      got = subst (λ (o : OutCall). AcceptIn h o.old route o.request) same made.2;
+      sent = subst (λ (o : OutCall). Contains h (Forward side o.old id route o.request)) same
+          there;
       node = made.0;
       is_path = made.1;
       path = refl;
@@ -228,6 +282,13 @@ same-name : (one other : CallId) → one.node ≡ other.node → one.path ≡ ot
 same-name one other node path seq =
     λ i. record { node = node i; path = path i; seq = seq i }
 
+word-code : (word : ℕ) → IsBridgeCode (code_of_word word)
+word-code word = at (word == 0x6103)
+  where
+    at : (b : Bool) → IsBridgeCode (if b then no_path_code else no_answer_code)
+    at true = inr (inr (inl refl))
+    at false = inr (inr (inr refl))
+
 given-back : (h : List BridgeEntry) (side : ℕ) (id : CallId) (result : RelayResult)
     (out : Option OutCall) (last : ℕ)
     → Contains h (Finish side id result) → id.node ≡ side → IsPath id.path → last ≡ id.seq
@@ -235,7 +296,11 @@ given-back : (h : List BridgeEntry) (side : ℕ) (id : CallId) (result : RelayRe
     → Each (Given h) (returned out result)
 given-back h side id result None last there node path seq by = tt
 given-back h side id (Bad word) (Some call) last there node path seq by =
-    (inl (exceptions-are call.request (code_of_word word)), tt)
+    let out = by call refl in (
+      refused h (record { id = call.old; route = out.route; request = call.request })
+          (code_of_word word) out.got (word-code word),
+      tt,
+    )
 given-back h side id (Reply reply) (Some call) last there node path seq by =
     let out = by call refl in
     let low = path.0 in
@@ -247,7 +312,7 @@ given-back h side id (Reply reply) (Some call) last there node path seq by =
         side = side;
         id = out.id;
         route = out.route;
-        request = out.request;
+        request = call.request;
         sent = out.sent;
         ended = subst (λ (i : CallId). Contains h (Finish side i (Reply reply))) (sym same) there;
       }),
@@ -259,7 +324,7 @@ far-comes : (h : List BridgeEntry) (across other : ℕ) (near far : EndIs) (e : 
     → Comes h other (far_after across near far e)
 far-comes h across other near far (Accept side id route request) there out c d =
     far-accepted h other far (record { id = id; route = route; request = request })
-    (code_between across far route) (record { side = side; request = request; there = there }) d
+    (code_between across far route) (record { side = side; there = there }) d
 far-comes h across other near far (Forward side old id route request) there out c d = d
 far-comes h across other near far (Finish side id result) there out c d = record {
   sends = d.sends;
@@ -271,13 +336,14 @@ far-comes h across other near far (Finish side id result) there out c d = record
 far-comes h across other near far (Back side id reply) there out c d = d
 far-comes h across other near far (Gone side) there out c d = record {
   sends = d.sends;
-  gives = all_append (Given h) far.to_give _ d.gives (all-unsent near.to_send);
+  gives = all_append (Given h) far.to_give _ d.gives (all-unsent near.to_send c.sends);
   paths = d.paths;
 }
   where
-    all-unsent : (items : List Waiting) → Each (Given h) (map unsent items)
-    all-unsent [] = tt
-    all-unsent (item ∷ items) = (inl (exceptions-are item.request no_path_code), all-unsent items)
+    all-unsent : (items : List Waiting) → Each (Waits h) items → Each (Given h) (map unsent items)
+    all-unsent [] all = tt
+    all-unsent (item ∷ items) all =
+        (refused h item no_path_code all.0 (inr (inr (inl refl))), all-unsent items all.1)
 
 -- ---- histories
 
@@ -285,7 +351,7 @@ record AllCome (plan : BridgePlan) (h : List BridgeEntry) (relay : RelayIs) : Ty
   left : Comes h plan.left relay.left
   right : Comes h plan.right relay.right
   forwards : (side : ℕ) (old id : CallId) (route request : List ℕ)
-      → Contains h (Forward side old id route request) → AcceptIn h old route
+      → Contains h (Forward side old id route request) → AcceptIn h old route request
   backs : (side : ℕ) (id : CallId) (reply : List ℕ) → Contains h (Back side id reply)
       → GivenIn h id reply
 
@@ -296,10 +362,10 @@ first-has P (y ∷ xs) x all is = let same : y ≡ x = cc in subst P same all.0
 
 -- what an entry says of the end that made it
 record Says (h : List BridgeEntry) (near : EndIs) (e : BridgeEntry) : Type 0 where
-  made : IsMade e
+  made : IsMade h e
   out : IsOutCall near e
   forward : (side : ℕ) (old id : CallId) (route request : List ℕ)
-      → e ≡ Forward side old id route request → AcceptIn h old route
+      → e ≡ Forward side old id route request → AcceptIn h old route request
   back : (side : ℕ) (id : CallId) (reply : List ℕ) → e ≡ Back side id reply
       → GivenIn h id reply
 
@@ -317,16 +383,21 @@ says plan h by (Forward side old id route request) step c =
     let made = forward_made plan h side old id route request step.fits in
     let end = near_end plan (relay_after plan h) side in
     let got = first-has (Waits h) end.to_send made.item c.sends made.first in
-    let here : AcceptIn h old route =
-    subst (λ (i : CallId). AcceptIn h i route) (sym made.old_is)
-    (subst (AcceptIn h made.item.id) (sym made.route_is) got) in
+    let here : AcceptIn h old route request =
+    subst (AcceptIn h old route) (sym made.request_is)
+    (subst (λ (i : CallId). AcceptIn h i route made.item.request) (sym made.old_is)
+    (subst (λ (w : List ℕ). AcceptIn h made.item.id w made.item.request) (sym made.route_is) got))
+    in
     record {
-      made = (ap (λ (i : CallId). i.node) made.id_is, made.path.is_path);
+      made = (ap (λ (i : CallId). i.node) made.id_is, made.path.is_path, here);
       out = tt;
       forward = λ s o i r q is.
           let one : old ≡ o = cc in
           let two : route ≡ r = cc in
-          subst (λ (x : CallId). AcceptIn h x r) one (subst (AcceptIn h old) two here);
+          let three : request ≡ q = cc in
+          subst (AcceptIn h o r) three
+          (subst (λ (x : CallId). AcceptIn h x r request) one
+          (subst (λ (w : List ℕ). AcceptIn h old w request) two here));
       back = λ s i r is. absurd cc;
     }
 says plan h by (Finish side id result) step c =
@@ -387,7 +458,7 @@ new-comes side = record {
 
 -- both ends behind an entry, by whether the left one made it
 by-left : (plan : BridgePlan) (h : List BridgeEntry) (left right : EndIs) (e : BridgeEntry)
-    → Contains h e → side_of e ≡ plan.left → IsMade e → IsOutCall left e
+    → Contains h e → side_of e ≡ plan.left → IsMade h e → IsOutCall left e
     → Comes h plan.left left → Comes h plan.right right
     → Comes h plan.left (near_after plan.right left right e)
     × Comes h plan.right (far_after plan.right left right e)
@@ -399,7 +470,7 @@ by-left plan h left right e there is made out c d =
     )
 
 by-right : (plan : BridgePlan) (h : List BridgeEntry) (left right : EndIs) (e : BridgeEntry)
-    → Contains h e → side_of e ≡ plan.right → IsMade e → IsOutCall right e
+    → Contains h e → side_of e ≡ plan.right → IsMade h e → IsOutCall right e
     → Comes h plan.left left → Comes h plan.right right
     → Comes h plan.right (near_after plan.left right left e)
     × Comes h plan.left (far_after plan.left right left e)
@@ -430,7 +501,7 @@ one-more plan past e step kept =
           let said = says plan past (side_of e) e step
           (subst (Comes past (side_of e)) (sym here)
           (subst (λ n. Comes past n left) (sym is) kept.left)) in
-          let two = by-left plan h left right e there is said.made
+          let two = by-left plan h left right e there is (more-made past e e said.made)
           (subst (λ (end : EndIs). IsOutCall end e) here said.out) lefts rights in
           subst (AllCome plan h) (sym (step_left plan left right e is))
           (with-both two.0 two.1 said)
@@ -442,7 +513,7 @@ one-more plan past e step kept =
           let said = says plan past (side_of e) e step
           (subst (Comes past (side_of e)) (sym here)
           (subst (λ n. Comes past n right) (sym at) kept.right)) in
-          let two = by-right plan h left right e there at said.made
+          let two = by-right plan h left right e there at (more-made past e e said.made)
           (subst (λ (end : EndIs). IsOutCall end e) here said.out) lefts rights in
           subst (AllCome plan h) (sym (step_right plan left right e is))
           (with-both two.1 two.0 said)
@@ -455,7 +526,7 @@ one-more plan past e step kept =
       left = c;
       right = d;
       forwards = λ side old id route request there.
-          more-accepts past e old route (⊎_elim
+          more-accepts past e old route request (⊎_elim
           (λ (before : Contains past (Forward side old id route request)).
           kept.forwards side old id route request before)
           (λ (is : e ≡ Forward side old id route request).
@@ -493,11 +564,12 @@ all-come plan h legal =
 pub sent-accepts : (plan : BridgePlan) (h : List BridgeEntry) (side : ℕ) (old id : CallId)
     (route request : List ℕ)
     → IsBridgeHistory plan h → Contains h (Forward side old id route request)
-    → AcceptIn h old route
+    → AcceptIn h old route request
 sent-accepts plan h side old id route request legal there =
     (all-come plan h legal).forwards side old id route request there
 
--- a reply that was given back is an exception, or that of the call which was sent on
+-- a reply that was given back is an exception to what was accepted, or that of the call which was
+-- sent on
 pub back-given : (plan : BridgePlan) (h : List BridgeEntry) (side : ℕ) (id : CallId)
     (reply : List ℕ)
     → IsBridgeHistory plan h → Contains h (Back side id reply) → GivenIn h id reply

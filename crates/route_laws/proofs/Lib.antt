@@ -13,5 +13,14 @@ pub mod Places
 pub mod Sides
 pub mod Traces
 pub mod Success
+pub mod Requests
+pub mod Hops
+pub mod Gave
+pub mod Comes
+pub mod Results
+pub mod Found
+pub mod AtEnd
+pub mod HostEnds
 pub mod Plants
 mod Example
+mod Journey

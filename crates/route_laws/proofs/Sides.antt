@@ -221,6 +221,7 @@ pub record PostOf (x : RingEntry) (asked : Asked) : Type 0 where
   pub kind : frame.kind ≡ kinds.Request
   pub id : frame.id ≡ asked.id
   pub route : frame_route frame ≡ asked.route
+  pub pdu : frame.pdu ≡ asked.pdu
 
 post-kind : (n : ℕ) (f : Frame) (kind : FrameKind) → f.kind ≡ kind → (asked : Asked)
     → asked_in kind f ≡ Some asked → PostOf (ring_entries.Post n f) asked
@@ -235,6 +236,7 @@ post-kind n f kinds.Request k asked is =
       kind = k;
       id = ap (λ (a : Asked). a.id) same;
       route = ap (λ (a : Asked). a.route) same;
+      pdu = ap (λ (a : Asked). a.pdu) same;
     }
 
 pub post-of : (x : RingEntry) (asked : Asked) → asked_of x ≡ Some asked → PostOf x asked
@@ -248,27 +250,29 @@ post-of (ring_entries.Leave n cause) asked is = absurd cc
 post-of (ring_entries.Join n) asked is = absurd cc
 
 -- a Request that was taken, for what stands behind the node
-pub record TakePlain (x : RingEntry) (id : CallId) (rest : List ℕ) : Type 0 where
+pub record TakePlain (x : RingEntry) (id : CallId) (rest pdu : List ℕ) : Type 0 where
   pub node : ℕ
   pub frame : Frame
   pub is : x ≡ ring_entries.Take node frame
   pub kind : frame.kind ≡ kinds.Request
   pub name : frame.id ≡ id
   pub rest_is : frame.rest ≡ rest
+  pub pdu_is : frame.pdu ≡ pdu
 
 plain-kind : (n : ℕ) (f : Frame) (kind : FrameKind) → f.kind ≡ kind → (id : CallId)
     (rest pdu : List ℕ)
-    → taken_in kind f ≡ Some (Plain id rest pdu) → TakePlain (ring_entries.Take n f) id rest
+    → taken_in kind f ≡ Some (Plain id rest pdu) → TakePlain (ring_entries.Take n f) id rest pdu
 plain-kind n f kinds.Reply k id rest pdu is = absurd cc
 plain-kind n f kinds.Request k id rest pdu is = at (is_for_stats f) is
   where
     at : (b : Bool) → Some (if b then ForStats f.id f.pdu else Plain f.id f.rest f.pdu)
         ≡ Some (Plain id rest pdu)
-        → TakePlain (ring_entries.Take n f) id rest
+        → TakePlain (ring_entries.Take n f) id rest pdu
     at true is' = absurd cc
     at false is' =
         let name_is : f.id ≡ id = cc in
         let rest_is : f.rest ≡ rest = cc in
+        let pdu_is : f.pdu ≡ pdu = cc in
         record {
           node = n;
           frame = f;
@@ -276,10 +280,11 @@ plain-kind n f kinds.Request k id rest pdu is = at (is_for_stats f) is
           kind = k;
           name = name_is;
           rest_is = rest_is;
+          pdu_is = pdu_is;
         }
 
 pub take-plain : (x : RingEntry) (id : CallId) (rest pdu : List ℕ)
-    → taken_of x ≡ Some (Plain id rest pdu) → TakePlain x id rest
+    → taken_of x ≡ Some (Plain id rest pdu) → TakePlain x id rest pdu
 take-plain (ring_entries.Post n f) id rest pdu is = absurd cc
 take-plain (ring_entries.Send n heard) id rest pdu is = absurd cc
 take-plain (ring_entries.Take n f) id rest pdu is = plain-kind n f f.kind refl id rest pdu is

@@ -40,7 +40,7 @@ use Rattle.route_laws.proofs.Traces.{Onward, TookPlain, ended-at, took-replied, 
 -- ---- the names on a way
 
 -- how many calls that are no further from their end were sent on
-abbrev rank : (CallId → ℕ) → List SentOn → ℕ → ℕ
+abbrev pub rank : (CallId → ℕ) → List SentOn → ℕ → ℕ
 rank size sent far = count_by (λ (s : SentOn). nat_le (size s.old) far) sent
 
 near-far : (k near far : ℕ) → near ≤ far
@@ -68,7 +68,7 @@ rank-rises size (s ∷ sent) near far within =
     omega (arith, rest, one, two, first)
 
 -- one that was sent on on a shorter way ranks lower
-rank-falls : (size : CallId → ℕ) (sent : List SentOn) (s : SentOn) (near far : ℕ)
+pub rank-falls : (size : CallId → ℕ) (sent : List SentOn) (s : SentOn) (near far : ℕ)
     → Contains sent s → size s.old ≡ far → near < far
     → rank size sent near + 1 ≤ rank size sent far
 rank-falls size [] s near far there is less = absurd (in-none s there)
@@ -102,7 +102,7 @@ first-there [] x there = absurd (in-none x there)
 first-there (y ∷ ys) x there = (y, refl, here y ys)
 
 -- the one name under which a call was sent on
-next-is : (sent : List SentOn) (id : CallId) (s : SentOn) → count_by (is_old id) sent ≤ 1
+pub next-is : (sent : List SentOn) (id : CallId) (s : SentOn) → count_by (is_old id) sent ≤ 1
     → Contains sent s → is_old id s ≡ true
     → slice_get (filter (is_old id) sent) 0 ≡ Some s
 next-is sent id s few there old =

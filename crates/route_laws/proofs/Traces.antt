@@ -55,7 +55,8 @@ use Rattle.effect_laws.proofs.Sources.{EndedBy, by_port, by_reply, by_word, end-
 use Rattle.effect_laws.proofs.Sources.{first-or-behind, in-map, in-none, in-own, of-map, of-own}
 use Rattle.route_laws.specs.Networks.{IsNetworked}
 use Rattle.route_laws.specs.Ways.{SentOn, sent_of, sent_on_in}
-use Rattle.route_laws.proofs.Given.{GoneOn, back-given, sent-accepts}
+use Rattle.route_laws.proofs.Given.{GoneOn, Refused, back-given, exceptions-are}
+use Rattle.route_laws.proofs.Given.{sent-accepts}
 use Rattle.route_laws.proofs.Members.{all_nodes, times}
 use Rattle.route_laws.proofs.Places.{posted-on-rings, reply-posted, request-posted, size-is}
 use Rattle.route_laws.proofs.Places.{size_of}
@@ -94,7 +95,7 @@ part-most f (y ∷ xs) x there =
     (λ (more : Contains xs x). let rest = part-most f xs x more in omega (arith, step, rest))
     (first-or-behind y xs x there)
 
-in-flat : {X Y : Type 0} (parts : X → List Y) (xs : List X) (x : X) (y : Y) → Contains xs x
+pub in-flat : {X Y : Type 0} (parts : X → List Y) (xs : List X) (x : X) (y : Y) → Contains xs x
     → Contains (parts x) y → Contains (flat_map parts xs) y
 in-flat parts [] x y there within = absurd (in-none x there)
 in-flat parts (z ∷ xs) x y there within =
@@ -168,7 +169,7 @@ module _ (plant : Plant) (scans : ℕ) (joint : Joint) (is : IsNetworked plant)
   -- ---- effects
 
   -- what a port answered took effect
-  port-effect : (n : ℕ) (id : CallId)
+  pub port-effect : (n : ℕ) (id : CallId)
       → 1 ≤ count_by (is_answer id) (port_answers (own n (noted_on_rings joint)))
       → 1 ≤ effects joint id
   port-effect n id some =
@@ -177,7 +178,7 @@ module _ (plant : Plant) (scans : ℕ) (joint : Joint) (is : IsNetworked plant)
       let all = effects-are joint id in
       omega (arith, some, own_served, most, all)
 
-  port-answer : (n : ℕ) (answer : Answered) (id : CallId)
+  pub port-answer : (n : ℕ) (answer : Answered) (id : CallId)
       → Contains (port_answers (own n (noted_on_rings joint))) answer → answer.id ≡ id
       → 1 ≤ effects joint id
   port-answer n answer id there named =
@@ -193,7 +194,7 @@ module _ (plant : Plant) (scans : ℕ) (joint : Joint) (is : IsNetworked plant)
       (and_from _ _ (ap (λ (i : CallId). is_same_call i id) named ∙ same-refl id)
       (ap has_reply told)) there
 
-  controller-effect : (log : ControllerLog) (f : Frame) → Contains joint.controllers log
+  pub controller-effect : (log : ControllerLog) (f : Frame) → Contains joint.controllers log
       → Contains (noted_on_rings joint) (Post log.node f) → f.kind ≡ kinds.Reply
       → 1 ≤ effects joint f.id
   controller-effect log f log_there posted kind =
@@ -210,7 +211,7 @@ module _ (plant : Plant) (scans : ℕ) (joint : Joint) (is : IsNetworked plant)
       port-answer log.node o.answer f.id port o.named)
       o.among
 
-  host-effect : (log : HostLog) (f : Frame) → Contains joint.hosts log
+  pub host-effect : (log : HostLog) (f : Frame) → Contains joint.hosts log
       → Contains (noted_on_rings joint) (Post log.node f) → f.kind ≡ kinds.Reply
       → 1 ≤ effects joint f.id
   host-effect log f log_there posted kind =
@@ -231,7 +232,7 @@ module _ (plant : Plant) (scans : ℕ) (joint : Joint) (is : IsNetworked plant)
   -- ---- bridges
 
   -- either end of a bridge keeps the laws
-  side-tied : (plan : BridgePlan) (log : BridgeLog) (side : ℕ) → IsLegalBridgeLog plan log
+  pub side-tied : (plan : BridgePlan) (log : BridgeLog) (side : ℕ) → IsLegalBridgeLog plan log
       → Contains joint.bridges log → IsEnd plan side
       → IsTiedSide (noted_on_rings joint) log side
   side-tied plan log side lawful there (inl at) =
@@ -243,7 +244,7 @@ module _ (plant : Plant) (scans : ℕ) (joint : Joint) (is : IsNetworked plant)
       there in
       subst (IsTiedSide (noted_on_rings joint) log) (lawful.1 ∙ sym at) both.right
 
-  entry-end : (plan : BridgePlan) (list : List BridgeEntry) (e : BridgeEntry)
+  pub entry-end : (plan : BridgePlan) (list : List BridgeEntry) (e : BridgeEntry)
       → IsBridgeHistory plan list → Contains list e → IsEnd plan (side_of e)
   entry-end plan list e lawful there =
       each-contains (λ x. IsEnd plan (side_of x)) list e
@@ -251,7 +252,7 @@ module _ (plant : Plant) (scans : ℕ) (joint : Joint) (is : IsNetworked plant)
       there
 
   -- the Request of a call that was sent on goes by the route that is left
-  size-sent : (plan : BridgePlan) (log : BridgeLog) (side : ℕ) (old new : CallId)
+  pub size-sent : (plan : BridgePlan) (log : BridgeLog) (side : ℕ) (old new : CallId)
       (route request : List ℕ)
       → IsLegalBridgeLog plan log → Contains joint.bridges log
       → Contains log.entries (Forward side old new route request)
@@ -274,7 +275,7 @@ module _ (plant : Plant) (scans : ℕ) (joint : Joint) (is : IsNetworked plant)
       sym (ap length p.route) ∙ ap suc (sym size)
 
   -- that of one that was accepted goes on by the route that was read
-  size-accepted : (plan : BridgePlan) (log : BridgeLog) (side : ℕ) (id : CallId)
+  pub size-accepted : (plan : BridgePlan) (log : BridgeLog) (side : ℕ) (id : CallId)
       (route request : List ℕ)
       → IsLegalBridgeLog plan log → Contains joint.bridges log
       → Contains log.entries (Accept side id route request)
@@ -303,7 +304,7 @@ module _ (plant : Plant) (scans : ℕ) (joint : Joint) (is : IsNetworked plant)
   gone-on plan log id pdu lawful there plain on =
       let list = log.entries in
       let got = sent-accepts plan list on.side id on.id on.route on.request lawful.2 on.sent in
-      let before = size-accepted plan log got.side id on.route got.request lawful there got.there in
+      let before = size-accepted plan log got.side id on.route on.request lawful there got.there in
       let after = size-sent plan log on.side id on.id on.route on.request lawful there on.sent in
       let this : SentOn = record { old = id; id = on.id } in
       let t = side-tied plan log on.side lawful there (entry-end plan list _ lawful.2 on.ended) in
@@ -340,7 +341,8 @@ module _ (plant : Plant) (scans : ℕ) (joint : Joint) (is : IsNetworked plant)
             let among = back-there log.entries side f.id f.pdu
             (subst (λ (l : List Item). Contains l item) t.replies.given given) in
             ⊎_elim
-            (λ (high : is_exception_reply f.pdu ≡ true). absurd (plain high))
+            (λ (no' : Refused log.entries f.id f.pdu). absurd (plain
+            (ap is_exception_reply no'.is ∙ exceptions-are no'.request no'.code)))
             (λ (on : GoneOn log.entries f.id f.pdu).
             inr (gone-on plan log f.id f.pdu lawful there plain on))
             (back-given plan log.entries among.0 f.id f.pdu lawful.2 among.1)

@@ -14,7 +14,7 @@ use Rattle.route_laws.proofs.Effects.{one-effect}
 use Rattle.route_laws.proofs.Once.{forwards-accepts, is_old}
 
 -- what is found first is there
-found-counts : {X : Type 0} (p : X → Bool) (xs : List X) (x : X)
+pub found-counts : {X : Type 0} (p : X → Bool) (xs : List X) (x : X)
     → slice_get (filter p xs) 0 ≡ Some x → 1 ≤ count_by p xs
 found-counts p [] x is = absurd cc
 found-counts p (y ∷ ys) x is = at (p y) is (count-cons p y ys) (found-counts p ys x)

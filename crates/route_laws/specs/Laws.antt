@@ -10,7 +10,9 @@ use Rattle.bridge_relay.specs.declared.entry.BridgeEntry.TheVariants.{Accept}
 use Rattle.joint_history.specs.declared.joint.BridgeLog.{BridgeLog}
 use Rattle.joint_history.specs.declared.joint.Joint.{Joint}
 use Rattle.joint_history.specs.JointLaws.{IsJoint, IsLegalJoint}
+use Rattle.effect_laws.specs.Effects.{RepliesFit}
 use Rattle.effect_laws.specs.Success.{ReportsSuccess}
+use Rattle.route_laws.specs.Ends.{EffectsAreAtEnd, HostRepliesAreOnWay}
 use Rattle.route_laws.specs.Networks.{IsNetworked}
 use Rattle.route_laws.specs.Ways.{SentOn, sent_on_in, effects_on_way}
 
@@ -49,3 +51,16 @@ WaysHaveOneEffect = InEachHistory (λ joint. (id : CallId) → effects_on_way jo
 abbrev pub SuccessIsOneEffectOnWay : Type 0
 SuccessIsOneEffectOnWay =
     InEachHistory (λ joint. (id : CallId) → ReportsSuccess joint id → effects_on_way joint id ≡ 1)
+
+-- No call of a controller ends with the word for a reply that doesn't fit its request.
+abbrev pub FinishesHaveResults : Type 0
+FinishesHaveResults = InEachHistory RepliesFit
+
+-- Each effect of a call is at the node at which the route of the call ends.
+abbrev pub AllEffectsAreAtTheirEnd : Type 0
+AllEffectsAreAtTheirEnd = InEachHistory EffectsAreAtEnd
+
+-- Each reply that a host got is the answer of the node at which the route ends to the very request
+-- that it made, or an exception that a bridge on the way made of it.
+abbrev pub HostsGetTheirReplies : Type 0
+HostsGetTheirReplies = InEachHistory HostRepliesAreOnWay

@@ -1,3 +1,4 @@
 pub mod Networks
 pub mod Ways
+pub mod Ends
 pub mod Laws

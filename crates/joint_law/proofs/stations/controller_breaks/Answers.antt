@@ -1,4 +1,4 @@
-use Rattle.std.proofs.Common.{sym, ◌∙◌}
+use Rattle.std.proofs.Common.{[], sym, ◌∙◌}
 use Rattle.std.proofs.lemmas.Result.{IfOk-weaker}
 use Rattle.joint_history.specs.Reading.{items_of}
 use Rattle.joint_law.specs.Picked.{picked}
@@ -9,7 +9,7 @@ use Rattle.joint_law.proofs.stations.controller_breaks.Goals as goal
 pub returns-in_ok-answered-in-Answers : goal.returns-in_ok-answered-in-Answers
 returns-in_ok-answered-in-Answers c =
     IfOk-weaker c.compare_answers.result _ _
-    (λ end h. answers-end c.args.law _ (items_of c.args.entries.now)
+    (λ end h. answers-end c.args.law _ (items_of c.args.entries.now) []
     (picked c.args.ring.now c.args.places.now) _ end c.in-Answers.is
     c.in_ok-answered-in-Answers.ensures h)
     c.compare_answers.ensures
@@ -17,7 +17,7 @@ returns-in_ok-answered-in-Answers c =
 pub returns-in-Downs : goal.returns-in-Downs
 returns-in-Downs c =
     IfOk-weaker c.judge_downs.result _ _
-    (λ end h. downs-end c.args.law _ (items_of c.args.entries.now)
+    (λ end h. downs-end c.args.law _ (items_of c.args.entries.now) []
     (picked c.args.ring.now c.args.places.now) _ end c.in-Downs.is
     (fails-of c.args.entries.now ∙ sym c.count_fails.ensures) h)
     c.judge_downs.ensures

@@ -1,0 +1,3 @@
+pub mod Station
+pub mod Stands
+pub mod Laws
