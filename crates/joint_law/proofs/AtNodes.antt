@@ -3,12 +3,12 @@ use Rattle.std.proofs.Common.{◌≡◌, ℕ, ◌+◌, ◌<◌, ◌≤◌, Bool,
 use Rattle.std.proofs.Common.{length}
 use Rattle.std.proofs.Common.{get_or, map}
 use Rattle.std.proofs.Common.{refl, sym, ap, subst, ◌∙◌, ◌⊎◌, ⊎_elim, arith}
-use Rattle.std.specs.List.{All, AllZip, Contains, flat_map, zip}
+use Rattle.std.specs.List.{All, Contains, flat_map, zip}
 use Rattle.std.proofs.Math.ListN.{get_or-map}
 use Rattle.std.proofs.lemmas.Bool.{cases_lt}
 use Rattle.std.proofs.lemmas.List.{get_or_default, length-map, length-append, get_or_append_left}
 use Rattle.std.proofs.lemmas.List.{get_or-append-add}
-use Rattle.std.proofs.lemmas.List.Elements.{All-append, All-map}
+use Rattle.std.proofs.lemmas.List.Elements.{All-append, All-map, All-nil}
 use Rattle.std.proofs.lemmas.List.Sorted.{All-permutation, IsPermutation-sym}
 use Rattle.std.proofs.lemmas.Slice.Zip.{get_or-zip, length-zip}
 use Rattle.plant_types.specs.declared.net.BridgePlan.{BridgePlan}
@@ -30,7 +30,6 @@ use Rattle.joint_history.specs.JointLaws.{fixed_of}
 use Rattle.joint_history.specs.Reading.{host_items_of, items_of}
 use Rattle.joint_history.specs.Complete.{IsCompleteBridgeLog, IsCompleteHostLog, IsCompleteLog}
 use Rattle.joint_history.specs.Complete.{NodeIsComplete}
-use Rattle.joint_history.proofs.OneRing.{bridges-zip}
 use Rattle.ring_core.specs.declared.status.NodeStatus.{NodeStatus}
 use Rattle.ring_core.specs.declared.status.NodeStatus.TheVariants.{Away, Gone}
 use Rattle.tied_lists.specs.Items.{Items, no_items, replies_in}
@@ -47,7 +46,7 @@ use Rattle.std.specs.Prelude.{◌↔◌, IsTrue, count_by, Option}
 use Rattle.joint_law.specs.declared.complete.Followed.{Followed}
 use Rattle.joint_law.specs.declared.complete.Standing.{Standing}
 use Rattle.joint_law.specs.Bound.{Bound, bounds_of, controller_bound, host_bound, side_bounds}
-use Rattle.joint_law.specs.Spots.{HasSections, IsCompleteAt}
+use Rattle.joint_law.specs.Spots.{AreCompleteEndsAt, HasSections, IsCompleteAt}
 use Rattle.joint_law.proofs.CourseSteps.{same-node, same-size, zip-all}
 use Rattle.joint_law.proofs.Fitting.{all-from, done-from, holds-from, host-each, node-each}
 use Rattle.joint_law.proofs.Fitting.{noticed-from, notices-ended, replies-from}
@@ -247,7 +246,7 @@ complete-host plant ring plan log status is_done at whole c = record {
   asks = host-each plan (own log.node ring) c.0.holds c.0.asked;
 }
 
--- all stations of an address are complete where they were done
+-- all stations of an address are complete where they were done: as yet a plant has no bridge
 pub at-complete : (plant : Plant) (scans : ℕ) (joint : Joint) (followed : Followed) (node : ℕ)
     (on : Standing) → IsPlant plant → HasSections plant joint
     → IsFollowed plant scans joint followed
@@ -301,6 +300,11 @@ at-complete plant scans joint followed node on sound sections is stands controll
           (get_or followed.hosts_done.now k false))
           (own-is ∙ ap (λ (m : ℕ). own m (noted_on_rings joint)) (sym same))
           (hosts k d.0 d.1 (omega (arith, size, n)) same)));
+      bridges = subst (λ (plans : List BridgePlan).
+          All (λ of. AreCompleteEndsAt plant (noted_on_rings joint) on.node of.1)
+          (zip plans joint.bridges)) (sym sound.alone.no_bridge)
+          (All-nil (λ (of : BridgePlan × BridgeLog).
+          AreCompleteEndsAt plant (noted_on_rings joint) on.node of.1));
     })
 
 -- what holds of each pair that stands together
@@ -463,10 +467,10 @@ hosts-done plant scans joint followed node on sound sections is stands complete 
 -- ---- all
 
 pub all-complete : (plant : Plant) (scans : ℕ) (joint : Joint) → IsPlant plant
-    → HasSections plant joint → joint.bridges ≡ []
+    → HasSections plant joint
     → ((n : ℕ) → n < addresses → IsCompleteAt plant scans joint n)
     → IsComplete plant scans joint
-all-complete plant scans joint sound sections none each = record {
+all-complete plant scans joint sound sections each = record {
   controllers =
       let size = same-size plan_node log_node plant.controllers joint.controllers
       sections.controllers in
@@ -488,6 +492,16 @@ all-complete plant scans joint sound sections none each = record {
       pair-at (λ of. of.1.node ≡ node → IsCompleteHostLog plant (noted_on_rings joint) of.0 of.1)
       plant.hosts
       joint.hosts size at.hosts k p g low refl);
-  bridges = subst (AllZip (IsCompleteBridgeLog plant (noted_on_rings joint)) plant.bridges)
-      (sym none) (bridges-zip (IsCompleteBridgeLog plant (noted_on_rings joint)) plant sound);
+  bridges =
+      let size = same-size (λ (p : BridgePlan). p.left) (λ (g : BridgeLog). g.left) plant.bridges
+      joint.bridges sections.lefts in
+      zip-all (IsCompleteBridgeLog plant (noted_on_rings joint)) plant.bridges joint.bridges size
+      (λ k p g low.
+      let log = get_or joint.bridges k g in
+      let are = sides-low plant joint sound sections k g (omega (arith, size)) in (
+        (pair-at (λ of. AreCompleteEndsAt plant (noted_on_rings joint) log.left of.1)
+            plant.bridges joint.bridges size (each log.left are.0).bridges k p g low).0 refl,
+        (pair-at (λ of. AreCompleteEndsAt plant (noted_on_rings joint) log.right of.1)
+            plant.bridges joint.bridges size (each log.right are.1).bridges k p g low).1 refl,
+      ));
 }

@@ -10,13 +10,13 @@ use Rattle.mstr_block.specs.Call.{is_same_call}
 use Rattle.ring_core.specs.declared.entry.RingEntry.{RingEntry}
 use Rattle.tied_lists.specs.Items.{Answered, Item, or_some, port_answers, replied_by}
 use Rattle.tied_lists.specs.Tied.{is_port_reply}
-use Rattle.joint_law.specs.Backs.{HasNames, NotesName, is_answered, is_to, mark, replies_to}
+use Rattle.joint_law.specs.Backs.{HasNames, NotesName, is_answered, is_to, marked_if, replies_to}
 use Rattle.joint_law.specs.Bound.{SortedReply, given_in_order, is_of_sort, port_replies}
 use Rattle.joint_law.specs.Bound.{replied_in_order, replied_to, sorted}
 use Rattle.joint_law.specs.Comparing.{Compared, ComparesBacks}
 use Rattle.joint_law.specs.declared.by_call.ByCall.{ByCall}
 
-either : (a b : Bool) → or_some (mark b) (mark a) ≡ mark (a || b)
+either : (a b : Bool) → or_some (marked_if b) (marked_if a) ≡ marked_if (a || b)
 either true true = refl
 either true false = refl
 either false true = refl
@@ -28,12 +28,12 @@ pub names-next : (before whole : List Answered) (o : Option Answered) (old new :
     → HasNames whole new
 names-next before whole o old new push has notes q =
     notes q
-    ∙ (ap (or_some (mark (is_answered (cons_option o []) q))) (has q)
+    ∙ (ap (or_some (marked_if (is_answered (cons_option o []) q))) (has q)
     ∙ (either (is_answered before q) (is_answered (cons_option o []) q)
-    ∙ ap mark (sym (ap (λ (l : List Answered). is_answered l q) push
+    ∙ ap marked_if (sym (ap (λ (l : List Answered). is_answered l q) push
     ∙ list_any-append (λ (a : Answered). is_same_call a.id q) before (cons_option o [])))))
 
-marked : (b : Bool) → is_some (mark b) ≡ b
+marked : (b : Bool) → is_some (marked_if b) ≡ b
 marked true = refl
 marked false = refl
 

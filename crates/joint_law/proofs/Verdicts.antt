@@ -1,6 +1,6 @@
 -- What a judge finds, as a verdict; and a whole run has no spot.
-use Rattle.std.proofs.Common.{◌≡◌, ℕ, ◌<◌, List, [], ◌∷◌, ◌++◌, length, get_or, map, take}
-use Rattle.std.proofs.Common.{drop, Some, None}
+use Rattle.std.proofs.Common.{◌≡◌, ℕ, ◌+◌, ◌<◌, List, [], ◌∷◌, ◌++◌, length, get_or, map}
+use Rattle.std.proofs.Common.{take, drop, Some, None}
 use Rattle.std.proofs.Common.{refl, sym, ap, subst, ◌∙◌, append_assoc, arith}
 use Rattle.std.specs.List.{All, AllZip, Any, flat_map, zip}
 use Rattle.std.proofs.Math.ListN.{get_or-map}
@@ -28,12 +28,12 @@ use Rattle.joint_history.specs.declared.joint.ControllerLog.{ControllerLog}
 use Rattle.joint_history.specs.declared.joint.HostLog.{HostLog}
 use Rattle.joint_history.specs.declared.joint.RingLog.{RingLog}
 use Rattle.joint_history.specs.declared.joint.Joint.{Joint}
-use Rattle.joint_history.specs.Complete.{IsComplete, IsCompleteHostLog, IsCompleteLog}
+use Rattle.joint_history.specs.Complete.{IsComplete, IsCompleteBridgeLog, IsCompleteHostLog}
+use Rattle.joint_history.specs.Complete.{IsCompleteLog}
 use Rattle.joint_history.specs.JointLaws.{IsJoint, IsLegalBridgeLog, IsLegalHostLog, IsLegalJoint}
 use Rattle.joint_history.specs.JointLaws.{IsLegalLog, IsLegalRingLog, IsTiedSide}
 use Rattle.joint_history.specs.JointLaws.{IsTiedController, IsTiedHost, fixed_of}
 use Rattle.joint_history.specs.Nets.{noted_on_rings}
-use Rattle.joint_history.proofs.OneRing.{bridges-none}
 use Rattle.joint_law.specs.AllComplete.{IsFirstIncomplete}
 use Rattle.joint_law.specs.Bound.{Bound, BreaksLaw, BreaksReplies, KeepsLaw, KeepsReplies}
 use Rattle.joint_law.specs.Bound.{bounds_of, controller_bound, host_bound, side_bound, side_bounds}
@@ -43,8 +43,8 @@ use Rattle.tied_lists.specs.Items.{ABridge, AController, AHost, Item, Items, Sta
 use Rattle.tied_lists.specs.Own.{own}
 use Rattle.joint_history.specs.Bridges.{side_items}
 use Rattle.joint_law.specs.LawEnds.{AllKeep, IsFirstBreak, IsLawsEnd}
-use Rattle.joint_law.specs.Spots.{HasSections, IsCompleteAt}
-use Rattle.joint_law.specs.Spots.{IsFirstSpot, IsSpot, IsVerdict, IsWholeRun}
+use Rattle.joint_law.specs.Spots.{AreCompleteEndsAt, BridgeSpot, HasSections, IsCompleteAt}
+use Rattle.joint_law.specs.Spots.{IsFirstSpot, IsSpot, IsVerdict, IsWholeRun, RingSpot}
 use Rattle.joint_law.specs.declared.law.Law.{Law}
 use Rattle.joint_law.specs.declared.law.Law.TheVariants.{Asks, Answers, Replies, Ends, Downs}
 use Rattle.joint_law.specs.declared.verdict.Spot.{Spot}
@@ -242,8 +242,7 @@ end-spot plant scans joint sound legal tied each = record {
   legal = legal;
   tied = tied;
   complete =
-      all-complete plant scans joint sound (legal-sections plant scans joint legal)
-      (bridges-none plant scans joint sound legal) each;
+      all-complete plant scans joint sound (legal-sections plant scans joint legal) each;
 }
 
 pub incomplete-spot : (plant : Plant) (scans : ℕ) (joint : Joint) (node : ℕ)
@@ -252,6 +251,20 @@ pub incomplete-spot : (plant : Plant) (scans : ℕ) (joint : Joint) (node : ℕ)
     → IsFirstSpot plant scans joint (Some (spots.Incomplete node))
 incomplete-spot plant scans joint node legal tied first =
     record { legal = legal; tied = tied; earlier = first.0; here = first.1 }
+
+-- ---- lists that break off
+
+pub bridge-found : (plant : Plant) (scans : ℕ) (joint : Joint) (left place : ℕ) (spot : Spot)
+    → BridgeSpot plant scans joint left (place + 1) → spot ≡ spots.Bridge left (place + 1)
+    → IsFirstSpot plant scans joint (Some spot)
+bridge-found plant scans joint left place spot here is =
+    subst (IsSpot plant scans joint) (sym is) here
+
+pub ring-found : (plant : Plant) (scans : ℕ) (joint : Joint) (network place : ℕ) (spot : Spot)
+    → RingSpot plant scans joint network (place + 1) → spot ≡ spots.Ring network (place + 1)
+    → IsFirstSpot plant scans joint (Some spot)
+ring-found plant scans joint network place spot here is =
+    subst (IsSpot plant scans joint) (sym is) here
 
 -- ---- a whole run has no spot
 
@@ -360,6 +373,17 @@ complete-at plant scans joint node sections complete = record {
       (λ _. zip-at (IsCompleteHostLog plant (noted_on_rings joint)) plant.hosts joint.hosts
       complete.hosts k
       d.0 d.1 (omega (arith, size, n)));
+  bridges = λ k d low.
+      let size = same-size (λ (p : BridgePlan). p.left) (λ (g : BridgeLog). g.left) plant.bridges
+      joint.bridges sections.lefts in
+      let n = length-zip plant.bridges joint.bridges in
+      let both = zip-at (IsCompleteBridgeLog plant (noted_on_rings joint)) plant.bridges
+      joint.bridges complete.bridges k d.0 d.1 (omega (arith, size, n)) in
+      subst (λ (of : BridgePlan × BridgeLog).
+      AreCompleteEndsAt plant (noted_on_rings joint) node of.1)
+      (sym (get_or-zip plant.bridges joint.bridges k d (omega (arith, size, n))
+      (omega (arith, size, n))))
+      (λ _. both.0, λ _. both.1);
 }
 
 no-spot : FrontsAreLegal → (plant : Plant) (scans : ℕ) (joint : Joint)

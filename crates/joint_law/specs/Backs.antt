@@ -17,19 +17,19 @@ use Rattle.joint_law.specs.declared.by_call.ByCall.{ByCall}
 abbrev pub is_answered : List Answered → CallId → Bool
 is_answered answers q = list_any (λ (a : Answered). is_same_call a.id q) answers
 
-abbrev pub mark : Bool → Option Bool
-mark true = Some true
-mark false = None
+abbrev pub marked_if : Bool → Option Bool
+marked_if true = Some true
+marked_if false = None
 
 -- These names are those of the requests that were answered.
 abbrev pub HasNames : List Answered → ByCall Bool → Type 0
-HasNames answers names = (q : CallId) → value_of_call names q ≡ mark (is_answered answers q)
+HasNames answers names = (q : CallId) → value_of_call names q ≡ marked_if (is_answered answers q)
 
 -- One more is among the names, if there is one.
 abbrev pub NotesName : ByCall Bool → Option Answered → ByCall Bool → Type 0
 NotesName old answer new = (q : CallId)
     → value_of_call new q
-    ≡ or_some (mark (is_answered (cons_option answer []) q)) (value_of_call old q)
+    ≡ or_some (marked_if (is_answered (cons_option answer []) q)) (value_of_call old q)
 
 -- A Reply is to one of these names, or to another.
 abbrev pub is_to : ByCall Bool → Bool → Item → Bool
@@ -41,8 +41,8 @@ replies_to names statistics items =
     map (sorted statistics) (filter (is_to names statistics) items)
 
 -- The Reply of an entry, if it is one of these.
-abbrev pub reply_to : ByCall Bool → Bool → RingEntry → List SortedReply
-reply_to names statistics e =
+abbrev pub sorted_reply_in : ByCall Bool → Bool → RingEntry → List SortedReply
+sorted_reply_in names statistics e =
     replies_to names statistics (cons_option (replied_of e) [])
 
 -- The reply that an entry gives back, if it gives one.

@@ -4,7 +4,7 @@ ghost use Rattle.std.specs.Prelude.{◌≡◌, ◌++◌, true, false, map, IfOk,
 ghost use Rattle.tied_lists.specs.Items.{answered_of, port_answers, replied_by};
 ghost use Rattle.joint_history.specs.Bridges.{backs_of};
 ghost use Rattle.joint_law.specs.Backs.{HasNames, NotesName, port_reply_sorted, replies_to};
-ghost use Rattle.joint_law.specs.Backs.{reply_to, side_back_sorted};
+ghost use Rattle.joint_law.specs.Backs.{sorted_reply_in, side_back_sorted};
 ghost use Rattle.joint_law.specs.Bound.{port_replies, sorted};
 ghost use Rattle.joint_law.specs.Comparing.{ComparesBacks};
 ghost use Rattle.joint_law.specs.Picked.{AreWithin, picked};
@@ -80,7 +80,7 @@ fn add_reply(
     entry: &RingEntry,
 ) -> Result<(), AllocError>
     ensures { OnOk result
-        (list.new.items ≡ list.old.items ++ reply_to names.now statistics entry.now) }
+        (list.new.items ≡ list.old.items ++ sorted_reply_in names.now statistics entry.now) }
 {
     let RingEntry::Post { frame, .. } = entry else {
         return Ok(());

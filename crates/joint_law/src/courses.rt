@@ -16,7 +16,7 @@ use std::alloc::{AllocError, Global};
 /// How the lists of all controllers go.
 #[derive(Drop)]
 pub(crate) enum ControllerCourses {
-    /// The first that breaks off, and the entry, counted from 0, that makes it no legal one.
+    /// The first that breaks off, and the entry, counted from 0, that makes it illegal.
     Breaks {
         node: u8,
         place: usize,
@@ -31,7 +31,7 @@ pub(crate) enum ControllerCourses {
 /// How the lists of all hosts go.
 #[derive(Drop)]
 pub(crate) enum HostCourses {
-    /// The first that breaks off, and the entry, counted from 0, that makes it no legal one.
+    /// The first that breaks off, and the entry, counted from 0, that makes it illegal.
     Breaks { node: u8, place: usize },
     /// All are legal, and each host was done, or not.
     Whole(List<bool>),
@@ -40,7 +40,7 @@ pub(crate) enum HostCourses {
 /// How the lists of all bridges go.
 #[derive(Clone, Copy, Drop)]
 pub(crate) enum BridgeCourses {
-    /// The first that breaks off, and the entry, counted from 0, that makes it no legal one.
+    /// The first that breaks off, and the entry, counted from 0, that makes it illegal.
     Breaks { left: u8, place: usize },
     /// All are legal.
     Whole,
@@ -49,7 +49,7 @@ pub(crate) enum BridgeCourses {
 /// How the lists of all rings go.
 #[derive(Drop)]
 pub(crate) enum RingCourses {
-    /// The first that breaks off, and the entry, counted from 0, that makes it no legal one.
+    /// The first that breaks off, and the entry, counted from 0, that makes it illegal.
     Breaks { network: u8, place: usize },
     /// All are legal, and each ring is behind its list.
     Whole(List<BareRing>),

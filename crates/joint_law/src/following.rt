@@ -20,7 +20,7 @@ use std::alloc::{AllocError, Global};
 /// How a station's list goes.
 #[derive(Clone, Copy, Drop)]
 pub(crate) enum Course {
-    /// The entry, counted from 0, makes it no legal one.
+    /// The entry, counted from 0, makes it illegal.
     Breaks(usize),
     /// It is legal, and its station was done, or not.
     Whole(bool),
@@ -29,7 +29,7 @@ pub(crate) enum Course {
 /// How a controller's list goes, with what the controller noted.
 #[derive(Drop)]
 pub(crate) enum ControllerCourse {
-    /// The entry, counted from 0, makes it no legal one.
+    /// The entry, counted from 0, makes it illegal.
     Breaks(usize),
     /// It is legal, and its controller was done, or not, and noted this of its panel.
     Whole { is_done: bool, notes: Notes },

@@ -1,5 +1,5 @@
 //! The judge.
-ghost use Rattle.std.specs.Prelude.{◌≡◌, ◌↔◌, IfOk};
+ghost use Rattle.std.specs.Prelude.{◌≡◌, ◌+◌, ◌↔◌, IfOk};
 ghost use Rattle.plant_types.specs.Plans.{IsPlant};
 ghost use Rattle.joint_history.specs.JointLaws.{IsLegalJoint};
 ghost use Rattle.joint_history.specs.Nets.{noted_on_rings};
@@ -17,7 +17,7 @@ use crate::courses::{
     hosts_course, rings_course,
 };
 use crate::law_spots::{laws_spot, number};
-use crate::on_rings::{OnRings, joined};
+use crate::on_rings::{OnRings, joined, only_entries};
 use crate::sections::has_sections;
 use crate::verdict::{Judgement, Spot, Verdict};
 use controller_core::{Notes, fronts_are_legal};
@@ -27,6 +27,22 @@ use own_places::OwnPlaces;
 use plant_types::{List, Plant};
 use ring_core::RingEntry;
 use std::alloc::{AllocError, Global};
+
+/// The spot of the entry of a bridge at a place, counted from 0.
+fn bridge_spot(left: u8, place: usize) -> Result<Spot, AllocError>
+    ensures { IfOk result (λ spot. spot ≡ Spot.Bridge left (place + 1)) }
+{
+    let entry = number(place)?;
+    Ok(Spot::Bridge { left, entry })
+}
+
+/// The spot of the entry of a network's ring at a place, counted from 0.
+fn ring_spot(network: u8, place: usize) -> Result<Spot, AllocError>
+    ensures { IfOk result (λ spot. spot ≡ Spot.Ring network (place + 1)) }
+{
+    let entry = number(place)?;
+    Ok(Spot::Ring { network, entry })
+}
 
 /// The first spot of legal lists, where this is what all nodes noted on their rings.
 fn spot_beside(
@@ -69,8 +85,7 @@ fn spot_from_laws(
     ensures { IfOk result (IsFirstSpot plant.now scans joint.now) }
 {
     let rings = joint.rings.as_slice();
-    if rings.len() == 1 {
-        let ring = rings[0].entries.as_slice();
+    if let Some(ring) = only_entries(rings) {
         return spot_beside(alloc, plant, joint, ring, scans, followed);
     }
     let noted = joined(alloc, rings)?;
@@ -97,8 +112,8 @@ fn spot_from_rings(
 {
     match rings_course(alloc, plant, joint, scans)? {
         RingCourses::Breaks { network, place } => {
-            let entry = number(place)?;
-            Ok(Some(Spot::Ring { network, entry }))
+            let spot = ring_spot(network, place)?;
+            Ok(Some(spot))
         }
         RingCourses::Whole(rings) => {
             let followed = Followed {
@@ -130,8 +145,8 @@ fn spot_from_bridges(
 {
     match bridges_course(alloc, plant, joint, scans)? {
         BridgeCourses::Breaks { left, place } => {
-            let entry = number(place)?;
-            Ok(Some(Spot::Bridge { left, entry }))
+            let spot = bridge_spot(left, place)?;
+            Ok(Some(spot))
         }
         BridgeCourses::Whole => spot_from_rings(alloc, plant, joint, scans, done, hosts_done),
     }

@@ -8,7 +8,7 @@ ghost use Rattle.joint_history.specs.Nets.{noted_on_rings};
 ghost use Rattle.joint_law.specs.OnRings.{AreOnRings};
 
 use crate::law::Law;
-use crate::on_rings::{OnRings, joined};
+use crate::on_rings::{OnRings, joined, only_entries};
 use crate::stations::{controller_breaks, host_breaks, side_breaks};
 use crate::verdict::Spot;
 use joint_history::{BridgeLog, ControllerLog, HostLog, Joint};
@@ -259,8 +259,8 @@ pub fn broken_law(alloc: Global, joint: &Joint) -> Result<Option<Spot>, AllocErr
     ensures { IfOk result (IsLawsEnd (bounds_of joint.now)) }
 {
     let rings = joint.rings.as_slice();
-    if rings.len() == 1 {
-        return broken_beside(alloc, joint, rings[0].entries.as_slice());
+    if let Some(ring) = only_entries(rings) {
+        return broken_beside(alloc, joint, ring);
     }
     let noted = joined(alloc, rings)?;
     broken_beside(alloc, joint, noted.as_slice())

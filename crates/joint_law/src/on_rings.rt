@@ -1,5 +1,5 @@
-//! What all nodes noted on their rings, and where the entries of each stand among it.
-ghost use Rattle.std.specs.Prelude.{◌≡◌, ◌++◌, IfOk, OnOk};
+//! What all nodes noted on their rings, and where the entries of each stand among them.
+ghost use Rattle.std.specs.Prelude.{◌≡◌, ◌++◌, IfOk, IfSome, OnOk};
 ghost use Rattle.joint_history.specs.Nets.{entries_of_rings};
 
 use joint_history::RingLog;
@@ -37,4 +37,15 @@ pub(crate) fn joined(alloc: Global, rings: &[RingLog]) -> Result<List<RingEntry>
         add_entries(alloc, &mut list, ring.entries.as_slice())?;
     }
     Ok(list)
+}
+
+/// The entries of all rings where there is but one ring: its own, which need no copy.
+pub(crate) fn only_entries(rings: &[RingLog]) -> Option<&[RingEntry]>
+    ensures { IfSome result (λ entries. entries.now ≡ entries_of_rings rings.now) }
+{
+    if rings.len() == 1 {
+        Some(rings[0].entries.as_slice())
+    } else {
+        None
+    }
 }

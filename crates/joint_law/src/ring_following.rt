@@ -197,7 +197,7 @@ fn follow(
 /// How a ring's list goes.
 #[derive(Drop)]
 pub(crate) enum RingCourse {
-    /// The entry, counted from 0, makes it no legal one.
+    /// The entry, counted from 0, makes it illegal.
     Breaks(usize),
     /// It is legal, and the ring is behind it.
     Whole(BareRing),

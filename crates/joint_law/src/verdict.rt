@@ -7,13 +7,13 @@ use plant_types::List;
 pub enum Spot {
     /// The lists are not those of the plant's stations, bridges and networks.
     Sections,
-    /// The entry makes a controller's list no legal one.
+    /// The entry makes a controller's list illegal.
     Controller { node: u8, entry: u32 },
-    /// The entry makes a host's list no legal one.
+    /// The entry makes a host's list illegal.
     Host { node: u8, entry: u32 },
-    /// The entry makes a bridge's list, named by its left address, no legal one.
+    /// The entry makes the list of a bridge, named by its left address, illegal.
     Bridge { left: u8, entry: u32 },
-    /// The entry makes the list of a network's ring no legal one.
+    /// The entry makes the list of a network's ring illegal.
     Ring { network: u8, entry: u32 },
     /// A law, 1 to 5, is broken between a station's list and its node's entries on the ring: the
     /// two lists that it compares differ at the place, and of the fifth the place is that of the

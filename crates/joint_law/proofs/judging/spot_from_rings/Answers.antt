@@ -2,6 +2,7 @@ use Rattle.std.proofs.Common.{List, get_or, sym, ap, subst, ◌∙◌}
 use Rattle.ring_core.specs.declared.bare.BareRing.{BareRing}
 use Rattle.joint_law.specs.AllCourses.{AreDone, AreHostsDone, RingsEnd}
 use Rattle.joint_law.proofs.Rings.{first-behind}
+use Rattle.joint_law.proofs.Verdicts.{ring-found}
 use Rattle.joint_law.proofs.judging.spot_from_rings.Goals as goal
 
 pub spot_from_laws-requires-clause-followed : goal.spot_from_laws-requires-clause-followed
@@ -25,3 +26,10 @@ spot_from_laws-requires-clause-followed c =
           ∙ ap (λ (l : List BareRing). get_or l 0 c.index-as_slice-0.result)
           c.as_slice-in-Whole-2.ensures);
     }
+
+pub returns-in_ok-spot-in-Breaks : goal.returns-in_ok-spot-in-Breaks
+returns-in_ok-spot-in-Breaks c =
+    ring-found c.args.plant.now c.args.scans c.args.joint.now c.in-Breaks.network c.in-Breaks.place
+    c.in_ok-spot-in-Breaks.spot
+    (subst (RingsEnd c.args.plant.now c.args.scans c.args.joint.now) c.in-Breaks.is
+    c.in_ok-network.ensures) c.in_ok-spot-in-Breaks.ensures
