@@ -12,6 +12,8 @@ from schema import TOP, schema
 PAGE = os.path.join(TOP, "docs/guide/REFUSALS.md")
 ROW = re.compile(r"^\| `(\d+ \w+)` \| ([^|]+) \| [^|]+ \| ([^|]+) \|$", re.MULTILINE)
 STEPS = {"module": "modules", "network": "networks", "order": "orders", "request": "requests"}
+# The steps of places that begin so, where a network is one of several.
+OWN_STEPS = {"network": "network", "bridge": "bridges"}
 MOST_BRACKETS = 80
 # How many characters of a line are shown.
 SHOWN = 100
@@ -36,6 +38,9 @@ class Refusal:
         self.path, self.what = (("net",) if found[3] == "net" else ()), found[3]
         if found[3] not in ("plant", "net", "session"):
             words = found[3].split()
+            if words[0] in OWN_STEPS:
+                self.path, self.what = (OWN_STEPS[words[0]], int(words[1]) - 1), words[0]
+                return
             steps = zip(words[::2], words[1::2])
             self.path = tuple(it for word, number in steps for it in (STEPS.get(word, word), int(number) - 1) if it != "cell")
             self.what = words[-2]
@@ -52,15 +57,17 @@ TESTS = {
     "host": reasons.of_host,
     "request": reasons.of_request,
     "cell": cells.of_cell,
+    "network": reasons.of_network,
+    "bridge": reasons.of_bridge,
 }
 
 
 def findings(plant, refusal):
     """What is wrong at the place of a refusal."""
     if refusal.what == "plant":
-        return reasons.of_table(plant, (), plant.schema, reasons.TABLES[""])
+        return reasons.of_table(plant, (), plant.rule(""), reasons.TABLES[""])
     if refusal.what in ("net", "segment"):
-        return reasons.of_table(plant, refusal.path, plant.schema["$defs"][refusal.what], reasons.TABLES[refusal.what])
+        return reasons.of_table(plant, refusal.path, plant.rule(refusal.what), reasons.TABLES[refusal.what])
     return TESTS[refusal.what](plant, refusal.path)
 
 

@@ -8,11 +8,16 @@ import re
 
 import elements
 from elements import COUNTS, MOST, NAMES, is_constant, is_five_digits, is_reference, pieces_of, words_of
+from schema import resolved
 
 TYPES = {"object": dict, "array": list, "string": str, "integer": int}
 TYPE_NAMES = {"object": "a table", "array": "an array", "string": "a text", "integer": "a whole number"}
 ITEMS = {"object": "tables", "string": "texts"}
 TABLES = {"": "the top table", "net": "[net]", "controller": "a controller", "drop": "a drop", "segment": "a segment", "host": "a host"}
+TABLES |= {"network": "a network"}
+# The rules of the tables in the schema, where they are not named as these; and of those that differ in version 2.
+RULES = {"": "plant", "network": "ring"}
+OF_VERSION_TWO = {"": "plant_2", "net": "net_2", "controller": "controller_2", "host": "host_2"}
 
 
 class Finding:
@@ -37,13 +42,23 @@ class Plant:
     def line(self, path):
         return self.places.line_of(path)
 
+    def is_version_two(self):
+        return is_of(self.document.get("version"), "integer") and self.document["version"] == 2
+
+    def rule(self, table):
+        """What the schema says of a table."""
+        name = RULES.get(table, table)
+        if self.is_version_two():
+            name = OF_VERSION_TWO.get(table, name)
+        return self.schema["$defs"][name]
+
 
 def is_of(value, name):
     return isinstance(value, TYPES[name]) and not isinstance(value, bool)
 
 
 def rule_of(plant, rule):
-    return plant.schema["$defs"][rule["$ref"].rpartition("/")[2]] | rule if "$ref" in rule else rule
+    return resolved(rule, plant.schema)
 
 
 def near(word, words):
@@ -69,10 +84,13 @@ def of_items(path, key, items, rule, item):
         detail = f"'{key}' has {len(items)} items, and takes at most {rule['maxItems']}"
         yield Finding(13, "too many items", detail, path + (rule["maxItems"],))
     if len(items) < rule.get("minItems", 0):
-        yield Finding(3, "a plant without a controller", f"'{key}' has no item", path)
+        yield Finding(3, f"a plant without a {key}", f"'{key}' has no item", path)
 
 
 def of_number(path, key, value, rule):
+    if key == "network":
+        # Whether the plant has it is tested apart.
+        return
     low, high, step = rule["minimum"], rule["maximum"], rule.get("multipleOf", 1)
     if not low <= value <= high:
         fault, reason = (12, "an address out of its range") if key == "node" else (3, "a number out of its range")
@@ -83,11 +101,11 @@ def of_number(path, key, value, rule):
 
 
 def of_value(plant, path, key, value, rule):
-    if "const" in rule:
+    if "enum" in rule:
         if not is_of(value, "integer"):
             yield Finding(3, "a value of another type", f"'{key}' has to be a whole number", path)
-        elif value != rule["const"]:
-            yield Finding(4, "another version", f"'{key}' is {value}, and has to be {rule['const']}", path)
+        elif value not in rule["enum"]:
+            yield Finding(4, "another version", f"'{key}' is {value}, and has to be {' or '.join(map(str, rule['enum']))}", path)
     elif not is_of(value, rule["type"]):
         yield Finding(3, "a value of another type", f"'{key}' has to be {TYPE_NAMES[rule['type']]}", path)
     elif rule["type"] == "array":
@@ -175,7 +193,7 @@ def words_in(drop, names):
 
 
 def of_drop(plant, path):
-    yield from of_table(plant, path, plant.schema["$defs"]["drop"], TABLES["drop"])
+    yield from of_table(plant, path, plant.rule("drop"), TABLES["drop"])
     others = [path[:3] + (number,) for number in range(path[3])]
     yield from of_twice(plant, path, "number", others, 10, "a drop number that is taken")
     for names, what in ((("in", "inw"), "in"), (("out", "outw"), "out")):
@@ -252,32 +270,119 @@ def of_panel(plant, path):
     yield from of_reference(plant, word, "0134", 1, path[:2], path, "a panel")
 
 
+def is_number(word):
+    return re.fullmatch("0|[1-9][0-9]*", word)
+
+
+# The most addresses of a route.
+MOST_ADDRESSES = 5
+
+
+def of_route(plant, word, path):
+    """The tests of how a route reads, or of a node in version 1, whose routes have one address."""
+    if not plant.is_version_two():
+        if not is_number(word):
+            yield Finding(3, "a request that does not read", f"the node {word} is no number", path)
+    elif not all(map(is_number, word.split("."))):
+        detail = f"the route {word} is not numbers without a leading zero, joined by points"
+        yield Finding(3, "a request that does not read", detail, path)
+    elif len(word.split(".")) > MOST_ADDRESSES:
+        detail = f"the route {word} has {len(word.split('.'))} addresses, and not 1 to {MOST_ADDRESSES}"
+        yield Finding(3, "a request that does not read", detail, path)
+
+
 def of_request(plant, path):
     words, node = words_of(plant.at(path)), plant.at(path[:2]).get("node")
     if len(words) != 3:
-        yield Finding(3, "a request that does not read", f"it has {len(words)} words, and not three: hold, node, PDU", path)
+        what = "route" if plant.is_version_two() else "node"
+        yield Finding(3, "a request that does not read", f"it has {len(words)} words, and not three: hold, {what}, PDU", path)
         return
-    is_number = [re.fullmatch("0|[1-9][0-9]*", word) for word in words]
-    if not is_number[0] or not 1 <= int(words[0]) <= 10000:
+    if not is_number(words[0]) or not 1 <= int(words[0]) <= 10000:
         yield Finding(3, "a request that does not read", f"the hold {words[0]} is not 1 to 10000", path)
-    elif not is_number[1]:
-        yield Finding(3, "a request that does not read", f"the node {words[1]} is no number", path)
+        return
+    wrong = list(of_route(plant, words[1], path))
+    route = words[1].split(".")
+    if wrong:
+        yield from wrong
     elif not re.fullmatch("(?:[0-9a-fA-F]{2}){1,253}", words[2]):
         yield Finding(3, "a request that does not read", f"the PDU {words[2][:20]} is not 1 to 253 bytes of two hexadecimal digits", path)
-    elif not 1 <= int(words[1]) <= 64:
-        yield Finding(12, "an address out of its range", f"it asks node {words[1]}, and addresses are 1 to 64", path)
-    elif int(words[1]) == node:
+    elif not all(1 <= int(address) <= 64 for address in route):
+        far = next(address for address in route if not 1 <= int(address) <= 64)
+        yield Finding(12, "an address out of its range", f"it asks node {far}, and addresses are 1 to 64", path)
+    elif int(route[0]) == node:
         yield Finding(12, "a host that asks itself", f"its own node is {node}", path, path[:2] + ("node",))
 
 
 def of_host(plant, path):
-    yield from of_table(plant, path, plant.schema["$defs"]["host"], TABLES["host"])
+    yield from of_table(plant, path, plant.rule("host"), TABLES["host"])
     others = [("controller", number) for number in range(len(plant.document.get("controller", [])))]
     others += [("host", number) for number in range(path[1])]
     yield from of_twice(plant, path, "node", others, 12, "an address that is taken")
+    yield from of_own_network(plant, path)
 
 
 def of_controller(plant, path):
-    yield from of_table(plant, path, plant.schema["$defs"]["controller"], TABLES["controller"])
+    yield from of_table(plant, path, plant.rule("controller"), TABLES["controller"])
     others = [("controller", number) for number in range(path[1])]
     yield from of_twice(plant, path, "node", others, 12, "an address that is taken")
+    yield from of_own_network(plant, path)
+
+
+def networks_of(plant):
+    """The numbers of the plant's networks."""
+    return [table.get("number") for table in plant.document.get("network", [])]
+
+
+def no_network(plant, number, path):
+    listed = ", ".join(map(str, networks_of(plant)))
+    return Finding(16, "a network that is not there", f"there is no network {number}; the plant has {listed}", path)
+
+
+def of_own_network(plant, path):
+    """Whether a station's network is there."""
+    if plant.is_version_two() and plant.at(path).get("network") not in networks_of(plant):
+        yield no_network(plant, plant.at(path).get("network"), path + ("network",))
+
+
+def of_network(plant, path):
+    yield from of_table(plant, path, plant.rule("network"), TABLES["network"])
+    others = [("network", number) for number in range(path[1])]
+    yield from of_twice(plant, path, "number", others, 16, "a network number that is taken")
+    number = plant.at(path).get("number")
+    stations = plant.document.get("controller", []) + plant.document.get("host", [])
+    if all(station.get("network") != number for station in stations):
+        yield Finding(16, "a network without a station", f"no controller and no host has network = {number}", path)
+
+
+def of_bridge(plant, path):
+    words = words_of(plant.at(path))
+    if len(words) != 4 or not all(map(is_number, words)):
+        detail = "it is four numbers without a leading zero: a network, an address, another network, an address"
+        yield Finding(16, "a bridge that does not read", detail, path)
+        return
+    for word in words[::2]:
+        if int(word) not in networks_of(plant):
+            yield no_network(plant, word, path)
+    if words[0] == words[2]:
+        yield Finding(16, "a bridge that joins a network to itself", f"both ends are on network {words[0]}", path)
+    taken = [("controller", number) for number in range(len(plant.document.get("controller", [])))]
+    taken += [("host", number) for number in range(len(plant.document.get("host", [])))]
+    for word in words[1::2]:
+        yield from of_end(plant, path, word, taken)
+    if words[1] == words[3]:
+        yield Finding(12, "an address that is taken", f"both ends have the address {words[1]}", path)
+
+
+def of_end(plant, path, word, stations):
+    """The tests of an address of a bridge."""
+    if not 1 <= int(word) <= 64:
+        yield Finding(12, "an address out of its range", f"an end has {word}, and addresses are 1 to 64", path)
+    for other in stations:
+        if plant.at(other).get("node") == int(word):
+            detail = f"node = {word} stands in line {plant.line(other + ('node',))} already"
+            yield Finding(12, "an address that is taken", detail, path, other + ("node",))
+    for number in range(path[1]):
+        other = path[:1] + (number,)
+        if word in words_of(plant.at(other))[1::2]:
+            detail = f"{word} is an end of the bridge in line {plant.line(other)} already"
+            yield Finding(12, "an address that is taken", detail, path, other)

@@ -7,12 +7,22 @@ TOP = os.path.dirname(os.path.dirname(os.path.abspath(__file__)))
 TYPES = {"object": dict, "array": list, "string": str, "integer": int}
 NAMES = {"object": "a table", "array": "an array", "string": "a text", "integer": "a whole number"}
 KNOWN = {"type", "required", "additionalProperties", "properties", "items", "minItems", "maxItems", "minimum"}
-KNOWN |= {"maximum", "multipleOf", "const", "pattern", "$ref", "$defs", "$schema", "title", "description", "default"}
+KNOWN |= {"maximum", "multipleOf", "const", "enum", "pattern", "if", "then", "else", "$ref", "$defs", "$schema", "title", "description", "default"}
 
 
 def schema():
     with open(os.path.join(TOP, "docs/plant.schema.json"), encoding="utf-8") as file:
         return json.load(file)
+
+
+def resolved(rule, root):
+    """A rule with that which it names by `#/..` beside its own words."""
+    if "$ref" not in rule:
+        return rule
+    named = root
+    for step in rule["$ref"].removeprefix("#/").split("/"):
+        named = named[step]
+    return resolved(named, root) | {key: word for key, word in rule.items() if key != "$ref"}
 
 
 def is_of(value, name):
@@ -24,8 +34,13 @@ def faults(value, rule, at, root):
     strange = set(rule) - KNOWN
     if strange:
         raise ValueError(f"the schema has a word that is not known here: {strange}")
-    if "$ref" in rule:
-        yield from faults(value, root["$defs"][rule["$ref"].rpartition("/")[2]], at, root)
+    rule = resolved(rule, root)
+    if "if" in rule:
+        is_so = not any(faults(value, rule["if"], at, root))
+        yield from faults(value, rule["then" if is_so else "else"], at, root)
+        return
+    if "enum" in rule and (value not in rule["enum"] or isinstance(value, (bool, float))):
+        yield at, f"has to be {' or '.join(map(repr, rule['enum']))}"
     if "const" in rule and (value != rule["const"] or isinstance(value, (bool, float))):
         yield at, f"has to be {rule['const']!r}"
     if "type" in rule and not is_of(value, rule["type"]):

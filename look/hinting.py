@@ -1,4 +1,6 @@
 """What an engineer would want to be told of a plant that is accepted. None of it is an error, and nothing is run."""
+import itertools
+import math
 from collections import defaultdict
 from dataclasses import dataclass
 
@@ -12,7 +14,12 @@ ALWAYS |= {name: (1,) for name in ("R>T", "T>R", "T>T")} | {name: (1, 2) for nam
 # By operation of an MSTR: which registers of the control block it has to find set, and whether it fills the data area.
 NEEDS = {1: (3, 4, 5), 2: (3, 4, 5), 3: (3,), 4: (), 5: (3,), 6: (3, 5), 7: (3, 5), 8: (5,)}
 FILLS = (2, 3, 6, 7)
-ASKS = (1, 2, 6, 7, 8)
+ROUTED = (1, 2, 7, 8)
+SERVES = (1, 2)
+# What an end of a bridge answers itself: the requests for its statistics, and to clear them.
+STATISTICS = ("0800150003", "0800150004")
+# The most routes of a block that are looked at, where constants give its registers several values.
+MOST_ROUTES = 64
 
 
 @dataclass(order=True)
@@ -91,10 +98,18 @@ class ControllerHints:
             found.add((a + b) % 10000 if cell.name == "ADD" else abs(a - b))
         return None if self.is_from_outside(reference) else found or {0}
 
+    def routes(self, cell):
+        """The routes that an MSTR can have, or None where that is not told by constants."""
+        count = 5 if self.plant.is_version_two else 1
+        values = [self.constants(register(cell.operands[0], offset)) for offset in range(4, 4 + count)]
+        if any(value is None for value in values) or math.prod(map(len, values)) > MOST_ROUTES:
+            return None
+        return [list(itertools.takewhile(bool, row)) for row in itertools.product(*map(sorted, values))]
+
     def requests(self):
         for host in self.plant.hosts:
             for request in host["requests"]:
-                if request["to"] == self.one.node:
+                if request["route"][-1] == self.one.node:
                     yield from modbus.touched(request["pdu"])
 
     def written_from_outside(self):
@@ -117,9 +132,11 @@ class ControllerHints:
     def may_be_written_by(self, other, reference):
         """Whether an MSTR of another controller may write a register here."""
         for _, _, cell in other.mstrs:
-            operations, nodes = other.operations(cell), other.constants(register(cell.operands[0], 4))
+            operations, routes = other.operations(cell), other.routes(cell)
             starts, lengths = (other.constants(register(cell.operands[0], offset)) for offset in (3, 2))
-            if operations is not None and 1 not in operations or nodes is not None and self.one.node not in nodes:
+            if operations is not None and 1 not in operations:
+                continue
+            if routes is not None and self.one.node not in {route[-1] for route in routes if route}:
                 continue
             if starts is None or lengths is None:
                 return True
@@ -302,10 +319,21 @@ class ControllerHints:
             is_wired = is_wired or (other.column == cell.column + 1 and any(row in rows for row, _ in ends))
         if not is_wired and not self.readers.get(status) and not self.looked_at(status):
             self.at(place, f"its status is never looked at: neither {status} nor its middle and bottom outputs")
-        operations, nodes = self.operations(cell), self.constants(register(control, 4))
-        if operations and operations & set(ASKS):
-            for node in sorted((nodes or set()) - set(self.plant.nodes)):
-                self.at(place, f"no station has the address {node}")
+        operations = self.operations(cell) or set()
+        routes = self.routes(cell) or [] if operations & set(ROUTED) else []
+        if 6 in operations:
+            routes = routes + [[node] for node in self.constants(register(control, 4)) or ()]
+        for lost in sorted({lost_way(self.plant, self.one.node, route, operations & set(SERVES)) for route in routes} - {""}):
+            self.at(place, lost)
+
+
+def lost_way(plant, node, route, asks_registers):
+    """Why a request does not come to a station that serves it, or nothing."""
+    if not route:
+        return "no station has the address 0"
+    if asks_registers and plant.ends_at_bridge(node, route):
+        return f"its route ends at {route[-1]}, an end of a bridge, which has no registers"
+    return plant.lost_on(node, route)
 
 
 def hints_of(plant):
@@ -316,7 +344,8 @@ def hints_of(plant):
         found += check.all([other for other in checks if other is not check])
     for host in plant.hosts:
         for number, request in enumerate(host["requests"], 1):
-            if request["to"] not in plant.nodes:
+            lost = lost_way(plant, host["node"], request["route"], request["pdu"] not in STATISTICS)
+            if lost:
                 name = f"host {host['node']}, request {number}, '{request['text'].strip()}'"
-                found.append(Hint(request["line"] or 0, f"{name}: no station has the address {request['to']}"))
+                found.append(Hint(request["line"] or 0, f"{name}: {lost}"))
     return sorted(found)

@@ -95,6 +95,47 @@ class Plant:
     def nodes(self):
         return sorted([one.node for one in self.controllers] + [host["node"] for host in self.hosts])
 
+    @property
+    def is_version_two(self):
+        return self.document["version"] == 2
+
+    def network_of(self, node):
+        """The network of a station, 0 in version 1."""
+        tables = self.document["controller"] + self.document.get("host", [])
+        return next(table.get("network", 0) for table in tables if table["node"] == node)
+
+    def stations_of(self, network):
+        """The addresses of the stations of a network."""
+        return {node for node in self.nodes if self.network_of(node) == network}
+
+    @property
+    def across(self):
+        """Each end of a bridge, as its network and its address, with the other end."""
+        found = {}
+        for text in self.document.get("bridges", []):
+            left_net, left, right_net, right = map(int, words_of(text))
+            found[left_net, left], found[right_net, right] = (right_net, right), (left_net, left)
+        return found
+
+    def lost_on(self, node, route):
+        """Why a request of a station gets lost on its route, or nothing; ends of bridges count as stations."""
+        network, own_end = self.network_of(node), None
+        for place, address in enumerate(route):
+            is_last, end = place + 1 == len(route), self.across.get((network, address))
+            if address == own_end:
+                return f"its route goes over {address}, and names it again"
+            if not is_last and end is None:
+                return f"its route goes on from {address}, and no bridge has the end {address} on network {network}"
+            if is_last and end is None and address not in self.stations_of(network):
+                where = f" on network {network}" if self.is_version_two else ""
+                return f"no station has the address {address}{where}"
+            network, own_end = end or (network, None)
+        return ""
+
+    def ends_at_bridge(self, node, route):
+        """Whether the last address of a route that does not get lost is an end of a bridge."""
+        return route[-1] not in self.nodes and not self.lost_on(node, route)
+
     def controller(self, node):
         return next((one for one in self.controllers if one.node == node), None)
 
@@ -207,9 +248,10 @@ def read_segments(table, source, path):
 def read_host(table, source, path):
     requests = []
     for number, text in enumerate(table.get("requests", [])):
-        hold, to, pdu = words_of(text)
+        hold, route, pdu = words_of(text)
         line = source.line_of(*path, "requests", number)
-        requests.append({"line": line, "text": text, "hold": int(hold), "to": int(to), "pdu": pdu.lower()})
+        route = [int(address) for address in route.split(".")]
+        requests.append({"line": line, "text": text, "hold": int(hold), "route": route, "pdu": pdu.lower()})
     return {"node": table["node"], "requests": requests}
 
 

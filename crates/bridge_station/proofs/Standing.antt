@@ -192,6 +192,9 @@ new-left : (n : ℕ) (b : Bool) (old new : BridgeIs) → new.plan ≡ old.plan
     → (n == old.plan.left) ≡ b → (n == new.plan.left) ≡ b
 new-left n b old new same is = ap (λ (p : BridgePlan). n == p.left) same ∙ is
 
+worker-of : {x y : EndStationIs} → x ≡ y → x.worker ≡ y.worker
+worker-of is = ap (λ (e : EndStationIs). e.worker) is
+
 pub moved-left : (n : ℕ) (old new : BridgeStationIs) (ring new_ring : KeptRing)
     → IsBridgePlan old.bridge.plan → (n == old.bridge.plan.left) ≡ true → new.right ≡ old.right
     → EndMoved n old.left new.left old.bridge new.bridge ring new_ring
@@ -199,6 +202,14 @@ pub moved-left : (n : ℕ) (old new : BridgeStationIs) (ring new_ring : KeptRing
 moved-left n old new ring new_ring sound is same m = record {
   moved = moved-as n old new ring new_ring old.left new.left (at-left n old is)
       (at-left n new (new-left n true old.bridge new.bridge m.plan is)) m;
+  workers = λ k. ⊎_elim
+      (λ (near : (k == old.bridge.plan.left) ≡ true).
+      worker-of (at-left k new (new-left k true old.bridge new.bridge m.plan near))
+      ∙ (m.worker ∙ sym (worker-of (at-left k old near))))
+      (λ (far : (k == old.bridge.plan.left) ≡ false).
+      worker-of (at-right k new (new-left k false old.bridge new.bridge m.plan far)
+      ∙ (same ∙ sym (at-right k old far))))
+      (cases_Bool (k == old.bridge.plan.left));
   others = λ k net entries other s.
       let far : (k == old.bridge.plan.left) ≡ false =
       ne_eqb k old.bridge.plan.left (λ h. other (h ∙ sym (eqb-true n old.bridge.plan.left is))) in
@@ -215,6 +226,14 @@ pub moved-right : (n : ℕ) (old new : BridgeStationIs) (ring new_ring : KeptRin
 moved-right n old new ring new_ring sound end is same m = record {
   moved = moved-as n old new ring new_ring old.right new.right (at-right n old is)
       (at-right n new (new-left n false old.bridge new.bridge m.plan is)) m;
+  workers = λ k. ⊎_elim
+      (λ (near : (k == old.bridge.plan.left) ≡ true).
+      worker-of (at-left k new (new-left k true old.bridge new.bridge m.plan near)
+      ∙ (same ∙ sym (at-left k old near))))
+      (λ (far : (k == old.bridge.plan.left) ≡ false).
+      worker-of (at-right k new (new-left k false old.bridge new.bridge m.plan far))
+      ∙ (m.worker ∙ sym (worker-of (at-right k old far))))
+      (cases_Bool (k == old.bridge.plan.left));
   others = λ k net entries other s.
       let near = at-the-left k other s.ready.ties.end in
       still-stands n old new ring new_ring old.right new.right sound m k net entries other

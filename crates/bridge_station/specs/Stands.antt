@@ -70,10 +70,12 @@ abbrev pub HeldByEnd : ℕ → BridgeStationIs → BridgeStationIs → KeptRing 
 HeldByEnd side old new ring new_ring = EndHeld side (end_station side old) (end_station side new)
     old.bridge new.bridge ring new_ring
 
--- What it leaves, whatever it answers: another end stands still, on whatever ring it stood.
+-- What it leaves, whatever it answers: each end has its worker as before, and another end stands
+-- still, on whatever ring it stood.
 pub record MovedByEnd (side : ℕ) (old new : BridgeStationIs) (ring new_ring : KeptRing)
     : Type 0 where
   pub moved : EndMoved side (end_station side old) (end_station side new)
       old.bridge new.bridge ring new_ring
+  pub workers : (any : ℕ) → (end_station any new).worker ≡ (end_station any old).worker
   pub others : (other : ℕ) (net : NetPlan) (entries : List RingEntry) → other ≢ side
       → StandsEnd other old net entries → StandsEnd other new net entries

@@ -8,6 +8,7 @@ use Rattle.std.proofs.lemmas.Grind.{flat_map-append}
 use Rattle.std.proofs.lemmas.List.{length-map}
 use Rattle.std.proofs.lemmas.List.Elements.{filter_map-append, Contains-push, Contains-push_cases}
 use Rattle.plant_types.specs.declared.net.NetPlan.{NetPlan}
+use Rattle.plant_types.specs.declared.plan.Plant.{Plant}
 use Rattle.ring_core.specs.Words.{frame_route, maker}
 use Rattle.ring_core.specs.Legal.{IsRun, IsLegalRing}
 use Rattle.ring_core.specs.declared.frame.Frame.{Frame}
@@ -24,9 +25,8 @@ use Rattle.tied_lists.specs.Items.{Answered, Item, RequestItem, Taken, asked_in,
 use Rattle.tied_lists.specs.Items.{taken_of, taken_by, plain_items, stats_items, port_answers}
 use Rattle.tied_lists.specs.Items.{replied_in, replied_of, replied_by, due_replies, replies_in}
 use Rattle.tied_lists.specs.Items.{answered_of, answered_for, request_of, reply_of}
+use Rattle.joint_history.specs.declared.joint.RingLog.{RingLog}
 use Rattle.joint_history.specs.declared.joint.Joint.{Joint}
-use Rattle.joint_history.specs.JointLaws.{IsJoint}
-use Rattle.joint_history.specs.Nets.{noted_on_rings}
 use Rattle.one_order.specs.Merges.{tally}
 use Rattle.one_order.specs.Orders.{AtRing, Log, on_ring, if_on_ring, at_station}
 use Rattle.one_order.specs.Orders.{if_at_station, own_of}
@@ -34,12 +34,15 @@ use Rattle.one_order.proofs.Merges.{tally-append}
 use Rattle.one_order.proofs.Fronts.{own-append}
 use Rattle.entry_causes.specs.Causes.{StationEntry, Done, PostsReply, no_notes, no_deeds, note}
 use Rattle.entry_causes.specs.Causes.{deed, done_next, posting, ready, AreCaused}
-use Rattle.entry_causes.specs.Joint.{logs_of, IsInOneOrder}
+use Rattle.entry_causes.specs.Joint.{stations_on, RingIsInOneOrder}
+use Rattle.net_laws.proofs.On.{net-sound}
+use Rattle.net_laws.proofs.Rings.{of-ring, ring-of}
 use Rattle.call_order.specs.Named.{Order, own_in, asks_in, answers_in, ends_in, takes_in}
 use Rattle.call_order.specs.Named.{port_takes_in, port_answers_in, overs_in, PostsFollowAsks}
 use Rattle.call_order.specs.Named.{AnswersFollowTakes, PortAnswersFollowTakes, Carries}
 use Rattle.call_order.specs.Named.{ReplyPostsFollowAnswers, ReplyPostsFollowTakes, EndsFollowOvers}
-use Rattle.call_order.specs.Named.{TakesFollowPosts, ReplyTakesFollowPosts, NamesStandInOrder}
+use Rattle.call_order.specs.Named.{TakesFollowPosts, ReplyTakesFollowPosts, CallsStandInOrder}
+use Rattle.call_order.specs.Named.{IsRingOf}
 use Rattle.call_order.proofs.Behind.{ring-behind, station-behind, own-behind, ring-own}
 use Rattle.call_order.proofs.Behind.{ring-station}
 use Rattle.call_order.proofs.Counts.{posts_in, replies_posted_in, all-asked, all-served, all-ended}
@@ -430,32 +433,39 @@ reply-takes-follow law net ring order h p before after n f is k =
     (inr (Contains-push (on_ring before) (Take n f))) k).3 in
     (by.0, not-itself (on_ring before) n by.0 f f by.2)
 
-pub in-order : OnlyItsTarget → ReplyToItsCaller → (net : NetPlan) (joint : Joint)
-    → IsRingHistory net (noted_on_rings joint) → IsJoint joint → (one : IsInOneOrder joint)
-    → NamesStandInOrder joint one.order
-in-order target caller net joint h tied one = record {
-  posts =
-      each PostsFollowAsks posts-follow (noted_on_rings joint) one.order (logs_of joint) one.ring_is
-      (all-tie joint tied) one.stations one.caused;
-  answers =
-      each AnswersFollowTakes answers-follow (noted_on_rings joint) one.order (logs_of joint)
-      one.ring_is
-      (all-tie joint tied) one.stations one.caused;
-  port_answers =
-      each PortAnswersFollowTakes port-answers-follow (noted_on_rings joint) one.order
-      (logs_of joint)
-      one.ring_is (all-tie joint tied) one.stations one.caused;
-  reply_posts =
-      each ReplyPostsFollowAnswers reply-posts-follow (noted_on_rings joint) one.order
-      (logs_of joint)
-      one.ring_is (all-tie joint tied) one.stations one.caused;
-  reply_requests =
-      each ReplyPostsFollowTakes reply-requests-follow (noted_on_rings joint) one.order
-      (logs_of joint)
-      one.ring_is (all-tie joint tied) one.stations one.caused;
-  ends =
-      each EndsFollowOvers ends-follow (noted_on_rings joint) one.order (logs_of joint) one.ring_is
-      (all-tie joint tied) one.stations one.caused;
-  takes = takes-follow target net (noted_on_rings joint) one.order h one.ring_is;
-  reply_takes = reply-takes-follow caller net (noted_on_rings joint) one.order h one.ring_is;
-}
+-- the list of a ring of a plant's joint history is a history of its network
+pub ring-history-of : (plant : Plant) (scans : ℕ) (joint : Joint) (ring : RingLog)
+    → IsRingOf plant scans joint ring → (net : NetPlan) × IsRingHistory net ring.entries
+ring-history-of plant scans joint ring is =
+    let of = of-ring plant joint.rings is.sound is.legal.rings ring is.there in
+    (of.net, ring-of plant of.net ring (net-sound plant of.net is.sound of.there) of.legal)
+
+module _ (plant : Plant) (scans : ℕ) (joint : Joint) (ring : RingLog)
+    (is : IsRingOf plant scans joint ring) (one : RingIsInOneOrder plant joint ring) where
+  of-all : (P : ℕ → Order → Type 0)
+      → ((n : ℕ) (order : Order) → TiedIn n order → Caused n order → P n order)
+      → Each (λ (log : Log StationEntry). P log.node one.order)
+      (stations_on plant ring.network joint)
+  of-all P law =
+      each P law ring.entries one.order (stations_on plant ring.network joint) one.ring_is
+      (all-tie plant scans joint ring is) one.stations one.caused
+
+  pub replies-behind : Each (λ (log : Log StationEntry). ReplyPostsFollowTakes log.node one.order)
+      (stations_on plant ring.network joint)
+  replies-behind = of-all ReplyPostsFollowTakes reply-requests-follow
+
+pub in-order : OnlyItsTarget → ReplyToItsCaller → CallsStandInOrder
+in-order target caller plant scans joint ring is one =
+    let h = ring-history-of plant scans joint ring is in
+    record {
+      posts = of-all plant scans joint ring is one PostsFollowAsks posts-follow;
+      answers = of-all plant scans joint ring is one AnswersFollowTakes answers-follow;
+      port_answers =
+          of-all plant scans joint ring is one PortAnswersFollowTakes port-answers-follow;
+      reply_posts =
+          of-all plant scans joint ring is one ReplyPostsFollowAnswers reply-posts-follow;
+      reply_requests = replies-behind plant scans joint ring is one;
+      ends = of-all plant scans joint ring is one EndsFollowOvers ends-follow;
+      takes = takes-follow target h.0 ring.entries one.order h.1 one.ring_is;
+      reply_takes = reply-takes-follow caller h.0 ring.entries one.order h.1 one.ring_is;
+    }

@@ -1,21 +1,29 @@
 -- The laws between the lists, read entry by entry.
-use Rattle.std.proofs.Common.{◌≡◌, List, [], ◌∷◌, ◌++◌, map, sym, ap, ◌∙◌}
+use Rattle.std.proofs.Common.{◌≡◌, ℕ, List, [], ◌∷◌, ◌++◌, map, sym, ap, ◌∙◌}
 use Rattle.std.specs.List.{flat_map, AllByRecursion as Each}
 use Rattle.std.proofs.lemmas.List.Elements.{recursion_from_All}
+use Rattle.plant_types.specs.declared.net.HostPlan.{HostPlan}
+use Rattle.plant_types.specs.declared.plan.ControllerPlan.{ControllerPlan}
+use Rattle.plant_types.specs.declared.plan.Plant.{Plant}
 use Rattle.ring_core.specs.Words.{maker}
 use Rattle.ring_core.specs.declared.entry.RingEntry.{RingEntry}
 use Rattle.tied_lists.specs.Own.{own}
 use Rattle.tied_lists.specs.Items.{Answered, AController, AHost, item_of, plain_items, stats_items}
+use Rattle.tied_lists.specs.Tied.{Tied}
 use Rattle.tied_lists.specs.Items.{taken_by, port_answers, replied_by, due_replies, replies_in}
 use Rattle.joint_history.specs.declared.joint.ControllerLog.{ControllerLog}
 use Rattle.joint_history.specs.declared.joint.HostLog.{HostLog}
+use Rattle.joint_history.specs.declared.joint.RingLog.{RingLog}
 use Rattle.joint_history.specs.declared.joint.Joint.{Joint}
-use Rattle.joint_history.specs.JointLaws.{IsJoint, IsTiedController, IsTiedHost}
+use Rattle.joint_history.specs.JointLaws.{IsTiedController, IsTiedHost}
 use Rattle.joint_history.specs.Nets.{noted_on_rings}
+use Rattle.joint_history.specs.Reading.{items_of, host_items_of}
 use Rattle.one_order.specs.Orders.{Log, own_of}
 use Rattle.entry_causes.specs.Causes.{StationEntry}
-use Rattle.entry_causes.specs.Joint.{controller_log, host_log, logs_of}
-use Rattle.call_order.specs.Named.{asks_in, answers_in, ends_in, overs_in, end_id}
+use Rattle.entry_causes.specs.Joint.{controller_log, host_log, logs_on, stations_on}
+use Rattle.entry_causes.proofs.On.{controllers-here, hosts-here}
+use Rattle.net_laws.proofs.Rings.{of-ring}
+use Rattle.call_order.specs.Named.{IsRingOf, asks_in, answers_in, ends_in, overs_in, end_id}
 use Rattle.call_order.proofs.Counts.{posts_in}
 use Rattle.call_order.proofs.Readings.{posts-read, overs-read, asks-read, answers-read, ends-read}
 use Rattle.call_order.proofs.Readings.{host-asks-read, host-answers-read, host-ends-read}
@@ -75,11 +83,22 @@ each-append : {X : Type 0} (P : X → Type 0) (a b : List X) → Each P a → Ea
 each-append P [] b x y = y
 each-append P (c ∷ a) b x y = (x.0, each-append P a b x.1 y)
 
-pub all-tie : (joint : Joint) → IsJoint joint → Each (Ties (noted_on_rings joint)) (logs_of joint)
-all-tie joint x =
-    each-append (Ties (noted_on_rings joint)) (map controller_log joint.controllers)
-    (map host_log joint.hosts)
-    (controllers-tie (noted_on_rings joint) joint.controllers
-    (recursion_from_All (IsTiedController (noted_on_rings joint)) joint.controllers x.controllers))
-    (hosts-tie (noted_on_rings joint) joint.hosts
-    (recursion_from_All (IsTiedHost (noted_on_rings joint)) joint.hosts x.hosts))
+-- the stations on a network keep the laws with the entries of its ring
+pub all-tie : (plant : Plant) (scans : ℕ) (joint : Joint) (ring : RingLog)
+    → IsRingOf plant scans joint ring
+    → Each (Ties ring.entries) (stations_on plant ring.network joint)
+all-tie plant scans joint ring is =
+    let of = of-ring plant joint.rings is.sound is.legal.rings ring is.there in
+    let controllers = logs_on (λ (p : ControllerPlan). p.network) ring.network plant.controllers
+    joint.controllers in
+    let hosts = logs_on (λ (p : HostPlan). p.network) ring.network plant.hosts joint.hosts in
+    each-append (Ties ring.entries) (map controller_log controllers) (map host_log hosts)
+    (controllers-tie ring.entries controllers
+    (controllers-here plant scans joint ring is.sound is.legal of
+    (λ log own_is. Tied AController (items_of log.entries) own_is)
+    (recursion_from_All (IsTiedController (noted_on_rings joint)) joint.controllers
+    is.tied.controllers)))
+    (hosts-tie ring.entries hosts
+    (hosts-here plant scans joint ring is.sound is.legal of
+    (λ log own_is. Tied AHost (host_items_of log.entries) own_is)
+    (recursion_from_All (IsTiedHost (noted_on_rings joint)) joint.hosts is.tied.hosts)))

@@ -1,10 +1,9 @@
--- What stands behind what on the one order of a joint history, by the names of calls. This
--- project's own.
+-- What stands behind what on the one order of a ring of a joint history and of the stations there,
+-- by the names of calls. This project's own.
 use Rattle.std.specs.Prelude.{◌≡◌, ◌⊎◌, ℕ, List, [], ◌∷◌, ◌++◌, map, filter_map, Some, None}
 use Rattle.std.specs.List.{cons_option, flat_map, Contains, AllByRecursion as Each}
-use Rattle.plant_types.specs.declared.net.NetPlan.{NetPlan}
 use Rattle.plant_types.specs.declared.plan.Plant.{Plant}
-use Rattle.plant_types.specs.Plans.{IsPlant}
+use Rattle.plant_types.specs.Plans.{IsPlant, ends_on}
 use Rattle.controller_core.specs.declared.entry.Entry.{Entry}
 use Rattle.controller_core.specs.declared.entry.Entry.TheVariants as entries
 use Rattle.host_port.specs.declared.entry.HostEntry.{HostEntry}
@@ -15,17 +14,17 @@ use Rattle.ring_core.specs.declared.frame.Frame.{Frame}
 use Rattle.ring_core.specs.declared.frame.FrameKind.TheVariants.{Request, Reply}
 use Rattle.ring_core.specs.declared.entry.RingEntry.{RingEntry}
 use Rattle.ring_core.specs.declared.entry.RingEntry.TheVariants.{Post, Take}
-use Rattle.ring_laws.specs.Once.{IsRingHistory, TookCall, AnsweredBy as Replied}
+use Rattle.ring_laws.specs.Once.{TookCall, AnsweredBy as Replied}
 use Rattle.tied_lists.specs.Items.{Asked, Answered, RequestItem, Ended, AController, net_ask}
 use Rattle.tied_lists.specs.Items.{taken_of, plain_items, stats_items, item_of, answered_of}
 use Rattle.tied_lists.specs.Items.{ended_of}
+use Rattle.joint_history.specs.declared.joint.RingLog.{RingLog}
 use Rattle.joint_history.specs.declared.joint.Joint.{Joint}
 use Rattle.joint_history.specs.JointLaws.{IsJoint, IsLegalJoint}
 use Rattle.joint_history.specs.Reading.{called_of, answered_here}
-use Rattle.joint_history.specs.Nets.{noted_on_rings}
 use Rattle.one_order.specs.Orders.{Event, AtStation, AtRing, Log, on_ring, at_station, own_of}
 use Rattle.entry_causes.specs.Causes.{StationEntry, ByController, ByHost}
-use Rattle.entry_causes.specs.Joint.{logs_of, IsInOneOrder}
+use Rattle.entry_causes.specs.Joint.{stations_on, RingIsInOneOrder}
 
 -- The requests that an entry of a station asks of other nodes.
 abbrev pub entry_asks : Entry → List Asked
@@ -152,36 +151,48 @@ ReplyTakesFollowPosts order = (before after : Order) (n : ℕ) (f : Frame)
     → order ≡ before ++ AtRing (Take n f) ∷ after → f.kind ≡ Reply
     → (by : ℕ) × Contains (on_ring before) (Post by f)
 
--- So stand the entries of all calls.
-pub record NamesStandInOrder (joint : Joint) (order : Order) : Type 0 where
-  pub posts : Each (λ (log : Log StationEntry). PostsFollowAsks log.node order) (logs_of joint)
-  pub answers : Each (λ (log : Log StationEntry). AnswersFollowTakes log.node order)
-      (logs_of joint)
+-- So stand the entries of all calls of some stations on a ring.
+pub record NamesStandInOrder (stations : List (Log StationEntry)) (order : Order)
+    : Type 0 where
+  pub posts : Each (λ (log : Log StationEntry). PostsFollowAsks log.node order) stations
+  pub answers : Each (λ (log : Log StationEntry). AnswersFollowTakes log.node order) stations
   pub port_answers : Each (λ (log : Log StationEntry). PortAnswersFollowTakes log.node order)
-      (logs_of joint)
+      stations
   pub reply_posts : Each (λ (log : Log StationEntry). ReplyPostsFollowAnswers log.node order)
-      (logs_of joint)
+      stations
   pub reply_requests : Each (λ (log : Log StationEntry). ReplyPostsFollowTakes log.node order)
-      (logs_of joint)
-  pub ends : Each (λ (log : Log StationEntry). EndsFollowOvers log.node order) (logs_of joint)
+      stations
+  pub ends : Each (λ (log : Log StationEntry). EndsFollowOvers log.node order) stations
   pub takes : TakesFollowPosts order
   pub reply_takes : ReplyTakesFollowPosts order
 
+-- A Reply that was taken stands behind its Post by an end of a bridge.
+abbrev pub FollowsPostByEnd : List ℕ → List RingEntry → Frame → Type 0
+FollowsPostByEnd ends before f = (by : ℕ) × Contains ends by × Contains before (Post by f)
+
 -- Each Reply that is taken stands behind its Post by the node that took its Request, to which the
--- caller had posted it.
-abbrev pub ReplyTakesFollowTargets : Order → Type 0
-ReplyTakesFollowTargets order = (before after : Order) (n : ℕ) (f : Frame)
+-- caller had posted it, where that is a station's; else behind its Post by an end of a bridge.
+abbrev pub ReplyTakesFollowTargets : List ℕ → Order → Type 0
+ReplyTakesFollowTargets ends order = (before after : Order) (n : ℕ) (f : Frame)
     → order ≡ before ++ AtRing (Take n f) ∷ after → f.kind ≡ Reply
-    → Replied (on_ring before) n f
+    → Replied (on_ring before) n f ⊎ FollowsPostByEnd ends (on_ring before) f
 
--- They do on the one order of each joint history.
+-- A ring of a plant's joint history.
+pub record IsRingOf (plant : Plant) (scans : ℕ) (joint : Joint) (ring : RingLog)
+    : Type 0 where
+  pub sound : IsPlant plant
+  pub legal : IsLegalJoint plant scans joint
+  pub tied : IsJoint joint
+  pub there : Contains joint.rings ring
+
+-- They do on the one order of each ring and of the stations on its network.
 abbrev pub CallsStandInOrder : Type 0
-CallsStandInOrder = (net : NetPlan) (joint : Joint)
-    → IsRingHistory net (noted_on_rings joint) → IsJoint joint
-    → (one : IsInOneOrder joint) → NamesStandInOrder joint one.order
+CallsStandInOrder = (plant : Plant) (scans : ℕ) (joint : Joint) (ring : RingLog)
+    → IsRingOf plant scans joint ring → (one : RingIsInOneOrder plant joint ring)
+    → NamesStandInOrder (stations_on plant ring.network joint) one.order
 
--- And the Replies of a plant's joint history come from the targets of their calls.
+-- And the Replies on it come from the targets of their calls, or from ends of bridges there.
 abbrev pub RepliesComeFromTargets : Type 0
-RepliesComeFromTargets = (plant : Plant) (scans : ℕ) (joint : Joint)
-    → IsPlant plant → IsLegalJoint plant scans joint → IsJoint joint
-    → (one : IsInOneOrder joint) → ReplyTakesFollowTargets one.order
+RepliesComeFromTargets = (plant : Plant) (scans : ℕ) (joint : Joint) (ring : RingLog)
+    → IsRingOf plant scans joint ring → (one : RingIsInOneOrder plant joint ring)
+    → ReplyTakesFollowTargets (ends_on plant ring.network) one.order

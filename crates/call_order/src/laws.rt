@@ -1,11 +1,11 @@
 //! The order of a call's entries.
 ghost use Rattle.call_order.specs.Named.{CallsStandInOrder, RepliesComeFromTargets};
 
-use ring_laws::{only_its_target, reply_by_taker, reply_to_its_caller};
+use ring_laws::{only_its_target, reply_to_its_caller};
 
-/// On the one order of a joint history a Request stands behind the entry that asked it, its Take
-/// behind its Post, the answer behind the Take, the Post of the Reply behind the answer, its Take
-/// behind its Post, and the end of a call behind what ended it.
+/// On the one order of a ring and of the stations there a Request stands behind the entry that
+/// asked it, its Take behind its Post, the answer behind the Take, the Post of the Reply behind the
+/// answer, its Take behind its Post, and the end of a call behind what ended it.
 pub fn calls_stand_in_order()
     ensures { CallsStandInOrder }
 {
@@ -13,12 +13,11 @@ pub fn calls_stand_in_order()
     reply_to_its_caller();
 }
 
-/// In a plant's joint history each Reply that is taken stands behind its Post by the node that took
-/// its Request, to which the caller had posted it.
+/// On each ring of a plant's joint history each Reply that is taken stands behind its Post by the
+/// station that took its Request, to which the caller had posted it, or by an end of a bridge.
 pub fn replies_come_from_targets()
     ensures { RepliesComeFromTargets }
 {
     only_its_target();
     reply_to_its_caller();
-    reply_by_taker();
 }

@@ -3,3 +3,4 @@ mod MoreScans
 mod OneDue
 mod Runs
 mod Written
+mod Newer

@@ -11,9 +11,10 @@ use Rattle.std.proofs.lemmas.List.Concat.{flat_map-cons}
 use Rattle.std.proofs.lemmas.List.Elements.{All-head, All-tail}
 use Rattle.plant_types.specs.declared.plan.ControllerPlan.{ControllerPlan}
 use Rattle.plant_types.specs.declared.plan.Plant.{Plant}
-use Rattle.plant_types.specs.Plans.{IsPlant}
 use Rattle.plant_loader.specs.Refusals.{Refusal}
+use Rattle.plant_types.specs.Plans.{IsPlant}
 use Rattle.plant_loader.specs.Plant.{plant_of}
+use Rattle.plant_loader.specs.declared.tables.Version.TheVariants.{Two}
 use Rattle.plant_loader.proofs.LoadedLemmas.{IsLoaded, gives-loaded}
 use Rattle.joint_history.specs.declared.joint.Joint.{Joint}
 use Rattle.journal_text.specs.Fronts.{IsFront, IsJournal, IsLine, IsText, IsWrongLine, with_feed}
@@ -330,10 +331,10 @@ with-one laws (Session node scans) plant behind one other sound due due' =
 
 -- and so it is with a plant file
 of-one : DueLaws → (command : Command) (file behind : List ℕ) (read : Result Plant Refusal)
-    (one other : Due) → plant_of file ≡ read
+    (one other : Due) → plant_of Two file ≡ read
     → IsDueOf command behind read one → IsDueOf command behind read other → one ≡ other
 of-one laws command file behind (Ok plant) one other is due due' =
-    let loaded : IsLoaded plant = gives-loaded file (Ok plant) is in
+    let loaded : IsLoaded plant = gives-loaded Two file (Ok plant) is in
     with-one laws command plant behind one other loaded.checked due due'
 of-one laws command file behind (Err fault) one other is due due' = due ∙ sym due'
 
@@ -342,6 +343,6 @@ pub due-one : DueLaws → OneDue
 due-one laws command input one other due due' =
     let same = file-one command input due.file due.behind due'.file due'.behind
     due.parts due'.parts in
-    of-one laws command due.file due.behind (plant_of due.file) one other refl due.due
-    (subst (λ behind. IsDueOf command behind (plant_of due.file) other) (sym same.1)
-    (subst (λ file. IsDueOf command due'.behind (plant_of file) other) (sym same.0) due'.due))
+    of-one laws command due.file due.behind (plant_of Two due.file) one other refl due.due
+    (subst (λ behind. IsDueOf command behind (plant_of Two due.file) other) (sym same.1)
+    (subst (λ file. IsDueOf command due'.behind (plant_of Two file) other) (sym same.0) due'.due))

@@ -4,8 +4,9 @@ use Rattle.std.specs.Prelude.{codes}
 use Rattle.plant_types.specs.declared.plan.Plant.{Plant}
 use Rattle.plant_loader.specs.Refusals.{Refusal}
 use Rattle.plant_loader.specs.Plant.{plant_of}
+use Rattle.plant_loader.specs.declared.tables.Version.TheVariants.{One, Two}
 use Rattle.joint_history.specs.declared.joint.Joint.{Joint}
-use Rattle.effect_laws.specs.Effects.{EffectsAreRight}
+use Rattle.route_laws.specs.Effects.{EffectsAreRight}
 use Rattle.joint_law.specs.Spots.{IsWholeRun}
 use Rattle.journal_text.specs.Fronts.{IsJournalOf}
 use Rattle.journal_text.specs.Journal.{journal}
@@ -18,6 +19,7 @@ use Rattle.command_words.specs.declared.words.Task.TheVariants.{Trace, Check, Re
 use Rattle.command_answers.specs.Cut.{IsCut}
 use Rattle.command_answers.specs.Due.{Due, IsDue, IsDueOf, IsLiveDueOf, refused}
 use Rattle.command_answers.specs.OneDue.{OneDue}
+use Rattle.command_answers.proofs.Newer.{newer}
 use Rattle.command_answers.specs.Written.{IsAccepted, TellsOneRun, WrittenIsLegal, with_ok}
 
 -- a joint history of a whole run, and what is known of it
@@ -26,7 +28,7 @@ record Told (plant : Plant) (scans : ℕ) (joint : Joint) : Type 0 where
   effects : EffectsAreRight joint
   told : IsJournalOf joint (journal joint)
 
-check-due : (scans : ℕ) (file : List ℕ) (plant : Plant) (joint : Joint) → plant_of file ≡ Ok plant
+check-due : (scans : ℕ) (file : List ℕ) (plant : Plant) (joint : Joint) → plant_of Two file ≡ Ok plant
     → Told plant scans joint
     → (input : List ℕ) → IsCut input file (journal joint)
     → IsDue (Do Check scans) input (with_ok (codes "legal\n"))
@@ -46,7 +48,7 @@ check-due scans file plant joint loaded known input cut = record {
       }));
 }
 
-replay-due : (scans : ℕ) (file : List ℕ) (plant : Plant) (joint : Joint) → plant_of file ≡ Ok plant
+replay-due : (scans : ℕ) (file : List ℕ) (plant : Plant) (joint : Joint) → plant_of Two file ≡ Ok plant
     → Told plant scans joint
     → (input : List ℕ) → IsCut input file (journal joint)
     → IsDue (Do Replay scans) input (with_ok (panel plant joint))
@@ -67,7 +69,7 @@ replay-due scans file plant joint loaded known input cut = record {
 }
 
 accepted-by : OneDue → (scans : ℕ) (file : List ℕ) (plant : Plant) (joint : Joint)
-    → plant_of file ≡ Ok plant → Told plant scans joint
+    → plant_of Two file ≡ Ok plant → Told plant scans joint
     → (input : List ℕ) → IsCut input file (journal joint)
     → IsAccepted scans (panel plant joint) input
 accepted-by one scans file plant joint loaded known input cut =
@@ -86,7 +88,7 @@ accepted-by one scans file plant joint loaded known input cut =
     }
 
 tells-one : OneDue → OneJournalInFront → (scans : ℕ) (file : List ℕ) (what : Due) (plant : Plant)
-    (joint : Joint) → plant_of file ≡ Ok plant
+    (joint : Joint) → plant_of Two file ≡ Ok plant
     → Told plant scans joint → what.text ≡ journal joint ++ panel plant joint
     → TellsOneRun scans file what
 tells-one one front scans file what plant joint loaded known text = record {
@@ -111,7 +113,7 @@ module _ (one : OneDue) (front : OneJournalInFront) (scans : ℕ) (file : List �
   refused-not fault other = absurd (not_ok what.status is
       (subst (λ (due : Due). due.status ≡ ends.Refused) (sym other) refl))
 
-  of-trace : (behind : List ℕ) (read : Result Plant Refusal) → plant_of file ≡ read
+  of-trace : (behind : List ℕ) (read : Result Plant Refusal) → plant_of Two file ≡ read
       → IsDueOf (Do Trace scans) behind read what
       → TellsOneRun scans file what
   of-trace behind (Ok plant) loaded (inl shown) =
@@ -121,17 +123,17 @@ module _ (one : OneDue) (front : OneJournalInFront) (scans : ℕ) (file : List �
   of-trace behind (Ok plant) loaded (inr illegal) = let reads = illegal.reads_it in absurd cc
   of-trace behind (Err fault) loaded other = refused-not fault other
 
-  of-live : (read : Result Plant Refusal) → plant_of file ≡ read → IsLiveDueOf scans read what
+  of-live : (read : Result Plant Refusal) → plant_of One file ≡ read → IsLiveDueOf scans read what
       → TellsOneRun scans file what
   of-live (Ok plant) loaded shown =
-      tells-one one front scans file what plant shown.joint loaded
+      tells-one one front scans file what plant shown.joint (newer file plant loaded)
       (record { whole = shown.whole; effects = shown.effects; told = shown.told }) shown.text
   of-live (Err fault) loaded other = refused-not fault other
 
 pub written-legal : OneDue → OneJournalInFront → WrittenIsLegal
 written-legal one front scans file what (inl traced) is =
-    of-trace one front scans file what is traced.behind (plant_of file) refl
-    (subst (λ (input : List ℕ). IsDueOf (Do Trace scans) traced.behind (plant_of input) what)
+    of-trace one front scans file what is traced.behind (plant_of Two file) refl
+    (subst (λ (input : List ℕ). IsDueOf (Do Trace scans) traced.behind (plant_of Two input) what)
     traced.parts.0 traced.due)
 written-legal one front scans file what (inr live) is =
-    of-live one front scans file what is (plant_of file) refl live
+    of-live one front scans file what is (plant_of One file) refl live

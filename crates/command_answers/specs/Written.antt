@@ -2,6 +2,7 @@
 use Rattle.std.specs.Prelude.{◌≡◌, ◌⊎◌, ◌++◌, ℕ, List, Ok, codes}
 use Rattle.plant_types.specs.declared.plan.Plant.{Plant}
 use Rattle.plant_loader.specs.Plant.{plant_of}
+use Rattle.plant_loader.specs.declared.tables.Version.TheVariants.{Two}
 use Rattle.joint_history.specs.declared.joint.Joint.{Joint}
 use Rattle.joint_law.specs.Spots.{IsWholeRun}
 use Rattle.journal_text.specs.Fronts.{IsJournalOf}
@@ -37,7 +38,7 @@ pub record IsAccepted (scans : ℕ) (shown input : List ℕ) : Type 0 where
 -- accepted.
 pub record TellsOneRun (scans : ℕ) (file : List ℕ) (what : Due) : Type 0 where
   pub plant : Plant
-  pub loaded : plant_of file ≡ Ok plant
+  pub loaded : plant_of Two file ≡ Ok plant
   pub joint : Joint
   pub whole : IsWholeRun plant scans joint
   pub told : IsJournalOf joint (journal joint)

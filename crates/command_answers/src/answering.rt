@@ -19,13 +19,13 @@ use crate::judging::{Judged, judge_journal};
 use crate::sessions::answer_session;
 use crate::status::Status;
 use command_words::{Command, Task};
-use effect_laws::effects_are_right;
 use joint_history::{Joint, Noted};
 use journal_text::{fits_its_types, journal_text, legal_is_plain};
 use panel_text::panel_from_notes;
 use plant_gen::plant_from;
-use plant_loader::{LoadEnd, load};
+use plant_loader::{LoadEnd, Version, load};
 use plant_types::{Place, Plant, PlantFault};
+use route_laws::effects_are_right;
 use serial_run::{run_counted, run_noted};
 use std::alloc::{AllocError, Global};
 use summary_text::summary_text;
@@ -226,9 +226,9 @@ fn answer_over(
     requires command { IsCommandInRange command }
     requires short { length behind.now < 2 ^ 32 }
     ensures { IfOk result (λ answer.
-        IsDueOf command behind.now (plant_of file.now) (as_due answer)) }
+        IsDueOf command behind.now (plant_of Version.Two file.now) (as_due answer)) }
 {
-    match load(alloc, file) {
+    match load(alloc, Version::Two, file) {
         Ok(plant) => answer_with(alloc, command, &plant, behind),
         Err(LoadEnd::Refused(fault, place)) => refused(alloc, fault, place),
         Err(LoadEnd::NoMemory) => Err(AllocError),

@@ -1,9 +1,9 @@
 -- Counts over lists, and over the entries of each node.
-use Rattle.std.proofs.Common.{◌≡◌, ℕ, zero, suc, ◌+◌, ◌<◌, ◌≤◌, Bool, true, false, cond, List}
-use Rattle.std.proofs.Common.{[], ◌∷◌, length, refl, sym, ap, ◌∙◌, subst, arith}
+use Rattle.std.proofs.Common.{◌≡◌, ℕ, suc, ◌+◌, ◌<◌, ◌≤◌, Bool, true, false, cond, List, [], ◌∷◌}
+use Rattle.std.proofs.Common.{length, refl, sym, ap, ◌∙◌, subst, arith}
 use Rattle.std.specs.Prelude.{◌==◌}
 use Rattle.std.specs.List.{All, AllPairs, count_by, sum_by, slice_index_or}
-use Rattle.std.proofs.lemmas.Bool.{true≢false, false≢true, ne_eqb, eq-eqb, eqb-true}
+use Rattle.std.proofs.lemmas.Bool.{true≢false, ne_eqb, eqb-true}
 use Rattle.std.proofs.lemmas.List.Sums.{sum_by-append}
 use Rattle.ring_core.specs.declared.entry.RingEntry.{RingEntry}
 use Rattle.ring_core.specs.Words.{maker}
@@ -32,14 +32,6 @@ zero_of : (b : Bool) (rest total : ℕ) → total ≡ cond b 1 0 + rest → b �
 zero_of true rest total is off none = absurd (true≢false off)
 zero_of false rest total is off none = omega arith
 
-one_of : (b : Bool) (rest total : ℕ) → total ≡ cond b 1 0 + rest → b ≡ true → 1 ≤ total
-one_of true rest total is on = omega arith
-one_of false rest total is on = absurd (false≢true on)
-
-more_of : (b : Bool) (rest total : ℕ) → total ≡ cond b 1 0 + rest → 1 ≤ rest → 1 ≤ total
-more_of true rest total is some = omega arith
-more_of false rest total is some = omega arith
-
 -- no number of a list that lies above
 none_above : (m : ℕ) (ys : List ℕ) → ((j d : ℕ) → j < length ys → m < slice_index_or ys j d)
     → count_by (λ n. m == n) ys ≡ 0
@@ -65,17 +57,6 @@ once_rising m (x ∷ xs) pairs =
     (λ same. none_above m xs (λ j d within. subst (λ (n : ℕ). n < slice_index_or xs j d) (sym same)
     (pairs 0 (suc j) d (omega arith) (omega arith))))
     (once_rising m xs (λ i j d less within. pairs (suc i) (suc j) d (omega arith) (omega arith))))
-
--- a number that a list has is counted
-pub some_there : (m : ℕ) (xs : List ℕ) (k : ℕ) → k < length xs → slice_index_or xs k m ≡ m
-    → 1 ≤ count_by (λ n. m == n) xs
-some_there m [] k within is = absurd (omega arith)
-some_there m (x ∷ xs) zero within is =
-    one_of (m == x) (count_by (λ n. m == n) xs) (count_by (λ n. m == n) (x ∷ xs))
-    (count_cons (λ n. m == n) x xs) (eq-eqb m x (sym is))
-some_there m (x ∷ xs) (suc k) within is =
-    more_of (m == x) (count_by (λ n. m == n) xs) (count_by (λ n. m == n) (x ∷ xs))
-    (count_cons (λ n. m == n) x xs) (some_there m xs k (omega arith) is)
 
 module _ (p : RingEntry → Bool) where
   -- the count of a node's own entries, with one entry more

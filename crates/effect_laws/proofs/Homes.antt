@@ -1,7 +1,7 @@
 -- What a node's port did for its own calls, and the ends of these calls.
 use Rattle.std.proofs.Common.{◌≡◌, ℕ, ◌+◌, ◌≤◌, Bool, true, false, cond, not, Option, Some, None}
 use Rattle.std.proofs.Common.{List, [], ◌∷◌, ◌++◌, refl, sym, ap, ◌∙◌, subst, arith}
-use Rattle.std.specs.Prelude.{◌==◌, ◌&&◌, if◌then◌else◌}
+use Rattle.std.specs.Prelude.{◌==◌, ◌&&◌, if◌then◌else◌, Contains}
 use Rattle.std.specs.List.{AllByRecursion as Each, cons_option, count_by, filter_map}
 use Rattle.std.proofs.lemmas.Bool.{and_parts, eqb-true, true≢false}
 use Rattle.mstr_block.specs.Call.{is_same_call}
@@ -14,20 +14,23 @@ use Rattle.ring_core.specs.declared.frame.Frame.{Frame}
 use Rattle.ring_core.specs.declared.frame.FrameKind.{FrameKind}
 use Rattle.ring_core.specs.declared.frame.FrameKind.TheVariants.{Request, Reply}
 use Rattle.ring_core.specs.Words.{frame_route, maker}
-use Rattle.host_port.proofs.Lists.{all_append, all_same}
+use Rattle.host_port.proofs.Lists.{all_append, all_same, and_false}
 use Rattle.host_port.specs.declared.entry.HostEntry.{HostEntry}
 use Rattle.host_port.specs.declared.entry.HostEntry.TheVariants.{Ask, Answer, Served}
 use Rattle.host_port.specs.declared.entry.HostResult.TheVariants as results
 use Rattle.ring_laws.specs.Once.{posts}
 use Rattle.ring_laws.proofs.Lists.{count-contains, count-weaker, each-contains, same-eq}
+use Rattle.ring_laws.proofs.Lists.{contains-count}
 use Rattle.tied_lists.specs.Own.{own}
 use Rattle.tied_lists.specs.Items.{Asked, Called, CallSort, OverNet, AtHome, Ended, Items, Kind}
 use Rattle.tied_lists.specs.Items.{LocalCall, NetCall, Outcome, Came, Replied, Lacked, Station}
 use Rattle.tied_lists.specs.Items.{asked_by, asked_of, ended_by, ended_of, kind_in, kind_of_sort}
 use Rattle.tied_lists.specs.Items.{net_ask, no_items}
-use Rattle.joint_history.specs.Effects.{does_locally}
+use Rattle.joint_history.specs.declared.joint.Joint.{Joint}
+use Rattle.joint_history.specs.Effects.{does_locally, effects}
+use Rattle.joint_history.specs.Nets.{noted_on_rings}
 use Rattle.joint_history.specs.Reading.{host_item_next, host_items_after, host_items_of}
-use Rattle.effect_laws.specs.Served.{serves_another}
+use Rattle.effect_laws.specs.Served.{serves_another, services}
 use Rattle.effect_laws.proofs.Counts.{count_cons, skip}
 use Rattle.effect_laws.proofs.Calls.{CallFacts, OfCall, is_called, is_ended}
 
@@ -57,7 +60,8 @@ three id e es here rest =
     let two = count_cons (acts_at_home id) e es in
     omega arith
 
-pub both-sorts : (id : CallId) (es : List RingEntry)
+-- what ports do is one of the two
+both-sorts : (id : CallId) (es : List RingEntry)
     → count_by (does_locally id) es
     ≡ count_by (serves_another id) es + count_by (acts_at_home id) es
 both-sorts id [] = refl
@@ -71,6 +75,19 @@ both-sorts id (GiveUp name word ∷ es) = three id (GiveUp name word) es refl (b
 both-sorts id (Pass n done words ∷ es) = three id (Pass n done words) es refl (both-sorts id es)
 both-sorts id (Leave n cause ∷ es) = three id (Leave n cause) es refl (both-sorts id es)
 both-sorts id (Join n ∷ es) = three id (Join n) es refl (both-sorts id es)
+
+-- a call took effect as often as it was served, and as ports did it at home
+pub effects-are : (joint : Joint) (id : CallId)
+    → effects joint id ≡ services joint id + count_by (acts_at_home id) (noted_on_rings joint)
+effects-are joint id = let both = both-sorts id (noted_on_rings joint) in omega arith
+
+-- what a port did at home took effect
+pub home-effect : (joint : Joint) (id : CallId) (e : RingEntry)
+    → Contains (noted_on_rings joint) e → acts_at_home id e ≡ true → 1 ≤ effects joint id
+home-effect joint id e there is =
+    let some = contains-count (acts_at_home id) (noted_on_rings joint) e is there in
+    let all = effects-are joint id in
+    omega (arith, some, all)
 
 -- ---- entries of one node
 
@@ -129,7 +146,7 @@ none-home true = refl
 none-home false = refl
 
 -- each Local of an own call is an end of it
-pub homes-end : (station : Station) (id : CallId) (asked : List Asked) (b : List RingEntry)
+homes-end : (station : Station) (id : CallId) (asked : List Asked) (b : List RingEntry)
     → count_by (acts_at_home id) b ≤ count_by (is_home_end id) (ended_by station asked b)
 homes-end station id asked [] = omega arith
 homes-end station id asked (Post n f ∷ b) =
@@ -176,6 +193,15 @@ homes-end station id asked (Leave n cause ∷ b) =
 homes-end station id asked (Join n ∷ b) =
     let rest = homes-end station id (asked ++ []) b in
     let step = skip (acts_at_home id) (Join n) b refl in omega arith
+
+-- so what a port did at home its station's list tells as ended
+pub home-ended : (station : Station) (a : Items) (id : CallId) (b : List RingEntry)
+    → a.ends ≡ ended_by station [] b
+    → count_by (acts_at_home id) b ≤ count_by (is_home_end id) a.ends
+home-ended station a id b ends =
+    let ended = homes-end station id [] b in
+    let ends_are = ap (count_by (is_home_end id)) ends in
+    omega (arith, ended, ends_are)
 
 -- ---- a call at home is asked of no other node
 
@@ -249,36 +275,40 @@ home-kind (Came result) NetCall is = absurd cc
 home-kind (Replied pdu) kind is = absurd cc
 home-kind (Lacked word) kind is = absurd cc
 
-pub controller-homes : (a : Items) → CallFacts a → HomesOnce a
-controller-homes a f id some =
+-- the call of such an end is one of an operation
+pub home-made : (a : Items) → CallFacts a → (id : CallId) → 1 ≤ count_by (is_home_end id) a.ends
+    → (op : LocalOp) × (kind_in a.calls id ≡ Some (LocalCall op))
+home-made a f id some =
     let found = count-contains (is_home_end id) a.ends some in
     let end' = found.0 in
     let of = each-contains (OfCall a.calls) a.ends end' f.kinds found.1 in
     let two = and_parts (is_same_call end'.id id) (came_home end'.outcome end'.kind) found.2 in
-    let home = home-kind end'.outcome of.0 (sym (ap (came_home end'.outcome) of.1) ∙ two.1) in
-    let kind : kind_in a.calls id ≡ Some (LocalCall home.0) =
-    subst (λ (i : CallId). kind_in a.calls i ≡ Some (LocalCall home.0)) (same-eq end'.id id two.0)
-    (of.2 ∙ ap Some home.1) in
+    let home = home-kind end'.outcome of.0 (sym (ap (came_home end'.outcome) of.1) ∙ two.1) in (
+      home.0,
+      subst (λ (i : CallId). kind_in a.calls i ≡ Some (LocalCall home.0))
+          (same-eq end'.id id two.0) (of.2 ∙ ap Some home.1),
+    )
+
+pub controller-homes : (a : Items) → CallFacts a → HomesOnce a
+controller-homes a f id some =
+    let made = home-made a f id some in
     let weaker = count-weaker (is_home_end id) (is_ended id) a.ends
     (all_same (λ (e : Ended). is_home_end id e ≡ true → is_ended id e ≡ true)
     (λ e is. (and_parts (is_same_call e.id id) (came_home e.outcome e.kind) is).0) a.ends) in
     let most = f.ends id in
-    record { once = omega arith; none = home-asks-none id home.0 a.calls kind (f.calls id) }
+    record { once = omega arith; none = home-asks-none id made.0 a.calls made.1 (f.calls id) }
 
-abbrev is_away : Ended → Type 0
+-- an end of no call that a port did at home
+abbrev pub is_away : Ended → Type 0
 is_away end' = (id : CallId) → is_home_end id end' ≡ false
-
-and-off : (x : Bool) → (x && false) ≡ false
-and-off true = refl
-and-off false = refl
 
 away-next : (a : Items) (e : HostEntry) → Each is_away a.ends
     → Each is_away (host_item_next a e).ends
 away-next a (Ask id route pdu) all = all
 away-next a (Answer id (results.Reply pdu)) all =
-    all_append is_away a.ends _ all ((λ other. and-off (is_same_call id other)), tt)
+    all_append is_away a.ends _ all ((λ other. and_false (is_same_call id other)), tt)
 away-next a (Answer id (results.Bad word)) all =
-    all_append is_away a.ends _ all ((λ other. and-off (is_same_call id other)), tt)
+    all_append is_away a.ends _ all ((λ other. and_false (is_same_call id other)), tt)
 away-next a (Served id request reply) all = all
 
 aways : (a : Items) (h : List HostEntry) → Each is_away a.ends
@@ -286,12 +316,19 @@ aways : (a : Items) (h : List HostEntry) → Each is_away a.ends
 aways a [] all = all
 aways a (e ∷ h) all = aways (host_item_next a e) h (away-next a e all)
 
+-- a host has no call that a port did at home
+pub host-away : (h : List HostEntry) → Each is_away (host_items_of h).ends
+host-away h = aways no_items h tt
+
+-- where no end is one of them, none is counted
+pub none-away : (id : CallId) (ends : List Ended) → Each is_away ends
+    → 1 ≤ count_by (is_home_end id) ends → ⊥
+none-away id ends all some =
+    let found = count-contains (is_home_end id) ends some in
+    true≢false (sym found.2 ∙ each-contains is_away ends found.0 all found.1 id)
+
 pub host-homes : (h : List HostEntry) → HomesOnce (host_items_of h)
-host-homes h id some =
-    let found = count-contains (is_home_end id) (host_items_of h).ends some in
-    let away = each-contains is_away (host_items_of h).ends found.0 (aways no_items h tt)
-    found.1 in
-    absurd (true≢false (sym found.2 ∙ away id))
+host-homes h id some = absurd (none-away id (host_items_of h).ends (host-away h) some)
 
 -- ---- what was posted was asked
 

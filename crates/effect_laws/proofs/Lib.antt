@@ -4,10 +4,9 @@ pub mod Calls
 pub mod Homes
 pub mod Fits
 pub mod Asks
-pub mod Once
+pub mod Entries
 pub mod Sources
 pub mod Reports
+pub mod Found
 pub mod Words
-pub mod Targets
-pub mod HostReplies
-mod Example
+pub mod Gave

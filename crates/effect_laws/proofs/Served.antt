@@ -1,16 +1,11 @@
--- A request of another node is served at most once.
-use Rattle.std.proofs.Common.{◌≡◌, ℕ, zero, suc, ◌+◌, ◌≤◌, ◌++◌, Bool, true, false, cond, not}
-use Rattle.std.proofs.Common.{Some, None, List, [], ◌∷◌, map, refl, sym, ap, ◌∙◌}
-use Rattle.std.proofs.Common.{subst, arith}
-use Rattle.std.specs.Prelude.{◌==◌, ◌&&◌, if◌then◌else◌}
-use Rattle.std.specs.List.{All, AllZip, count_by, sum_by, slice_index_or, cons_option}
-use Rattle.std.proofs.lemmas.List.Sums.{sum_by-append}
-use Rattle.std.proofs.lemmas.List.Sorted.{sum_by-IsPermutation}
-use Rattle.std.proofs.lemmas.List.Kept.{AllPairs-from_increasing}
-use Rattle.plant_types.specs.declared.net.NetPlan.{NetPlan}
+-- What stations and their ports answer, their nodes took.
+use Rattle.std.proofs.Common.{◌≡◌, ℕ, suc, ◌+◌, ◌≤◌, Bool, true, false, cond, not, Some, None}
+use Rattle.std.proofs.Common.{List, [], ◌∷◌, map, refl, sym, ap, ◌∙◌, subst, arith}
+use Rattle.std.specs.Prelude.{◌==◌, ◌&&◌, if◌then◌else◌, Contains}
+use Rattle.std.specs.List.{All, AllZip, count_by, sum_by, cons_option}
+use Rattle.std.proofs.lemmas.Bool.{eqb-true}
 use Rattle.plant_types.specs.declared.plan.Plant.{Plant}
-use Rattle.plant_types.specs.Plans.{IsPlant, controller_nodes, first_net, host_nodes}
-use Rattle.plant_types.proofs.OneNet.{on-net}
+use Rattle.plant_types.specs.Plans.{controller_nodes, host_nodes}
 use Rattle.mstr_block.specs.Call.{is_same_call}
 use Rattle.mstr_block.specs.declared.call.CallId.{CallId}
 use Rattle.ring_core.specs.declared.frame.Frame.{Frame}
@@ -20,38 +15,33 @@ use Rattle.ring_core.specs.declared.entry.RingEntry.{RingEntry}
 use Rattle.ring_core.specs.declared.entry.RingEntry.TheVariants.{Post, Send, Take, Local, GiveUp}
 use Rattle.ring_core.specs.declared.entry.RingEntry.TheVariants.{Pass, Leave, Join}
 use Rattle.ring_core.specs.Statistics.{is_for_stats}
-use Rattle.ring_core.specs.Words.{maker}
-use Rattle.ring_core.specs.Legal.{IsLawful, IsMember, IsRun}
-use Rattle.ring_laws.specs.Once.{takes, IsRingHistory, TakenOnce}
+use Rattle.ring_laws.specs.Once.{takes}
+use Rattle.ring_laws.proofs.Lists.{count-contains}
 use Rattle.tied_lists.specs.Own.{own}
 use Rattle.tied_lists.specs.Items.{Answered, Items, RequestItem, Station, Taken, Plain, ForStats}
-use Rattle.tied_lists.specs.Items.{item_of}
-use Rattle.tied_lists.specs.Items.{plain_items, stats_items, taken_by}
-use Rattle.tied_lists.specs.Items.{port_answers, request_of, reply_of, AController, AHost}
+use Rattle.tied_lists.specs.Items.{item_of, plain_items, stats_items, taken_by, port_answers}
+use Rattle.tied_lists.specs.Items.{request_of, reply_of}
 use Rattle.tied_lists.specs.Tied.{Tied}
 use Rattle.plant_types.specs.declared.net.HostPlan.{HostPlan}
 use Rattle.plant_types.specs.declared.plan.ControllerPlan.{ControllerPlan}
 use Rattle.joint_history.specs.declared.joint.ControllerLog.{ControllerLog}
 use Rattle.joint_history.specs.declared.joint.HostLog.{HostLog}
 use Rattle.joint_history.specs.declared.joint.Joint.{Joint}
-use Rattle.joint_history.specs.JointLaws.{IsJoint, IsLegalJoint, IsLegalLog, IsLegalHostLog}
-use Rattle.joint_history.specs.Nets.{noted_on_rings}
-use Rattle.joint_history.proofs.OneRing.{legal-ring}
-use Rattle.joint_history.specs.Reading.{items_of, host_items_of}
+use Rattle.joint_history.specs.JointLaws.{IsLegalJoint, IsLegalLog, IsLegalHostLog}
 use Rattle.joint_history.specs.Effects.{answers, answers_to, has_reply}
-use Rattle.effect_laws.specs.Served.{ServedAtMostOnce, serves_another, services}
-use Rattle.effect_laws.proofs.Counts.{sum_cons, count_cons, skip, once_rising, some_there}
-use Rattle.effect_laws.proofs.Counts.{at_most_all, all_at_most}
+use Rattle.effect_laws.specs.Served.{serves_another}
+use Rattle.effect_laws.proofs.Counts.{sum_cons, count_cons, skip}
 
 -- an item is of this call
-abbrev is_item : CallId → RequestItem → Bool
+abbrev pub is_item : CallId → RequestItem → Bool
 is_item id item = is_same_call item.id id
 
+-- an answer is to this call
 abbrev pub is_answer : CallId → Answered → Bool
 is_answer id answer = is_same_call answer.id id
 
 -- answers are counted by their items
-by_items : (id : CallId) (answers : List Answered)
+pub by_items : (id : CallId) (answers : List Answered)
     → count_by (is_answer id) answers ≡ count_by (is_item id) (map item_of answers)
 by_items id [] = refl
 by_items id (a ∷ as') =
@@ -112,6 +102,13 @@ in_ring id (Pass n done words ∷ b) =
     in_ring id b ∙ sym (skip (takes id) (Pass n done words) b refl)
 in_ring id (Leave n cause ∷ b) = in_ring id b ∙ sym (skip (takes id) (Leave n cause) b refl)
 in_ring id (Join n ∷ b) = in_ring id b ∙ sym (skip (takes id) (Join n) b refl)
+
+-- the Requests that a node took, by their two sorts
+pub of_ring : (id : CallId) (b : List RingEntry)
+    → count_by (is_item id) (plain_items (taken_by b))
+    + count_by (is_item id) (stats_items (taken_by b))
+    ≡ count_by (takes id) b
+of_ring id b = of_sorts id (taken_by b) ∙ in_ring id b
 
 -- what a port answered for others is counted in the list of the ring
 own_off : (x : Bool) (k : ℕ) → cond (x && false) 1 0 + k ≡ k
@@ -179,12 +176,11 @@ answers_are_taken id station a b t =
     let peers = by_items id a.answers ∙ ap (count_by (is_item id)) t.peers in
     let port = for_others id b ∙ by_items id (port_answers b)
     ∙ ap (count_by (is_item id)) t.port in
-    let sorts = of_sorts id (taken_by b) in
-    let ring = in_ring id b in
+    let ring = of_ring id b in
     omega arith
 
 -- over some stations
-sums : {L : Type 0} (p q : RingEntry → Bool) (ring : List RingEntry) (node answers : L → ℕ)
+pub sums : {L : Type 0} (p q : RingEntry → Bool) (ring : List RingEntry) (node answers : L → ℕ)
     (ls : List L)
     → All (λ l. answers l + count_by q (own (node l) ring) ≤ count_by p (own (node l) ring)) ls
     → sum_by answers ls + sum_by (λ n. count_by q (own n ring)) (map node ls)
@@ -208,53 +204,7 @@ nodes_of_logs R plan_node log_node same (p ∷ ps) [] all = absurd all
 nodes_of_logs R plan_node log_node same (p ∷ ps) (l ∷ ls) all =
     λ i. same p l all.0 i ∷ nodes_of_logs R plan_node log_node same ps ls all.1 i
 
--- each entry's node is a member
-member_of : (net : NetPlan) (e : RingEntry) → IsLawful net e → IsMember net (maker e)
-member_of net (Post n f) law = law.0
-member_of net (Send n heard) law = law
-member_of net (Take n f) law = law
-member_of net (Local n id op result) law = law.0
-member_of net (GiveUp id word) law = law.0
-member_of net (Pass n done words) law = law
-member_of net (Leave n cause) law = law
-member_of net (Join n) law = law
-
-pub members : (net : NetPlan) (past list : List RingEntry) → IsRun net past list
-    → All (λ e. IsMember net (maker e)) list
-members net past [] run k d within = absurd (omega arith)
-members net past (e ∷ es) run zero d within = member_of net e run.0.0
-members net past (e ∷ es) run (suc k) d within =
-    members net (past ++ e ∷ []) es run.1 k d (omega arith)
-
--- a joint history of a plant
-pub record JointOf (plant : Plant) (scans : ℕ) (joint : Joint) : Type 0 where
-  pub is : IsPlant plant
-  pub legal : IsLegalJoint plant scans joint
-  pub tied : IsJoint joint
-
-pub ring-history : (plant : Plant) (scans : ℕ) (joint : Joint) → JointOf plant scans joint
-    → IsRingHistory (first_net plant) (noted_on_rings joint)
-ring-history plant scans joint j = record {
-  members = λ k d within.
-      (let node = (on-net plant j.is).plan.members.each k d within in let most = node.to in omega
-      arith);
-  legal = legal-ring plant scans joint j.is j.legal;
-}
-
--- the nodes of the stations are the members of the ring
-pub counted-member : (plant : Plant) (m : ℕ) → IsPlant plant
-    → count_by (λ n. m == n) (first_net plant).members
-    ≡ count_by (λ n. m == n) (controller_nodes plant ++ host_nodes plant)
-counted-member plant m is =
-    sum_by-IsPermutation (λ n. cond (m == n) 1 0) (controller_nodes plant ++ host_nodes plant)
-    (first_net plant).members (on-net plant is).members
-
-pub member-station : (plant : Plant) (m : ℕ) → IsPlant plant → IsMember (first_net plant) m
-    → 1 ≤ count_by (λ n. m == n) (controller_nodes plant ++ host_nodes plant)
-member-station plant m is at =
-    subst (λ (c : ℕ). 1 ≤ c) (counted-member plant m is)
-    (some_there m (first_net plant).members at.0 at.1 at.2)
-
+-- so it is of controllers, and of hosts
 pub controller-nodes : (plant : Plant) (scans : ℕ) (joint : Joint) → IsLegalJoint plant scans joint
     → map (λ (log : ControllerLog). log.node) joint.controllers ≡ controller_nodes plant
 controller-nodes plant scans joint legal =
@@ -269,49 +219,21 @@ host-nodes plant scans joint legal =
     (λ plan log r. r.0)
     plant.hosts joint.hosts legal.hosts
 
--- a call was served at most as often as its Request was taken
-pub services-are_taken : (plant : Plant) (scans : ℕ) (joint : Joint) (id : CallId)
-    → JointOf plant scans joint
-    → services joint id ≤ count_by (takes id) (noted_on_rings joint)
-services-are_taken plant scans joint id j =
-    let ring = noted_on_rings joint in
-    let p = takes id in
-    let q = serves_another id in
-    let ns = controller_nodes plant ++ host_nodes plant in
-    let apart : (m : ℕ) → count_by (λ n. m == n) ns ≤ 1 =
-    λ m. subst (λ (k : ℕ). k ≤ 1) (counted-member plant m j.is)
-    (once_rising m (first_net plant).members
-    (AllPairs-from_increasing (first_net plant).members (on-net plant j.is).plan.members.rise)) in
-    let there : All (λ e. 1 ≤ count_by (λ n. maker e == n) ns) ring =
-    λ k d within. member-station plant (maker (slice_index_or ring k d)) j.is
-    (members (first_net plant) [] ring (ring-history plant scans joint j).legal k d within) in
-    let controllers = subst (λ (nodes : List ℕ). sum_by
-    (λ (log : ControllerLog). answers_to id (items_of log.entries)) joint.controllers
-    + sum_by (λ n. count_by q (own n ring)) nodes ≤ sum_by (λ n. count_by p (own n ring)) nodes)
-    (controller-nodes plant scans joint j.legal)
-    (sums p q ring (λ (log : ControllerLog). log.node)
-    (λ (log : ControllerLog). answers_to id (items_of log.entries)) joint.controllers
-    (λ k d within. answers_are_taken id AController _ _ (j.tied.controllers k d within))) in
-    let hosts = subst (λ (nodes : List ℕ). sum_by
-    (λ (log : HostLog). answers_to id (host_items_of log.entries)) joint.hosts
-    + sum_by (λ n. count_by q (own n ring)) nodes ≤ sum_by (λ n. count_by p (own n ring)) nodes)
-    (host-nodes plant scans joint j.legal)
-    (sums p q ring (λ (log : HostLog). log.node)
-    (λ (log : HostLog). answers_to id (host_items_of log.entries)) joint.hosts
-    (λ k d within. answers_are_taken id AHost _ _ (j.tied.hosts k d within))) in
-    let all_p = sum_by-append (λ n. count_by p (own n ring)) (controller_nodes plant)
-    (host_nodes plant) in
-    let all_q = sum_by-append (λ n. count_by q (own n ring)) (controller_nodes plant)
-    (host_nodes plant) in
-    let most_p = at_most_all p ns apart ring in
-    let least_p = all_at_most p ns ring there in
-    let most_q = at_most_all q ns apart ring in
-    let least_q = all_at_most q ns ring there in
-    omega arith
+-- ---- logs by their nodes
 
-pub served-at_most_once : TakenOnce → ServedAtMostOnce
-served-at_most_once once plant scans joint id is legal tied =
-    let j : JointOf plant scans joint = record { is = is; legal = legal; tied = tied } in
-    let most = services-are_taken plant scans joint id j in
-    let one = once (first_net plant) (noted_on_rings joint) id (ring-history plant scans joint j) in
-    omega (arith, most, one)
+-- a map of a list has as many of a number as the list has things of it
+counted-map : {L : Type 0} (node : L → ℕ) (n : ℕ) (ls : List L)
+    → count_by (λ k. n == k) (map node ls) ≡ count_by (λ l. n == node l) ls
+counted-map node n [] = refl
+counted-map node n (l ∷ ls) =
+    let one = count_cons (λ k. n == k) (node l) (map node ls) in
+    let two = count_cons (λ x. n == node x) l ls in
+    one ∙ ap (λ k. cond (n == node l) 1 0 + k) (counted-map node n ls) ∙ sym two
+
+-- a list of this node
+pub log-of : {L : Type 0} (node : L → ℕ) (n : ℕ) (ls : List L)
+    → 1 ≤ count_by (λ k. n == k) (map node ls) → (l : L) × Contains ls l × (node l ≡ n)
+log-of node n ls some =
+    let found = count-contains (λ l. n == node l) ls
+    (subst (λ (k : ℕ). 1 ≤ k) (counted-map node n ls) some) in
+    (found.0, found.1, sym (eqb-true n (node found.0) found.2))

@@ -78,6 +78,27 @@ of-map h (x ∷ xs) y there =
     (found.0, behind x xs found.0 found.1, found.2))
     (in-option (h x) (filter_map h xs) y there)
 
+-- what a map made
+pub in-mapped : {X Y : Type 0} (g : X → Y) (xs : List X) (x : X) → Contains xs x
+    → Contains (map g xs) (g x)
+in-mapped g [] x there = absurd (in-none x there)
+in-mapped g (y ∷ xs) x there =
+    ⊎_elim
+    (λ (same : y ≡ x). subst (λ z. Contains (z ∷ map g xs) (g x)) (ap g (sym same))
+    (here (g x) (map g xs)))
+    (λ (more : Contains xs x). behind (g y) (map g xs) (g x) (in-mapped g xs x more))
+    (first-or-behind y xs x there)
+
+pub of-mapped : {X Y : Type 0} (g : X → Y) (xs : List X) (y : Y) → Contains (map g xs) y
+    → (x : X) × Contains xs x × (g x ≡ y)
+of-mapped g [] y there = absurd (in-none y there)
+of-mapped g (x ∷ xs) y there =
+    ⊎_elim
+    (λ (same : g x ≡ y). (x, here x xs, same))
+    (λ (more : Contains (map g xs) y).
+    let found = of-mapped g xs y more in (found.0, behind x xs found.0 found.1, found.2))
+    (first-or-behind (g x) (map g xs) y there)
+
 -- a node's own list
 pub in-own : (n : ℕ) (es : List RingEntry) (e : RingEntry) → (maker e == n) ≡ true → Contains es e
     → Contains (own n es) e

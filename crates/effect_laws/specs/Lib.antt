@@ -1,5 +1,5 @@
 pub mod Served
 pub mod Success
-pub mod Targets
-pub mod HostReplies
-pub mod Effects
+pub mod Places
+pub mod Answers
+pub mod Fits

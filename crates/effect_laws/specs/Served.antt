@@ -1,8 +1,6 @@
 -- How often the request of another node was served. This project's own.
-use Rattle.std.specs.Prelude.{ℕ, ◌+◌, ◌≤◌, ◌==◌, ◌&&◌, not, Bool, false}
+use Rattle.std.specs.Prelude.{ℕ, ◌+◌, ◌==◌, ◌&&◌, not, Bool, false}
 use Rattle.std.specs.List.{count_by, sum_by}
-use Rattle.plant_types.specs.declared.plan.Plant.{Plant}
-use Rattle.plant_types.specs.Plans.{IsPlant}
 use Rattle.mstr_block.specs.Call.{is_same_call}
 use Rattle.mstr_block.specs.declared.call.CallId.{CallId}
 use Rattle.ring_core.specs.declared.entry.RingEntry.{RingEntry}
@@ -11,7 +9,6 @@ use Rattle.joint_history.specs.declared.joint.ControllerLog.{ControllerLog}
 use Rattle.joint_history.specs.declared.joint.HostLog.{HostLog}
 use Rattle.joint_history.specs.declared.joint.Joint.{Joint}
 use Rattle.joint_history.specs.Effects.{answers_to}
-use Rattle.joint_history.specs.JointLaws.{IsJoint, IsLegalJoint}
 use Rattle.joint_history.specs.Reading.{items_of, host_items_of}
 use Rattle.joint_history.specs.Nets.{noted_on_rings}
 
@@ -26,8 +23,3 @@ services joint id =
     (sum_by (λ (log : ControllerLog). answers_to id (items_of log.entries)) joint.controllers
     + sum_by (λ (log : HostLog). answers_to id (host_items_of log.entries)) joint.hosts)
     + count_by (serves_another id) (noted_on_rings joint)
-
--- In a legal joint history whose lists keep the laws between them, at most once.
-abbrev pub ServedAtMostOnce : Type 0
-ServedAtMostOnce = (plant : Plant) (scans : ℕ) (joint : Joint) (id : CallId) → IsPlant plant
-    → IsLegalJoint plant scans joint → IsJoint joint → services joint id ≤ 1

@@ -1,6 +1,7 @@
 pub mod Ready
 pub mod Counts
 pub mod Stations
-pub mod Nodes
+pub mod On
+mod Nodes
 pub mod Joint
 pub mod Worked

@@ -1,15 +1,19 @@
--- No two stations of a plant's joint history have one node.
-use Rattle.std.proofs.Common.{◌≡◌, ℕ, false, List, [], ◌∷◌, ◌++◌, map, refl, sym, ap, subst, ◌∙◌}
-use Rattle.std.specs.List.{AllByRecursion as Each, AllZip, IsDistinct}
+-- No two stations of a network have one node.
+use Rattle.std.proofs.Common.{◌≡◌, ℕ, false, List, [], ◌∷◌, ◌++◌, map, sym, subst}
+use Rattle.std.specs.List.{AllByRecursion as Each, IsDistinct}
 use Rattle.std.proofs.Math.Dec.{eqb}
 use Rattle.std.proofs.lemmas.Bool.{eq-eqb}
-use Rattle.std.proofs.lemmas.Map.Keys.{IsDistinct-head, IsDistinct-tail}
+use Rattle.std.proofs.lemmas.List.Sorted.{IsPermutation-sym}
+use Rattle.std.proofs.lemmas.Map.Keys.{IsDistinct-head, IsDistinct-tail, IsDistinct-IsPermutation}
+use Rattle.plant_types.specs.declared.net.NetPlan.{NetPlan}
 use Rattle.plant_types.specs.declared.plan.Plant.{Plant}
-use Rattle.plant_types.specs.Plans.{IsPlant, controller_nodes, host_nodes, end_nodes}
+use Rattle.plant_types.specs.Plans.{IsNetOf, controllers_on, hosts_on, ends_on}
+use Rattle.plant_types.proofs.Rising.{flips, rising-distinct}
 use Rattle.joint_history.specs.declared.joint.Joint.{Joint}
-use Rattle.joint_history.specs.JointLaws.{IsLegalHostLog, IsLegalJoint, IsLegalLog}
+use Rattle.joint_history.specs.JointLaws.{IsLegalJoint}
 use Rattle.one_order.specs.Orders.{Log, HaveNodesApart, NotAmong}
-use Rattle.entry_causes.specs.Joint.{controller_log, host_log, logs_of}
+use Rattle.entry_causes.specs.Joint.{stations_on}
+use Rattle.entry_causes.proofs.On.{station-nodes}
 
 not-among : {E : Type 0} (n : ℕ) (logs : List (Log E))
     → Each (λ m. eqb n m ≡ false) (map (λ (log : Log E). log.node) logs)
@@ -42,29 +46,15 @@ distinct-front (x ∷ xs) ys distinct = (
   distinct-front xs ys distinct.1,
 )
 
-nodes-are : {P L E : Type 0} (R : P → L → Type 0) (plan_node : P → ℕ) (log_of : L → Log E)
-    → ((p : P) (l : L) → R p l → (log_of l).node ≡ plan_node p)
-    → (plans : List P) (logs : List L) → AllZip R plans logs
-    → map (λ (log : Log E). log.node) (map log_of logs) ≡ map plan_node plans
-nodes-are R plan_node log_of same [] [] all = refl
-nodes-are R plan_node log_of same [] (l ∷ logs) all = absurd all
-nodes-are R plan_node log_of same (p ∷ plans) [] all = absurd all
-nodes-are R plan_node log_of same (p ∷ plans) (l ∷ logs) all =
-    λ i. same p l all.0 i ∷ nodes-are R plan_node log_of same plans logs all.1 i
-
-map-both : {X Y : Type 0} (f : X → Y) (xs ys : List X) → map f (xs ++ ys) ≡ map f xs ++ map f ys
-map-both f [] ys = refl
-map-both f (x ∷ xs) ys = ap (λ l. f x ∷ l) (map-both f xs ys)
-
-pub joint-apart : (plant : Plant) (scans : ℕ) (joint : Joint) → IsPlant plant
-    → IsLegalJoint plant scans joint
-    → HaveNodesApart (logs_of joint)
-joint-apart plant scans joint sound legal =
-    let one = nodes-are (IsLegalLog plant scans) (λ plan. plan.node) controller_log
-    (λ p l is. is.0) plant.controllers joint.controllers legal.controllers in
-    let two = nodes-are IsLegalHostLog (λ plan. plan.node) host_log (λ p l is. is.0) plant.hosts
-    joint.hosts legal.hosts in
-    apart (logs_of joint) (subst (IsDistinct eqb)
-    (sym (map-both (λ log. log.node) (map controller_log joint.controllers)
-    (map host_log joint.hosts) ∙ (λ i. one i ++ two i)))
-    (distinct-front (controller_nodes plant ++ host_nodes plant) (end_nodes plant) sound.once))
+-- the stations on a network have nodes apart
+pub apart-on : (plant : Plant) (scans : ℕ) (joint : Joint) (net : NetPlan) → IsNetOf plant net
+    → IsLegalJoint plant scans joint → HaveNodesApart (stations_on plant net.number joint)
+apart-on plant scans joint net of legal =
+    let stations = controllers_on plant net.number ++ hosts_on plant net.number in
+    let ends = ends_on plant net.number in
+    apart (stations_on plant net.number joint) (subst (IsDistinct eqb)
+    (sym (station-nodes plant scans joint net.number legal))
+    (distinct-front stations ends
+    (IsDistinct-IsPermutation eqb flips net.members (stations ++ ends)
+    (IsPermutation-sym (stations ++ ends) net.members of.members)
+    (rising-distinct net.members of.plan.members.rise))))

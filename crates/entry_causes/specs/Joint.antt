@@ -1,6 +1,7 @@
--- The lists of a joint history, and the one order of all its entries. This project's own.
-use Rattle.std.specs.Prelude.{ℕ, List, ◌++◌, map}
-use Rattle.std.specs.List.{All}
+-- The lists of a joint history, and the order of the entries of each of its rings and of the
+-- stations there. This project's own.
+use Rattle.std.specs.Prelude.{ℕ, List, ◌++◌, ◌==◌, filter, map}
+use Rattle.std.specs.List.{All, zip}
 use Rattle.ring_core.specs.Words.{maker}
 use Rattle.ring_core.specs.declared.entry.RingEntry.{RingEntry}
 use Rattle.plant_types.specs.declared.plan.Plant.{Plant}
@@ -9,6 +10,7 @@ use Rattle.tied_lists.specs.Own.{own}
 use Rattle.joint_history.specs.JointLaws.{IsLegalJoint}
 use Rattle.joint_history.specs.declared.joint.ControllerLog.{ControllerLog}
 use Rattle.joint_history.specs.declared.joint.HostLog.{HostLog}
+use Rattle.joint_history.specs.declared.joint.RingLog.{RingLog}
 use Rattle.joint_history.specs.declared.joint.Joint.{Joint}
 use Rattle.one_order.specs.Orders.{Log, HasOneOrder}
 use Rattle.entry_causes.specs.Causes.{StationEntry, ByController, ByHost, no_notes, no_deeds}
@@ -28,10 +30,28 @@ host_log log = record { node = log.node; entries = map ByHost log.entries }
 abbrev pub logs_of : Joint → List (Log StationEntry)
 logs_of joint = map controller_log joint.controllers ++ map host_log joint.hosts
 
--- There is one order of all entries of a joint history, in which each stands behind its cause.
-abbrev pub IsInOneOrder : Joint → Type 0
-IsInOneOrder joint =
-    HasOneOrder maker note deed AreCaused no_notes no_deeds (noted_on_rings joint) (logs_of joint)
+-- The lists beside the plans that are on a network.
+abbrev pub logs_on : {P L : Type 0} → (P → ℕ) → ℕ → List P → List L → List L
+logs_on network_of network plans logs =
+    map (λ of. of.1) (filter (λ of. network_of of.0 == network) (zip plans logs))
+
+-- The lists of the stations that are on a network.
+abbrev pub stations_on : Plant → ℕ → Joint → List (Log StationEntry)
+stations_on plant network joint =
+    map controller_log
+    (logs_on (λ plan. plan.network) network plant.controllers joint.controllers)
+    ++ map host_log (logs_on (λ plan. plan.network) network plant.hosts joint.hosts)
+
+-- There is one order of all entries of a ring and of the stations on its network, in which each
+-- stands behind its cause.
+abbrev pub RingIsInOneOrder : Plant → Joint → RingLog → Type 0
+RingIsInOneOrder plant joint ring =
+    HasOneOrder maker note deed AreCaused no_notes no_deeds ring.entries
+    (stations_on plant ring.network joint)
+
+-- There is one for each ring of a plant's joint history.
+abbrev pub IsInOneOrder : Plant → Joint → Type 0
+IsInOneOrder plant joint = All (RingIsInOneOrder plant joint) joint.rings
 
 -- A controller is in time with its node on the ring, and a host is.
 abbrev pub IsControllerInTime : List RingEntry → ControllerLog → Type 0
@@ -45,7 +65,7 @@ pub record StationsAreInTime (joint : Joint) : Type 0 where
   pub controllers : All (IsControllerInTime (noted_on_rings joint)) joint.controllers
   pub hosts : All (IsHostInTime (noted_on_rings joint)) joint.hosts
 
--- Then there is one order, where it is a plant's, whose nodes are apart.
+-- Then each ring is in one order, where it is a plant's, whose nodes are apart.
 abbrev pub JointIsInOneOrder : Type 0
 JointIsInOneOrder = (plant : Plant) (scans : ℕ) (joint : Joint) → IsPlant plant
-    → IsLegalJoint plant scans joint → StationsAreInTime joint → IsInOneOrder joint
+    → IsLegalJoint plant scans joint → StationsAreInTime joint → IsInOneOrder plant joint

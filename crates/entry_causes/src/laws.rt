@@ -8,7 +8,8 @@ pub fn stations_have_one_order()
     ensures { StationsHaveOneOrder }
 {}
 
-/// A plant's joint history has one order of all its entries where each station is in time.
+/// Each ring of a plant's joint history has one order of all its entries and of those of the
+/// stations there, where each station is in time.
 pub fn joint_is_in_one_order()
     ensures { JointIsInOneOrder }
 {}

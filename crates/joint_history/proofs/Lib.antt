@@ -6,3 +6,4 @@ pub mod Read2
 pub mod PowerFails
 pub mod OneRing
 mod BridgeRead
+mod JoinedRings

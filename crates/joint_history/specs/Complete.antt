@@ -9,6 +9,7 @@ use Rattle.plant_types.specs.declared.net.HostPlan.{HostPlan}
 use Rattle.plant_types.specs.declared.net.BridgePlan.{BridgePlan}
 use Rattle.plant_types.specs.declared.plan.ControllerPlan.{ControllerPlan}
 use Rattle.plant_types.specs.declared.plan.Plant.{Plant}
+use Rattle.plant_types.specs.Plans.{net_of}
 use Rattle.ring_core.specs.declared.frame.FrameKind.TheVariants.{Request, Reply}
 use Rattle.ring_core.specs.declared.frame.Frame.{Frame}
 use Rattle.ring_core.specs.declared.entry.RingEntry.{RingEntry}
@@ -30,7 +31,7 @@ use Rattle.joint_history.specs.declared.joint.HostLog.{HostLog}
 use Rattle.joint_history.specs.declared.joint.BridgeLog.{BridgeLog}
 use Rattle.joint_history.specs.declared.joint.Joint.{Joint}
 use Rattle.joint_history.specs.JointLaws.{fixed_of}
-use Rattle.joint_history.specs.Nets.{net_of, noted_on_rings}
+use Rattle.joint_history.specs.Nets.{noted_on_rings}
 use Rattle.joint_history.specs.Bridges.{side_items}
 use Rattle.joint_history.specs.Reading.{items_of, host_items_of, has_started_at}
 
@@ -168,8 +169,8 @@ LeavesQuietly ring = (before between after : List RingEntry) (n m : ℕ) (words 
 
 -- An end of a bridge is complete: each call that it sent on has ended, once, it has left for good, in
 -- its bridge's list and on the ring, and it was quiet before.
-pub record EndIsComplete (net : NetPlan) (ring : List RingEntry) (list : List BridgeEntry) (side : ℕ)
-    : Type 0 where
+pub record EndIsComplete (net : NetPlan) (ring : List RingEntry) (list : List BridgeEntry)
+    (side : ℕ) : Type 0 where
   pub finished : EndsEachCall (side_items side list)
   pub gone : Contains list (entries.Gone side)
   pub left : status_at net ring side ≡ Gone

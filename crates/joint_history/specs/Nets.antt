@@ -1,15 +1,9 @@
--- The networks of a plant and their rings. This project's own.
-use Rattle.std.specs.Prelude.{ℕ, List, [], ◌∷◌, ◌++◌}
-use Rattle.plant_types.specs.declared.net.NetPlan.{NetPlan}
-use Rattle.plant_types.specs.declared.plan.Plant.{Plant}
-use Rattle.plant_types.specs.Plans.{first_net}
+-- The rings of the networks of a plant. This project's own.
+use Rattle.std.specs.Prelude.{ℕ, ◌==◌, List, [], ◌∷◌, ◌++◌, Option, Some, None}
+use Rattle.std.specs.List.{find}
 use Rattle.ring_core.specs.declared.entry.RingEntry.{RingEntry}
 use Rattle.joint_history.specs.declared.joint.RingLog.{RingLog}
 use Rattle.joint_history.specs.declared.joint.Joint.{Joint}
-
--- The network of a node of a plant: as yet a plant has one, and all its nodes are on it.
-abbrev pub net_of : Plant → ℕ → NetPlan
-net_of plant node = first_net plant
 
 -- The entries of all rings, one ring behind the other. Each address stands once in a plant, so what a
 -- node noted on the ring of its network is what it noted among these.
@@ -21,3 +15,16 @@ entries_of_rings (ring ∷ next ∷ rings) = ring.entries ++ entries_of_rings (n
 -- What all nodes of a joint history noted on their rings.
 abbrev pub noted_on_rings : Joint → List RingEntry
 noted_on_rings joint = entries_of_rings joint.rings
+
+-- The entries of a ring, if there is one.
+abbrev pub entries_if : Option RingLog → List RingEntry
+entries_if None = []
+entries_if (Some ring) = ring.entries
+
+-- The entries of the ring of a network; none where it has no ring.
+abbrev pub entries_on : ℕ → List RingLog → List RingEntry
+entries_on network rings = entries_if (find (λ (ring : RingLog). ring.network == network) rings)
+
+-- What the nodes of a network noted on their ring.
+abbrev pub noted_on : ℕ → Joint → List RingEntry
+noted_on network joint = entries_on network joint.rings

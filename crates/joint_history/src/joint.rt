@@ -1,6 +1,4 @@
 //! What all stations of a plant, its bridges and its rings noted.
-ghost use Rattle.std.specs.Prelude.{◌≡◌, ◌∷◌, [], IfOk};
-
 use bridge_relay::BridgeEntry;
 use controller_core::Entry;
 use host_port::HostEntry;
@@ -92,18 +90,4 @@ impl Copied for Joint {
             rings: self.rings.copied(alloc)?,
         })
     }
-}
-
-/// The history of a plant's one ring, as a list.
-pub fn one_ring(
-    alloc: Global,
-    network: u8,
-    entries: List<RingEntry>,
-) -> Result<List<RingLog>, AllocError>
-    ensures { IfOk result
-        (λ rings. rings ≡ record { network = network; entries = entries } ∷ []) }
-{
-    let mut rings = List::new(alloc);
-    rings.push(RingLog { network, entries })?;
-    Ok(rings)
 }

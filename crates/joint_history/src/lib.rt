@@ -3,6 +3,8 @@
 
 mod joint;
 mod noted;
+mod rings;
 
-pub use joint::{BridgeLog, ControllerLog, HostLog, Joint, RingLog, one_ring};
+pub use joint::{BridgeLog, ControllerLog, HostLog, Joint, RingLog};
 pub use noted::Noted;
+pub use rings::noted_copied;

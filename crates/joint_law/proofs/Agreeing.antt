@@ -15,7 +15,7 @@ use Rattle.plant_types.specs.declared.net.NetPlan.{NetPlan}
 use Rattle.plant_types.specs.declared.plan.ControllerPlan.{ControllerPlan}
 use Rattle.plant_types.specs.declared.plan.Plant.{Plant}
 use Rattle.plant_types.specs.Plans.{IsPlant, controller_nodes, end_nodes, host_nodes, net_numbers}
-use Rattle.plant_types.proofs.OneNet.{rising-distinct}
+use Rattle.plant_types.proofs.Rising.{rising-distinct}
 use Rattle.ring_core.specs.declared.entry.RingEntry.{RingEntry}
 use Rattle.ring_core.specs.Legal.{IsLegalRing}
 use Rattle.tied_lists.specs.Items.{ABridge, AController, AHost, Item, Items, Station, downs_by}

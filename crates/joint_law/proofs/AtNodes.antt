@@ -1,59 +1,62 @@
--- Stations of a plant, and where they stand on its ring.
+-- Stations of a plant and ends of its bridges, and where they stand toward their rings.
 use Rattle.std.proofs.Common.{◌≡◌, ℕ, ◌+◌, ◌<◌, ◌≤◌, Bool, true, false, List, [], ◌∷◌, ◌++◌}
-use Rattle.std.proofs.Common.{length}
-use Rattle.std.proofs.Common.{get_or, map}
-use Rattle.std.proofs.Common.{refl, sym, ap, subst, ◌∙◌, ◌⊎◌, ⊎_elim, arith}
-use Rattle.std.specs.List.{All, Contains, flat_map, zip}
-use Rattle.std.proofs.Math.ListN.{get_or-map}
+use Rattle.std.proofs.Common.{length, get_or, map, None}
+use Rattle.std.proofs.Common.{refl, sym, ap, subst, ◌∙◌, ⊎_elim, arith}
+use Rattle.std.specs.Prelude.{◌↔◌, IsTrue, count_by, Option, unwrap_or}
+use Rattle.std.specs.List.{All, Contains, find, flat_map, zip}
 use Rattle.std.proofs.lemmas.Bool.{cases_lt}
-use Rattle.std.proofs.lemmas.List.{get_or_default, length-map, length-append, get_or_append_left}
+use Rattle.std.proofs.lemmas.List.{get_or_default, length-append, get_or_append_left}
 use Rattle.std.proofs.lemmas.List.{get_or-append-add}
-use Rattle.std.proofs.lemmas.List.Elements.{All-append, All-map, All-nil}
-use Rattle.std.proofs.lemmas.List.Sorted.{All-permutation, IsPermutation-sym}
+use Rattle.std.proofs.lemmas.List.Elements.{All-append, All-contains, All-contains_itself, All-map}
 use Rattle.std.proofs.lemmas.Slice.Zip.{get_or-zip, length-zip}
 use Rattle.plant_types.specs.declared.net.BridgePlan.{BridgePlan}
 use Rattle.plant_types.specs.declared.net.HostPlan.{HostPlan}
 use Rattle.plant_types.specs.declared.net.NetPlan.{NetPlan}
 use Rattle.plant_types.specs.declared.plan.ControllerPlan.{ControllerPlan}
 use Rattle.plant_types.specs.declared.plan.Plant.{Plant}
-use Rattle.plant_types.specs.Plans.{IsPlant, controller_nodes, host_nodes}
-use Rattle.plant_types.specs.Plans.{first_net}
-use Rattle.plant_types.proofs.OneNet.{on-net}
-use Rattle.ring_core.specs.Machine.{addresses}
+use Rattle.plant_types.specs.Plans.{IsNode, IsPlant, has_member, net_of, no_net}
+use Rattle.ring_core.specs.Legal.{IsMember}
+use Rattle.ring_core.specs.Machine.{addresses, admitted_status}
 use Rattle.ring_core.specs.declared.entry.RingEntry.{RingEntry}
+use Rattle.ring_core.specs.declared.status.NodeStatus.{NodeStatus}
+use Rattle.ring_core.specs.declared.status.NodeStatus.TheVariants.{Gone}
+use Rattle.tied_lists.specs.Items.{Items, no_items, replies_in}
+use Rattle.tied_lists.specs.Own.{own}
+use Rattle.tied_lists.specs.Waits.{status_at}
+use Rattle.controller_core.specs.declared.entry.Entry.{Entry}
+use Rattle.host_port.specs.declared.entry.HostEntry.{HostEntry}
+use Rattle.bridge_relay.specs.declared.entry.BridgeEntry.{BridgeEntry}
+use Rattle.bridge_relay.specs.declared.entry.BridgeEntry.TheVariants as bridge_entries
 use Rattle.joint_history.specs.declared.joint.BridgeLog.{BridgeLog}
 use Rattle.joint_history.specs.declared.joint.ControllerLog.{ControllerLog}
 use Rattle.joint_history.specs.declared.joint.HostLog.{HostLog}
 use Rattle.joint_history.specs.declared.joint.Joint.{Joint}
-use Rattle.joint_history.specs.Complete.{ControllerIsComplete, EndsEachCall, IsComplete, StaysOff}
+use Rattle.joint_history.specs.Bridges.{side_items}
+use Rattle.joint_history.specs.Complete.{ControllerIsComplete, EndIsComplete, EndsEachCall}
+use Rattle.joint_history.specs.Complete.{IsComplete, IsCompleteBridgeLog, IsCompleteHostLog}
+use Rattle.joint_history.specs.Complete.{IsCompleteLog, LeavesQuietly, NodeIsComplete}
 use Rattle.joint_history.specs.JointLaws.{fixed_of}
+use Rattle.joint_history.specs.Nets.{noted_on_rings}
 use Rattle.joint_history.specs.Reading.{host_items_of, items_of}
-use Rattle.joint_history.specs.Complete.{IsCompleteBridgeLog, IsCompleteHostLog, IsCompleteLog}
-use Rattle.joint_history.specs.Complete.{NodeIsComplete}
-use Rattle.ring_core.specs.declared.status.NodeStatus.{NodeStatus}
-use Rattle.ring_core.specs.declared.status.NodeStatus.TheVariants.{Away, Gone}
-use Rattle.tied_lists.specs.Items.{Items, no_items, replies_in}
-use Rattle.tied_lists.specs.Own.{own}
-use Rattle.tied_lists.specs.Waits.{status_at}
-use Rattle.joint_law.specs.AllComplete.{AreControllersDone, AreHostNodesDone}
-use Rattle.joint_law.specs.AllComplete.{IsControllerDone, IsFollowed, IsHostNodeDone, IsNodeDone}
-use Rattle.joint_law.specs.AllComplete.{IsOutBy, IsStandingOf, entries_on}
+use Rattle.net_laws.proofs.On.{IsOn, controller-on, host-on, left-on, right-on}
+use Rattle.joint_law.specs.AllComplete.{AreControllersDone, AreEndsDoneOn, AreHostNodesDone}
+use Rattle.joint_law.specs.AllComplete.{IsControllerDone, IsEndDone, IsEndDoneOn, IsFollowed}
+use Rattle.joint_law.specs.AllComplete.{IsHostNodeDone, IsNodeDone, IsOutBy, IsStandingOf}
+use Rattle.joint_law.specs.AllComplete.{own_entries}
+use Rattle.joint_law.specs.Bound.{Bound, bounds_of, controller_bound, host_bound, side_bounds}
 use Rattle.joint_law.specs.Completing.{EachAllows, HostAllows}
 use Rattle.joint_law.specs.Failing.{is_fail}
-use Rattle.controller_core.specs.declared.entry.Entry.{Entry}
-use Rattle.host_port.specs.declared.entry.HostEntry.{HostEntry}
-use Rattle.std.specs.Prelude.{◌↔◌, IsTrue, count_by, Option}
+use Rattle.joint_law.specs.Spots.{AreCompleteEndsAt, HasSections, IsCompleteAt}
+use Rattle.joint_law.specs.Standing.{status_by}
 use Rattle.joint_law.specs.declared.complete.Followed.{Followed}
 use Rattle.joint_law.specs.declared.complete.Standing.{Standing}
-use Rattle.joint_law.specs.Bound.{Bound, bounds_of, controller_bound, host_bound, side_bounds}
-use Rattle.joint_law.specs.Spots.{AreCompleteEndsAt, HasSections, IsCompleteAt}
 use Rattle.joint_law.proofs.CourseSteps.{same-node, same-size, zip-all}
 use Rattle.joint_law.proofs.Fitting.{all-from, done-from, holds-from, host-each, node-each}
 use Rattle.joint_law.proofs.Fitting.{noticed-from, notices-ended, replies-from}
 use Rattle.joint_law.proofs.Founded.{fails-of, host-fails}
 use Rattle.joint_law.proofs.Outside.{out-by, out-from}
 use Rattle.joint_law.proofs.SideBounds.{sides-all}
-use Rattle.joint_history.specs.Nets.{noted_on_rings}
+use Rattle.joint_law.proofs.Stands.{is-gone, stands-by}
 
 -- ---- addresses
 
@@ -69,13 +72,17 @@ plan_node plan = plan.node
 abbrev host_plan_node : HostPlan → ℕ
 host_plan_node plan = plan.node
 
--- all addresses are those of members, and low
-nodes-all : (plant : Plant) → IsPlant plant → (P : ℕ → Type 0) → All P (first_net plant).members
-    → All P (controller_nodes plant ++ host_nodes plant)
-nodes-all plant sound P all =
-    All-permutation P (first_net plant).members (controller_nodes plant ++ host_nodes plant)
-    (IsPermutation-sym (controller_nodes plant ++ host_nodes plant) (first_net plant).members
-    (on-net plant sound).members) all
+abbrev left_of : BridgePlan → ℕ
+left_of plan = plan.left
+
+abbrev left_log : BridgeLog → ℕ
+left_log log = log.left
+
+abbrev right_of : BridgePlan → ℕ
+right_of plan = plan.right
+
+abbrev right_log : BridgeLog → ℕ
+right_log log = log.right
 
 pub first-part : {X : Type 0} (P : X → Type 0) (xs ys : List X) → All P (xs ++ ys) → All P xs
 first-part P xs ys all k d low =
@@ -87,88 +94,108 @@ second-part P xs ys all k d low =
     let n = length-append xs ys in
     subst P (get_or-append-add xs ys k d) (all (length xs + k) d (omega (arith, n)))
 
-from-map : {X : Type 0} (P : ℕ → Type 0) (f : X → ℕ) (xs : List X) → All P (map f xs)
-    → (k : ℕ) (d : X) → k < length xs → P (f (get_or xs k d))
-from-map P f xs all k d low =
-    let n = length-map xs f in subst P (get_or-map f xs k d) (all k (f d) (omega (arith, n)))
+pub item-of : {X : Type 0} (xs : List X) (k : ℕ) → k < length xs → X
+item-of [] k low = absurd (omega arith)
+item-of (x ∷ xs) k low = x
 
-pub controllers-all : (plant : Plant) (joint : Joint) → IsPlant plant → HasSections plant joint
-    → (P : ℕ → Type 0) → All P (first_net plant).members
+-- a node is a member of its network, and low
+record IsAt (plant : Plant) (node : ℕ) : Type 0 where
+  low : node < addresses
+  member : IsMember (net_of plant node) node
+
+at-net : (plant : Plant) (network node other : ℕ) → IsOn plant network node → other ≡ node
+    → IsAt plant other
+at-net plant network node other on same = subst (IsAt plant) (sym same) (record {
+  low =
+      let each = All-contains IsNode on.net.members node on.sound.members.each on.member in
+      let most = each.to in omega (arith, most);
+  member = subst (λ (net : NetPlan). IsMember net node) (sym on.is) on.member;
+})
+
+-- so are the nodes of all controllers
+controllers-at : (plant : Plant) (joint : Joint) → IsPlant plant → HasSections plant joint
     → (k : ℕ) (d : ControllerLog) → k < length joint.controllers
-    → P (get_or joint.controllers k d).node
-controllers-all plant joint sound sections P all =
-    from-map P log_node joint.controllers
-    (subst (All P) (sym sections.controllers)
-    (first-part P (controller_nodes plant) (host_nodes plant) (nodes-all plant sound P all)))
+    → IsAt plant (get_or joint.controllers k d).node
+controllers-at plant joint sound sections k d low =
+    let size = same-size plan_node log_node plant.controllers joint.controllers
+    sections.controllers in
+    let any = item-of plant.controllers k (omega (arith, size, low)) in
+    let plan = get_or plant.controllers k any in
+    let there = All-contains_itself plant.controllers k any (omega (arith, size, low)) in
+    at-net plant plan.network plan.node _ (controller-on plant plan sound there)
+    (same-node plan_node log_node plant.controllers joint.controllers sections.controllers k any d
+    (omega (arith, size, low)))
 
-pub hosts-all : (plant : Plant) (joint : Joint) → IsPlant plant → HasSections plant joint
-    → (P : ℕ → Type 0) → All P (first_net plant).members
-    → (k : ℕ) (d : HostLog) → k < length joint.hosts → P (get_or joint.hosts k d).node
-hosts-all plant joint sound sections P all =
-    from-map P host_log_node joint.hosts
-    (subst (All P) (sym sections.hosts)
-    (second-part P (controller_nodes plant) (host_nodes plant) (nodes-all plant sound P all)))
+-- of all hosts
+hosts-at : (plant : Plant) (joint : Joint) → IsPlant plant → HasSections plant joint
+    → (k : ℕ) (d : HostLog) → k < length joint.hosts → IsAt plant (get_or joint.hosts k d).node
+hosts-at plant joint sound sections k d low =
+    let size = same-size host_plan_node host_log_node plant.hosts joint.hosts sections.hosts in
+    let any = item-of plant.hosts k (omega (arith, size, low)) in
+    let plan = get_or plant.hosts k any in
+    let there = All-contains_itself plant.hosts k any (omega (arith, size, low)) in
+    at-net plant plan.network plan.node _ (host-on plant plan sound there)
+    (same-node host_plan_node host_log_node plant.hosts joint.hosts sections.hosts k any d
+    (omega (arith, size, low)))
 
-pub members-low : (plant : Plant) → IsPlant plant
-    → All (λ m. m < addresses) (first_net plant).members
-members-low plant sound k d low =
-    let n = (on-net plant sound).plan.members.each k d low in let t = n.to in omega (arith, t)
-
-members-in : (xs : List ℕ) → All (Contains xs) xs
-members-in xs k d low = (k, low, get_or_default xs k (get_or xs k d) d low)
-
--- so are those of the ends of bridges
-sides-low : (plant : Plant) (joint : Joint) → IsPlant plant → HasSections plant joint
+-- and of all ends of bridges
+sides-at : (plant : Plant) (joint : Joint) → IsPlant plant → HasSections plant joint
     → (k : ℕ) (d : BridgeLog) → k < length joint.bridges
-    → ((get_or joint.bridges k d).left < addresses) × ((get_or joint.bridges k d).right < addresses)
-sides-low plant joint sound sections k d low =
-    let size = same-size (λ (p : BridgePlan). p.left) (λ (g : BridgeLog). g.left) plant.bridges
-    joint.bridges sections.lefts in
-    let within : k < length plant.bridges = omega (arith, size, low) in
-    let plan = sound.bridges k any_plan within in
-    let left = same-node (λ (p : BridgePlan). p.left) (λ (g : BridgeLog). g.left) plant.bridges
-    joint.bridges sections.lefts k any_plan d within in
-    let right = same-node (λ (p : BridgePlan). p.right) (λ (g : BridgeLog). g.right) plant.bridges
-    joint.bridges sections.rights k any_plan d within in (
-      let t = plan.plan.left.to in omega (arith, t, left),
-      let t = plan.plan.right.to in omega (arith, t, right),
+    → IsAt plant (get_or joint.bridges k d).left × IsAt plant (get_or joint.bridges k d).right
+sides-at plant joint sound sections k d low =
+    let size = same-size left_of left_log plant.bridges joint.bridges sections.lefts in
+    let any = item-of plant.bridges k (omega (arith, size, low)) in
+    let plan = get_or plant.bridges k any in
+    let there = All-contains_itself plant.bridges k any (omega (arith, size, low)) in (
+      at-net plant plan.left_net plan.left _ (left-on plant plan sound there)
+          (same-node left_of left_log plant.bridges joint.bridges sections.lefts k any d
+          (omega (arith, size, low))),
+      at-net plant plan.right_net plan.right _ (right-on plant plan sound there)
+          (same-node right_of right_log plant.bridges joint.bridges sections.rights k any d
+          (omega (arith, size, low))),
     )
-  where
-    any_plan : BridgePlan
-    any_plan = record { left_net = 0; left = 0; right_net = 0; right = 0 }
+
+-- a host has a network
+pub host-has-net : (plant : Plant) (plan : HostPlan) → IsPlant plant → Contains plant.hosts plan
+    → find (has_member plan.node) plant.nets ≡ None → ⊥
+host-has-net plant plan sound there none =
+    let on = host-on plant plan sound there in
+    let member = subst (λ (net : NetPlan). IsMember net plan.node)
+    (sym on.is ∙ ap (λ o. unwrap_or o no_net) none) on.member in
+    let low = member.1 in omega (arith, low)
 
 pub bounds-low : (plant : Plant) (joint : Joint) → IsPlant plant → HasSections plant joint
     → All (λ (s : Bound). s.node < addresses) (bounds_of joint)
 bounds-low plant joint sound sections =
     let low : Bound → Type 0 = λ (s : Bound). s.node < addresses in
-    let controllers = map (controller_bound (noted_on_rings joint)) joint.controllers in
-    let hosts = map (host_bound (noted_on_rings joint)) joint.hosts in
-    All-append low (controllers ++ hosts)
-    (flat_map (side_bounds (noted_on_rings joint)) joint.bridges)
+    let ring = noted_on_rings joint in
+    let controllers = map (controller_bound ring) joint.controllers in
+    let hosts = map (host_bound ring) joint.hosts in
+    All-append low (controllers ++ hosts) (flat_map (side_bounds ring) joint.bridges)
     (All-append low controllers hosts
-    (All-map low (controller_bound (noted_on_rings joint)) joint.controllers
-    (controllers-all plant joint sound sections (λ m. m < addresses)
-    (members-low plant sound)))
-    (All-map low (host_bound (noted_on_rings joint)) joint.hosts
-    (hosts-all plant joint sound sections (λ m. m < addresses) (members-low plant sound))))
-    (sides-all low (noted_on_rings joint) joint.bridges (sides-low plant joint sound sections))
+    (All-map low (controller_bound ring) joint.controllers
+    (λ k d within. (controllers-at plant joint sound sections k d within).low))
+    (All-map low (host_bound ring) joint.hosts
+    (λ k d within. (hosts-at plant joint sound sections k d within).low)))
+    (sides-all low ring joint.bridges (λ k d within.
+    let at = sides-at plant joint sound sections k d within in (at.0.low, at.1.low)))
 
 -- ---- one node
 
 -- a node's entries behind the whole list
-stands-own : (ring : List RingEntry) (net : NetPlan) (node : ℕ) (on : Standing)
-    → IsStandingOf ring net node on → entries_on on ≡ own on.node ring
-stands-own ring net node on stands =
+stands-own : (ring : List RingEntry) (node : ℕ) (on : Standing) → IsStandingOf ring node on
+    → own_entries on ≡ own on.node ring
+stands-own ring node on stands =
     stands.places.own_is ∙ (λ i. own ((sym stands.node_is) i) (stands.ring_is i))
 
 -- and where it stands, at the address of a log
-stands-at : (ring : List RingEntry) (net : NetPlan) (node at : ℕ) (on : Standing)
-    → IsStandingOf ring net node on → Contains net.members at → at ≡ on.node
-    → on.status ≡ status_at net ring at
-stands-at ring net node at on stands member same =
-    let here : at ≡ node = same ∙ stands.node_is in
-    stands.status (subst (Contains net.members) here member)
-    ∙ ap (status_at net ring) (sym here)
+stands-at : (plant : Plant) (ring : List RingEntry) (node at : ℕ) (on : Standing)
+    → IsStandingOf ring node on → IsAt plant at → at ≡ on.node
+    → on.status ≡ admitted_status (status_at (net_of plant at) ring at)
+stands-at plant ring node at on stands is same =
+    stands.status
+    ∙ (ap status_by (stands-own ring node on stands ∙ ap (λ (m : ℕ). own m ring) (sym same))
+    ∙ sym (stands-by (net_of plant at) ring at is.low is.member))
 
 node-complete : (items : Items) (fails : ℕ) (b : List RingEntry) → items.fails ≡ fails
     → IsNodeDone (replies_in items.answers) fails b → NodeIsComplete items b
@@ -188,36 +215,35 @@ complete-node items fails b count c = record {
 -- a controller and its node are complete where they were done, and the other way
 log-complete : (plant : Plant) (scans : ℕ) (ring : List RingEntry) (plan : ControllerPlan)
     (log : ControllerLog) (status : NodeStatus) (is_done : Bool)
-    → status ≡ status_at (first_net plant) ring log.node
+    → status ≡ admitted_status (status_at (net_of plant log.node) ring log.node)
     → (is_done ≡ true → ControllerIsComplete (fixed_of plant scans plan) log.entries)
     → IsControllerDone scans status log is_done (own log.node ring)
     → IsCompleteLog plant scans ring plan log
 log-complete plant scans ring plan log status is_done at whole d = (
   whole d.done,
-  subst (λ (s : NodeStatus). (s ≡ Gone)
-      ⊎ ((s ≡ Away) × StaysOff (fixed_of plant scans plan) log.entries)) at
-      (out-from status (fixed_of plant scans plan) log.entries d.out),
+  out-from status (status_at (net_of plant log.node) ring log.node) (fixed_of plant scans plan)
+      log.entries at d.out,
   node-complete (items_of log.entries) _ (own log.node ring) (fails-of log.entries) d.node,
 )
 
 complete-log : (plant : Plant) (scans : ℕ) (ring : List RingEntry) (plan : ControllerPlan)
     (log : ControllerLog) (status : NodeStatus) (is_done : Bool)
-    → status ≡ status_at (first_net plant) ring log.node
+    → status ≡ admitted_status (status_at (net_of plant log.node) ring log.node)
     → (ControllerIsComplete (fixed_of plant scans plan) log.entries → is_done ≡ true)
     → IsCompleteLog plant scans ring plan log
     → IsControllerDone scans status log is_done (own log.node ring)
 complete-log plant scans ring plan log status is_done at whole c = record {
   done = whole c.0;
   out =
-      out-by status (fixed_of plant scans plan) log.entries
-      (subst (λ (s : NodeStatus). (s ≡ Gone)
-      ⊎ ((s ≡ Away) × StaysOff (fixed_of plant scans plan) log.entries)) (sym at) c.1);
+      out-by status (status_at (net_of plant log.node) ring log.node)
+      (fixed_of plant scans plan) log.entries at c.1;
   node = complete-node (items_of log.entries) _ (own log.node ring) (fails-of log.entries) c.2;
 }
 
 -- so it is with a host
 host-complete : (plant : Plant) (ring : List RingEntry) (plan : HostPlan) (log : HostLog)
-    (status : NodeStatus) (is_done : Bool) → status ≡ status_at (first_net plant) ring log.node
+    (status : NodeStatus) (is_done : Bool)
+    → status ≡ admitted_status (status_at (net_of plant log.node) ring log.node)
     → (is_done ≡ true → EndsEachCall (host_items_of log.entries))
     → IsHostNodeDone plan status log is_done (own log.node ring)
     → IsCompleteHostLog plant ring plan log
@@ -227,84 +253,121 @@ host-complete plant ring plan log status is_done at whole d = (
     holds = holds-from plan (own log.node ring) d.asks;
     asked = all-from plan (own log.node ring) d.asks;
   },
-  sym at ∙ d.gone,
+  is-gone (status_at (net_of plant log.node) ring log.node) (sym at ∙ d.gone),
   node-complete (host_items_of log.entries) 0 (own log.node ring)
       (host-fails no_items log.entries) d.node,
 )
 
 complete-host : (plant : Plant) (ring : List RingEntry) (plan : HostPlan) (log : HostLog)
-    (status : NodeStatus) (is_done : Bool) → status ≡ status_at (first_net plant) ring log.node
+    (status : NodeStatus) (is_done : Bool)
+    → status ≡ admitted_status (status_at (net_of plant log.node) ring log.node)
     → (EndsEachCall (host_items_of log.entries) → is_done ≡ true)
     → IsCompleteHostLog plant ring plan log
     → IsHostNodeDone plan status log is_done (own log.node ring)
 complete-host plant ring plan log status is_done at whole c = record {
   done = whole c.0.answered;
-  gone = at ∙ c.1;
+  gone = at ∙ ap admitted_status c.1;
   node =
       complete-node (host_items_of log.entries) 0 (own log.node ring)
       (host-fails no_items log.entries) c.2;
   asks = host-each plan (own log.node ring) c.0.holds c.0.asked;
 }
 
--- all stations of an address are complete where they were done: as yet a plant has no bridge
+-- and with an end of a bridge at a node
+end-complete : (plant : Plant) (ring : List RingEntry) (node : ℕ) (list : List BridgeEntry)
+    (side : ℕ) (on : Standing) → IsStandingOf ring node on → IsAt plant side
+    → IsEndDoneOn on list side → side ≡ on.node
+    → EndIsComplete (net_of plant side) ring list side
+end-complete plant ring node list side on stands at done same =
+    let d = done same in
+    record {
+      finished = d.finished;
+      gone = d.gone;
+      left =
+          is-gone (status_at (net_of plant side) ring side)
+          (sym (stands-at plant ring node side on stands at same) ∙ d.left);
+      quiet =
+          subst LeavesQuietly
+          (stands-own ring node on stands ∙ ap (λ (m : ℕ). own m ring) (sym same)) d.quiet;
+    }
+
+complete-end : (plant : Plant) (ring : List RingEntry) (node : ℕ) (list : List BridgeEntry)
+    (side : ℕ) (on : Standing) → IsStandingOf ring node on → IsAt plant side
+    → (side ≡ on.node → EndIsComplete (net_of plant side) ring list side)
+    → IsEndDoneOn on list side
+complete-end plant ring node list side on stands at complete same =
+    let c = complete same in
+    record {
+      finished = c.finished;
+      gone = c.gone;
+      left = stands-at plant ring node side on stands at same ∙ ap admitted_status c.left;
+      quiet =
+          subst LeavesQuietly
+          (ap (λ (m : ℕ). own m ring) same ∙ sym (stands-own ring node on stands)) c.quiet;
+    }
+
+-- all stations and all ends of bridges of an address are complete where they were done
 pub at-complete : (plant : Plant) (scans : ℕ) (joint : Joint) (followed : Followed) (node : ℕ)
     (on : Standing) → IsPlant plant → HasSections plant joint
-    → IsFollowed plant scans joint followed
-    → IsStandingOf (noted_on_rings joint) (first_net plant) node on
+    → IsFollowed plant scans joint followed → IsStandingOf (noted_on_rings joint) node on
     → AreControllersDone scans joint.controllers followed.done.now on.node on.status
-    (entries_on on)
+    (own_entries on)
     → AreHostNodesDone plant.hosts joint.hosts followed.hosts_done.now on.node on.status
-    (entries_on on)
-    → IsCompleteAt plant scans joint node
-at-complete plant scans joint followed node on sound sections is stands controllers hosts =
-    let own-is = stands-own (noted_on_rings joint) (first_net plant) node on stands in
+    (own_entries on)
+    → All (AreEndsDoneOn on) joint.bridges → IsCompleteAt plant scans joint node
+at-complete plant scans joint followed node on sound sections is stands controllers hosts ends =
+    let ring = noted_on_rings joint in
+    let own-is = stands-own ring node on stands in
     subst (IsCompleteAt plant scans joint) stands.node_is (record {
       controllers = λ k d low.
           let size = same-size plan_node log_node plant.controllers joint.controllers
           sections.controllers in
           let n = length-zip plant.controllers joint.controllers in
           subst (λ (of : ControllerPlan × ControllerLog). of.1.node ≡ on.node
-          → IsCompleteLog plant scans (noted_on_rings joint) of.0 of.1)
+          → IsCompleteLog plant scans ring of.0 of.1)
           (sym (get_or-zip plant.controllers joint.controllers k d (omega (arith, size, n))
           (omega (arith, size, n))))
           (λ same.
           let log = get_or joint.controllers k d.1 in
-          let member = controllers-all plant joint sound sections
-          (Contains (first_net plant).members)
-          (members-in (first_net plant).members) k d.1 (omega (arith, size, n)) in
-          log-complete plant scans (noted_on_rings joint) (get_or plant.controllers k d.0) log
-          on.status
+          let at = controllers-at plant joint sound sections k d.1 (omega (arith, size, n)) in
+          log-complete plant scans ring (get_or plant.controllers k d.0) log on.status
           (get_or followed.done.now k false)
-          (stands-at (noted_on_rings joint) (first_net plant) node log.node on stands member same)
+          (stands-at plant ring node log.node on stands at same)
           (is.done.each k d.0 d.1 (omega (arith, size, n))).0
           (subst (IsControllerDone scans on.status log (get_or followed.done.now k false))
-          (own-is ∙ ap (λ (m : ℕ). own m (noted_on_rings joint)) (sym same))
+          (own-is ∙ ap (λ (m : ℕ). own m ring) (sym same))
           (controllers k d.1 (omega (arith, size, n)) same)));
       hosts = λ k d low.
           let size = same-size host_plan_node host_log_node plant.hosts joint.hosts
           sections.hosts in
           let n = length-zip plant.hosts joint.hosts in
           subst (λ (of : HostPlan × HostLog). of.1.node ≡ on.node
-          → IsCompleteHostLog plant (noted_on_rings joint) of.0 of.1)
+          → IsCompleteHostLog plant ring of.0 of.1)
           (sym (get_or-zip plant.hosts joint.hosts k d (omega (arith, size, n))
           (omega (arith, size, n))))
           (λ same.
           let log = get_or joint.hosts k d.1 in
-          let member = hosts-all plant joint sound sections (Contains (first_net plant).members)
-          (members-in (first_net plant).members) k d.1 (omega (arith, size, n)) in
-          host-complete plant (noted_on_rings joint) (get_or plant.hosts k d.0) log on.status
+          let at = hosts-at plant joint sound sections k d.1 (omega (arith, size, n)) in
+          host-complete plant ring (get_or plant.hosts k d.0) log on.status
           (get_or followed.hosts_done.now k false)
-          (stands-at (noted_on_rings joint) (first_net plant) node log.node on stands member same)
+          (stands-at plant ring node log.node on stands at same)
           (is.hosts.each k d.1 (omega (arith, size, n))).0
           (subst (IsHostNodeDone (get_or plant.hosts k d.0) on.status log
           (get_or followed.hosts_done.now k false))
-          (own-is ∙ ap (λ (m : ℕ). own m (noted_on_rings joint)) (sym same))
+          (own-is ∙ ap (λ (m : ℕ). own m ring) (sym same))
           (hosts k d.0 d.1 (omega (arith, size, n)) same)));
-      bridges = subst (λ (plans : List BridgePlan).
-          All (λ of. AreCompleteEndsAt plant (noted_on_rings joint) on.node of.1)
-          (zip plans joint.bridges)) (sym sound.alone.no_bridge)
-          (All-nil (λ (of : BridgePlan × BridgeLog).
-          AreCompleteEndsAt plant (noted_on_rings joint) on.node of.1));
+      bridges = λ k d low.
+          let size = same-size left_of left_log plant.bridges joint.bridges sections.lefts in
+          let n = length-zip plant.bridges joint.bridges in
+          let log = get_or joint.bridges k d.1 in
+          let at = sides-at plant joint sound sections k d.1 (omega (arith, size, n)) in
+          let both = ends k d.1 (omega (arith, size, n)) in
+          subst (λ (of : BridgePlan × BridgeLog). AreCompleteEndsAt plant ring on.node of.1)
+          (sym (get_or-zip plant.bridges joint.bridges k d (omega (arith, size, n))
+          (omega (arith, size, n)))) (
+            end-complete plant ring node log.entries log.left on stands at.0 both.0,
+            end-complete plant ring node log.entries log.right on stands at.1 both.1,
+          );
     })
 
 -- what holds of each pair that stands together
@@ -315,10 +378,6 @@ pair-at X plans logs size all k p g low =
     let n = length-zip plans logs in
     subst X (get_or-zip plans logs k (p, g) low (omega (arith, size)))
     (all k (p, g) (omega (arith, n, size)))
-
-pub item-of : {X : Type 0} (xs : List X) (k : ℕ) → k < length xs → X
-item-of [] k low = absurd (omega arith)
-item-of (x ∷ xs) k low = x
 
 -- a station was done where its node was, beside what its list gives
 node-as : (P Q : List (Option (List ℕ))) (m n : ℕ) (b : List RingEntry) → P ≡ Q → m ≡ n
@@ -363,6 +422,15 @@ host-tested node status plan log is_done done b es P entries answers same whole 
       },
       λ all. tested.1 (node-as _ P 0 0 b (sym replies) refl (all same).node),
     )
+
+pub end-tested : (node side : ℕ) (status : NodeStatus) (list : List BridgeEntry)
+    (b : List RingEntry) (done : Bool) → status ≡ Gone → Contains list (bridge_entries.Gone side)
+    → LeavesQuietly b → side ≡ node → IsTrue done ↔ EndsEachCall (side_items side list)
+    → IsTrue done ↔ (side ≡ node → IsEndDone status list side b)
+end-tested node side status list b done left gone quiet same tested = (
+  λ yes _. record { finished = tested.0 yes; gone = gone; left = left; quiet = quiet },
+  λ all. tested.1 (all same).finished,
+)
 
 -- hosts so far, and one more
 pub hosts-more : (plans : List HostPlan) (logs : List HostLog) (done : List Bool) (node : ℕ)
@@ -413,56 +481,64 @@ controllers-more scans logs done node status b i g before low is here k d below 
 -- and they were done where they are complete
 pub controllers-done : (plant : Plant) (scans : ℕ) (joint : Joint) (followed : Followed)
     (node : ℕ) (on : Standing) → IsPlant plant → HasSections plant joint
-    → IsFollowed plant scans joint followed
-    → IsStandingOf (noted_on_rings joint) (first_net plant) node on
+    → IsFollowed plant scans joint followed → IsStandingOf (noted_on_rings joint) node on
     → IsCompleteAt plant scans joint node
     → AreControllersDone scans joint.controllers followed.done.now on.node on.status
-    (entries_on on)
+    (own_entries on)
 controllers-done plant scans joint followed node on sound sections is stands complete k d low
     same =
+    let ring = noted_on_rings joint in
     let size = same-size plan_node log_node plant.controllers joint.controllers
     sections.controllers in
     let plan = item-of plant.controllers k (omega (arith, size)) in
     let log = get_or joint.controllers k d in
-    let pair = pair-at (λ of. of.1.node ≡ node
-    → IsCompleteLog plant scans (noted_on_rings joint) of.0 of.1)
+    let pair = pair-at (λ of. of.1.node ≡ node → IsCompleteLog plant scans ring of.0 of.1)
     plant.controllers joint.controllers size complete.controllers k plan d
     (omega (arith, size)) (same ∙ stands.node_is) in
-    let member = controllers-all plant joint sound sections (Contains (first_net plant).members)
-    (members-in (first_net plant).members) k d low in
+    let at = controllers-at plant joint sound sections k d low in
     subst (IsControllerDone scans on.status log (get_or followed.done.now k false))
-    (ap (λ (m : ℕ). own m (noted_on_rings joint)) same
-    ∙ sym (stands-own (noted_on_rings joint) (first_net plant) node on stands))
-    (complete-log plant scans (noted_on_rings joint) (get_or plant.controllers k plan) log
-    on.status
-    (get_or followed.done.now k false)
-    (stands-at (noted_on_rings joint) (first_net plant) node log.node on stands member same)
+    (ap (λ (m : ℕ). own m ring) same ∙ sym (stands-own ring node on stands))
+    (complete-log plant scans ring (get_or plant.controllers k plan) log on.status
+    (get_or followed.done.now k false) (stands-at plant ring node log.node on stands at same)
     (is.done.each k plan d (omega (arith, size))).1 pair)
 
 pub hosts-done : (plant : Plant) (scans : ℕ) (joint : Joint) (followed : Followed) (node : ℕ)
     (on : Standing) → IsPlant plant → HasSections plant joint
-    → IsFollowed plant scans joint followed
-    → IsStandingOf (noted_on_rings joint) (first_net plant) node on
+    → IsFollowed plant scans joint followed → IsStandingOf (noted_on_rings joint) node on
     → IsCompleteAt plant scans joint node
     → AreHostNodesDone plant.hosts joint.hosts followed.hosts_done.now on.node on.status
-    (entries_on on)
+    (own_entries on)
 hosts-done plant scans joint followed node on sound sections is stands complete k p d low same =
+    let ring = noted_on_rings joint in
     let size = same-size host_plan_node host_log_node plant.hosts joint.hosts sections.hosts in
     let log = get_or joint.hosts k d in
-    let pair = pair-at (λ of. of.1.node ≡ node
-    → IsCompleteHostLog plant (noted_on_rings joint) of.0 of.1)
+    let pair = pair-at (λ of. of.1.node ≡ node → IsCompleteHostLog plant ring of.0 of.1)
     plant.hosts joint.hosts size complete.hosts k p d (omega (arith, size))
     (same ∙ stands.node_is) in
-    let member = hosts-all plant joint sound sections (Contains (first_net plant).members)
-    (members-in (first_net plant).members) k d low in
+    let at = hosts-at plant joint sound sections k d low in
     subst (IsHostNodeDone (get_or plant.hosts k p) on.status log
     (get_or followed.hosts_done.now k false))
-    (ap (λ (m : ℕ). own m (noted_on_rings joint)) same
-    ∙ sym (stands-own (noted_on_rings joint) (first_net plant) node on stands))
-    (complete-host plant (noted_on_rings joint) (get_or plant.hosts k p) log on.status
-    (get_or followed.hosts_done.now k false)
-    (stands-at (noted_on_rings joint) (first_net plant) node log.node on stands member same)
+    (ap (λ (m : ℕ). own m ring) same ∙ sym (stands-own ring node on stands))
+    (complete-host plant ring (get_or plant.hosts k p) log on.status
+    (get_or followed.hosts_done.now k false) (stands-at plant ring node log.node on stands at same)
     (is.hosts.each k d (omega (arith, size))).1 pair)
+
+pub ends-done : (plant : Plant) (scans : ℕ) (joint : Joint) (node : ℕ) (on : Standing)
+    → IsPlant plant → HasSections plant joint → IsStandingOf (noted_on_rings joint) node on
+    → IsCompleteAt plant scans joint node → All (AreEndsDoneOn on) joint.bridges
+ends-done plant scans joint node on sound sections stands complete k d low =
+    let ring = noted_on_rings joint in
+    let size = same-size left_of left_log plant.bridges joint.bridges sections.lefts in
+    let plan = item-of plant.bridges k (omega (arith, size)) in
+    let log = get_or joint.bridges k d in
+    let pair = pair-at (λ of. AreCompleteEndsAt plant ring node of.1) plant.bridges
+    joint.bridges size complete.bridges k plan d (omega (arith, size)) in
+    let at = sides-at plant joint sound sections k d low in (
+      complete-end plant ring node log.entries log.left on stands at.0
+          (λ same. pair.0 (same ∙ stands.node_is)),
+      complete-end plant ring node log.entries log.right on stands at.1
+          (λ same. pair.1 (same ∙ stands.node_is)),
+    )
 
 -- ---- all
 
@@ -478,8 +554,8 @@ all-complete plant scans joint sound sections each = record {
       joint.controllers size
       (λ k p g low.
       let node = (get_or joint.controllers k g).node in
-      let at = each node (controllers-all plant joint sound sections (λ m. m < addresses)
-      (members-low plant sound) k g (omega (arith, size))) in
+      let at = each node
+      (controllers-at plant joint sound sections k g (omega (arith, size))).low in
       pair-at (λ of. of.1.node ≡ node → IsCompleteLog plant scans (noted_on_rings joint) of.0 of.1)
       plant.controllers joint.controllers size at.controllers k p g low refl);
   hosts =
@@ -487,21 +563,18 @@ all-complete plant scans joint sound sections each = record {
       zip-all (IsCompleteHostLog plant (noted_on_rings joint)) plant.hosts joint.hosts size
       (λ k p g low.
       let node = (get_or joint.hosts k g).node in
-      let at = each node (hosts-all plant joint sound sections (λ m. m < addresses)
-      (members-low plant sound) k g (omega (arith, size))) in
+      let at = each node (hosts-at plant joint sound sections k g (omega (arith, size))).low in
       pair-at (λ of. of.1.node ≡ node → IsCompleteHostLog plant (noted_on_rings joint) of.0 of.1)
-      plant.hosts
-      joint.hosts size at.hosts k p g low refl);
+      plant.hosts joint.hosts size at.hosts k p g low refl);
   bridges =
-      let size = same-size (λ (p : BridgePlan). p.left) (λ (g : BridgeLog). g.left) plant.bridges
-      joint.bridges sections.lefts in
+      let size = same-size left_of left_log plant.bridges joint.bridges sections.lefts in
       zip-all (IsCompleteBridgeLog plant (noted_on_rings joint)) plant.bridges joint.bridges size
       (λ k p g low.
       let log = get_or joint.bridges k g in
-      let are = sides-low plant joint sound sections k g (omega (arith, size)) in (
+      let are = sides-at plant joint sound sections k g (omega (arith, size)) in (
         (pair-at (λ of. AreCompleteEndsAt plant (noted_on_rings joint) log.left of.1)
-            plant.bridges joint.bridges size (each log.left are.0).bridges k p g low).0 refl,
+            plant.bridges joint.bridges size (each log.left are.0.low).bridges k p g low).0 refl,
         (pair-at (λ of. AreCompleteEndsAt plant (noted_on_rings joint) log.right of.1)
-            plant.bridges joint.bridges size (each log.right are.1).bridges k p g low).1 refl,
+            plant.bridges joint.bridges size (each log.right are.1.low).bridges k p g low).1 refl,
       ));
 }

@@ -14,7 +14,6 @@ use Rattle.plant_types.specs.declared.net.NetPlan.{NetPlan}
 use Rattle.plant_types.specs.declared.plan.ControllerPlan.{ControllerPlan}
 use Rattle.plant_types.specs.declared.plan.Plant.{Plant}
 use Rattle.plant_types.specs.Plans.{IsPlant}
-use Rattle.ring_core.specs.declared.bare.BareRing.{BareRing}
 use Rattle.ring_core.specs.Legal.{IsLegalRing}
 use Rattle.controller_core.specs.declared.notes.Notes.{Notes}
 use Rattle.controller_core.specs.Controller.{IsLegal}
@@ -30,9 +29,8 @@ use Rattle.joint_history.specs.JointLaws.{IsLegalBridgeLog, IsLegalHostLog, IsLe
 use Rattle.joint_history.specs.JointLaws.{IsLegalRingLog, fixed_of}
 use Rattle.joint_history.specs.Noted.{notes_by_log, notes_in}
 use Rattle.joint_history.specs.Reading.{host_items_of}
-use Rattle.joint_law.specs.AllCourses.{AreHostsDone, AreRingsBehind, AreWholeCourses}
+use Rattle.joint_law.specs.AllCourses.{AreHostsDone, AreWholeCourses}
 use Rattle.joint_law.specs.Differing.{BreaksAt}
-use Rattle.joint_law.specs.RingFollowing.{IsRingBehind}
 use Rattle.joint_law.specs.Spots.{AreLegalBridgeLogs, AreLegalHostLogs, AreLegalLogs}
 use Rattle.joint_law.specs.Spots.{AreLegalRingLogs, BridgeSpot, ControllerSpot, HasSections}
 use Rattle.joint_law.specs.Spots.{HostSpot, RingSpot}
@@ -349,49 +347,19 @@ bridges-end plant joint plans logs k plans-are logs-are sections all legal =
 
 -- ---- rings
 
-abbrev pub RingsBehind : List NetPlan → List RingLog → List BareRing → ℕ → Type 0
-RingsBehind nets logs rings k =
-    (j : ℕ) (net : NetPlan) (log : RingLog) (bare : BareRing) → j < k
-    → IsRingBehind (get_or nets j net) (get_or logs j log).entries (get_or rings j bare)
+abbrev pub RingsLegal : List NetPlan → List RingLog → ℕ → Type 0
+RingsLegal nets logs k =
+    (j : ℕ) (p : NetPlan) (g : RingLog) → j < k
+    → IsLegalRing (get_or nets j p) (get_or logs j g).entries
 
--- one more ring is behind its list
-pub rings-next : (nets : List NetPlan) (logs : List RingLog) (rings : List BareRing)
-    (b : BareRing) (k : ℕ) (p : NetPlan) (g : RingLog) → length rings ≡ k
-    → RingsBehind nets logs rings k
-    → k < length nets → k < length logs → p ≡ get_or nets k p → g ≡ get_or logs k g
-    → IsRingBehind p g.entries b → RingsBehind nets logs (rings ++ b ∷ []) (k + 1)
-rings-next nets logs rings b k p g size before low-p low-g is-p is-g here j q h d below =
-    ⊎_elim (λ (l : j < k). subst (IsRingBehind (get_or nets j q) (get_or logs j h).entries)
-    (sym (get_or_append_left rings (b ∷ []) d j (omega (arith, size)))) (before j q h d l))
-    (λ (l : k ≤ j).
-    let e : k ≡ j = omega arith in
-    subst (IsRingBehind (get_or nets j q) (get_or logs j h).entries)
-    (sym (get_or_push rings b d j (size ∙ e)))
-    (subst (λ (n : ℕ). IsRingBehind (get_or nets n q) (get_or logs n h).entries b) e
-    (subst (λ (x : NetPlan). IsRingBehind x (get_or logs k h).entries b)
-    (is-p ∙ get_or_default nets k p q low-p)
-    (subst (λ (x : RingLog). IsRingBehind p x.entries b)
-    (is-g ∙ get_or_default logs k g h low-g) here))))
-    (cases_lt j k)
-
-pub ring-size-next : (rings : List BareRing) (b : BareRing) (k : ℕ) → length rings ≡ k
-    → length (rings ++ b ∷ []) ≡ k + 1
-ring-size-next rings b k size = let n = length_push rings b in omega (arith, n, size)
-
--- a ring is there, where a list is followed
-some-ring : (rings : List BareRing) (k : ℕ) → k < length rings → BareRing
-some-ring [] k low = absurd (omega arith)
-some-ring (b ∷ rings) k low = b
-
-ring-spot-of : (plant : Plant) (scans : ℕ) (joint : Joint) (rings : List BareRing) (k place : ℕ)
-    (net : NetPlan) (log : RingLog) → IsPlant plant → HasSections plant joint
-    → AreLegalLogs plant scans joint → AreLegalHostLogs plant joint
-    → AreLegalBridgeLogs plant joint → k < length plant.nets → length rings ≡ k
+ring-spot-of : (plant : Plant) (scans : ℕ) (joint : Joint) (k place : ℕ) (net : NetPlan)
+    (log : RingLog) → IsPlant plant → HasSections plant joint → AreLegalLogs plant scans joint
+    → AreLegalHostLogs plant joint → AreLegalBridgeLogs plant joint → k < length plant.nets
     → net ≡ get_or plant.nets k net → log ≡ get_or joint.rings k log
-    → RingsBehind plant.nets joint.rings rings k
+    → RingsLegal plant.nets joint.rings k
     → BreaksAt (IsLegalRing net) log.entries place → RingSpot plant scans joint log.network place
-ring-spot-of plant scans joint rings k place net log sound sections controllers hosts bridges low
-    count is-p is-g before breaks =
+ring-spot-of plant scans joint k place net log sound sections controllers hosts bridges low is-p
+    is-g before breaks =
     let size = same-size (λ (p : NetPlan). p.number) (λ (g : RingLog). g.network) plant.nets
     joint.rings sections.rings in
     record {
@@ -402,9 +370,7 @@ ring-spot-of plant scans joint rings k place net log sound sections controllers 
       earlier =
           earlier-all (λ (p : NetPlan). p.number) (λ (g : RingLog). g.network)
           (λ p g. IsLegalRing p g.entries) plant.nets joint.rings sections.rings
-          sound.nets_rise k log low is-g
-          (λ j p g less.
-          (before j p g (some-ring rings j (omega (arith, count, less))) less).legal);
+          sound.nets_rise k log low is-g before;
       here =
           here-any (λ of. (of.1.network ≡ log.network)
           × BreaksAt (IsLegalRing of.0) of.1.entries place) plant.nets joint.rings k net log
@@ -412,43 +378,34 @@ ring-spot-of plant scans joint rings k place net log sound sections controllers 
     }
 
 pub ring-spot : (plant : Plant) (scans : ℕ) (joint : Joint) (nets : List NetPlan)
-    (logs : List RingLog) (rings : List BareRing) (k place network : ℕ) (net : NetPlan)
-    (log : RingLog)
+    (logs : List RingLog) (k place network : ℕ) (net : NetPlan) (log : RingLog)
     → nets ≡ plant.nets → logs ≡ joint.rings → IsPlant plant → HasSections plant joint
     → AreLegalLogs plant scans joint → AreLegalHostLogs plant joint
-    → AreLegalBridgeLogs plant joint → k < length nets → length rings ≡ k
+    → AreLegalBridgeLogs plant joint → k < length nets
     → net ≡ get_or nets k net → log ≡ get_or logs k log → network ≡ log.network
-    → RingsBehind nets logs rings k → BreaksAt (IsLegalRing net) log.entries place
+    → RingsLegal nets logs k → BreaksAt (IsLegalRing net) log.entries place
     → RingSpot plant scans joint network place
-ring-spot plant scans joint nets logs rings k place network net log nets-are logs-are sound
-    sections controllers hosts bridges low count is-p is-g is before breaks =
+ring-spot plant scans joint nets logs k place network net log nets-are logs-are sound sections
+    controllers hosts bridges low is-p is-g is before breaks =
     subst (λ (n : ℕ). RingSpot plant scans joint n place) (sym is)
-    (ring-spot-of plant scans joint rings k place net log sound sections controllers hosts bridges
-    (subst (λ (l : List NetPlan). k < length l) nets-are low) count
+    (ring-spot-of plant scans joint k place net log sound sections controllers hosts bridges
+    (subst (λ (l : List NetPlan). k < length l) nets-are low)
     (subst (λ (l : List NetPlan). net ≡ get_or l k net) nets-are is-p)
     (subst (λ (l : List RingLog). log ≡ get_or l k log) logs-are is-g)
-    (subst (λ (l : List NetPlan). RingsBehind l joint.rings rings k) nets-are
-    (subst (λ (l : List RingLog). RingsBehind nets l rings k) logs-are before)) breaks)
+    (subst (λ (l : List NetPlan). RingsLegal l joint.rings k) nets-are
+    (subst (λ (l : List RingLog). RingsLegal nets l k) logs-are before)) breaks)
 
 pub rings-end : (plant : Plant) (joint : Joint) (nets : List NetPlan) (logs : List RingLog)
-    (rings : List BareRing) (k : ℕ) → nets ≡ plant.nets → logs ≡ joint.rings
-    → HasSections plant joint → k ≡ length nets → length rings ≡ k
-    → RingsBehind nets logs rings k
-    → AreLegalRingLogs plant joint × AreRingsBehind plant joint rings
-rings-end plant joint nets logs rings k nets-are logs-are sections all count behind =
+    (k : ℕ) → nets ≡ plant.nets → logs ≡ joint.rings → HasSections plant joint
+    → k ≡ length nets → RingsLegal nets logs k → AreLegalRingLogs plant joint
+rings-end plant joint nets logs k nets-are logs-are sections all legal =
     let sizes = same-size (λ (p : NetPlan). p.number) (λ (g : RingLog). g.network) plant.nets
     joint.rings sections.rings in
     let n = ap (λ (l : List NetPlan). length l) nets-are in
-    let behind' = subst (λ (l : List NetPlan). RingsBehind l joint.rings rings k) nets-are
-    (subst (λ (l : List RingLog). RingsBehind nets l rings k) logs-are behind) in (
-      zip-all IsLegalRingLog plant.nets joint.rings sizes (λ j p g low. (
-        same-node (λ (p : NetPlan). p.number) (λ (g : RingLog). g.network) plant.nets joint.rings
-            sections.rings j p g low,
-        (behind' j p g (some-ring rings j (omega (arith, all, n, count)))
-            (omega (arith, all, n))).legal,
-      )),
-      record {
-        size = omega (arith, count, all, n);
-        each = λ j p g b low. behind' j p g b (omega (arith, all, n));
-      },
-    )
+    let legal' = subst (λ (l : List NetPlan). RingsLegal l joint.rings k) nets-are
+    (subst (λ (l : List RingLog). RingsLegal nets l k) logs-are legal) in
+    zip-all IsLegalRingLog plant.nets joint.rings sizes (λ j p g low. (
+      same-node (λ (p : NetPlan). p.number) (λ (g : RingLog). g.network) plant.nets joint.rings
+          sections.rings j p g low,
+      legal' j p g (omega (arith, all, n)),
+    ))

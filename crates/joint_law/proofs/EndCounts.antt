@@ -11,6 +11,8 @@ use Rattle.controller_core.specs.declared.entry.Entry.{Entry}
 use Rattle.controller_core.specs.declared.entry.Entry.TheVariants as entries
 use Rattle.host_port.specs.declared.entry.HostEntry.{HostEntry}
 use Rattle.host_port.specs.declared.entry.HostEntry.TheVariants as host_entries
+use Rattle.bridge_relay.specs.declared.entry.BridgeEntry.{BridgeEntry}
+use Rattle.bridge_relay.specs.declared.entry.BridgeEntry.TheVariants as bridge_entries
 use Rattle.tied_lists.specs.Items.{Called, Ended, Items, Kind, kind_in}
 use Rattle.std.proofs.Common.{◌≢◌, ◌≤◌, ◌⊎◌, ⊎_elim}
 use Rattle.std.specs.Prelude.{◌↔◌, IsTrue, if◌then◌else◌}
@@ -24,11 +26,13 @@ use Rattle.joint_law.specs.Named.{value_of_call}
 use Rattle.joint_law.specs.declared.by_call.ByCall.{ByCall}
 use Rattle.tied_lists.proofs.Boxes.{count-cons}
 use Rattle.joint_history.specs.Complete.{EndsEachCall}
+use Rattle.joint_history.specs.Bridges.{side_items}
 use Rattle.joint_history.specs.Reading.{items_of, host_items_of}
-use Rattle.joint_law.specs.Endings.{end_with, host_end_with}
+use Rattle.joint_law.specs.Endings.{end_with, host_end_with, side_end_with}
 use Rattle.joint_law.specs.Ends.{EndsOnce, end_id_in, times_ended, host_end_id_in, id_of_call}
-use Rattle.joint_law.specs.Ends.{id_of_end}
+use Rattle.joint_law.specs.Ends.{id_of_end, side_end_id_in}
 use Rattle.joint_law.proofs.Lists.{ends-more, host-ends-more}
+use Rattle.joint_law.proofs.Sides.{side-ends-more}
 
 end-id : (kinds : CallId → Option Kind) (e : Entry)
     → map id_of_end (cons_option (end_with kinds e) []) ≡ cons_option (end_id_in e) []
@@ -50,6 +54,22 @@ host-end-id kinds (host_entries.Ask id route pdu) = refl
 host-end-id kinds (host_entries.Answer id result) = refl
 host-end-id kinds (host_entries.Served id request reply) = refl
 
+-- an end that one side of a bridge tells, or not
+of-side : (mine : Bool) (end : Ended)
+    → map id_of_end (cons_option (if mine then Some end else None) [])
+    ≡ cons_option (if mine then Some end.id else None) []
+of-side true end = refl
+of-side false end = refl
+
+side-end-id : (side : ℕ) (kinds : CallId → Option Kind) (e : BridgeEntry)
+    → map id_of_end (cons_option (side_end_with side kinds e) [])
+    ≡ cons_option (side_end_id_in side e) []
+side-end-id side kinds (bridge_entries.Accept near id route request) = refl
+side-end-id side kinds (bridge_entries.Forward near old id route request) = refl
+side-end-id side kinds (bridge_entries.Finish near id result) = of-side (near == side) _
+side-end-id side kinds (bridge_entries.Back near id reply) = refl
+side-end-id side kinds (bridge_entries.Gone near) = refl
+
 pub end-ids-more : (es : List Entry) (i : ℕ) (e : Entry) → i < length es → e ≡ get_or es i e
     → map id_of_end (items_of (take (i + 1) es)).ends ≡ map id_of_end (items_of (take i es)).ends
     ++ cons_option (end_id_in e) []
@@ -70,6 +90,19 @@ host-end-ids-more es i e low is =
     (cons_option (host_end_with kinds e) [])
     ∙ ap (λ (l : List CallId). map id_of_end (host_items_of (take i es)).ends ++ l)
     (host-end-id kinds e))
+
+pub side-end-ids-more : (side : ℕ) (es : List BridgeEntry) (i : ℕ) (e : BridgeEntry)
+    → i < length es → e ≡ get_or es i e
+    → map id_of_end (side_items side (take (i + 1) es)).ends
+    ≡ map id_of_end (side_items side (take i es)).ends
+    ++ cons_option (side_end_id_in side e) []
+side-end-ids-more side es i e low is =
+    let kinds = kind_in (side_items side (take i es)).calls in
+    ap (map id_of_end) (side-ends-more side es i e low is)
+    ∙ (map-append id_of_end (side_items side (take i es)).ends
+    (cons_option (side_end_with side kinds e) [])
+    ∙ ap (λ (l : List CallId). map id_of_end (side_items side (take i es)).ends ++ l)
+    (side-end-id side kinds e))
 
 -- the ends of a call among the names of all ends
 ends-named : (ends : List Ended) (call : CallId)

@@ -12,11 +12,12 @@ pub mod Fitting
 pub mod LawSteps
 pub mod Progress
 pub mod RingSteps
-pub mod Rings
 pub mod Sides
 pub mod SideBounds
 pub mod OwnPlaces
+pub mod Stands
 pub mod Outside
+pub mod Rows
 pub mod Verdicts
 pub mod AtNodes
 pub mod Agreeing

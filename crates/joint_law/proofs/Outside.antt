@@ -1,10 +1,11 @@
 -- Whether a controller is out of the ring, by the status of its node and by its list.
-use Rattle.std.proofs.Common.{◌≡◌, ◌⊎◌, inl, inr, ℕ, Bool, true, false, List, [], ◌∷◌, Option}
-use Rattle.std.proofs.Common.{Some, None, refl, sym, ap, ◌∙◌}
+use Rattle.std.proofs.Common.{◌≡◌, ◌⊎◌, inl, inr, ⊎_elim, ℕ, Bool, true, false, List, [], ◌∷◌}
+use Rattle.std.proofs.Common.{Option, Some, None, refl, sym, ap, ◌∙◌}
 use Rattle.std.specs.Prelude.{fold, if◌then◌else◌}
 use Rattle.plant_types.specs.declared.drops.IoDrop.{IoDrop}
 use Rattle.plant_types.specs.declared.network.Segment.{Segment}
 use Rattle.plant_types.specs.declared.plan.OrderRow.{OrderRow}
+use Rattle.ring_core.specs.Machine.{admitted_status}
 use Rattle.ring_core.specs.declared.status.NodeStatus.{NodeStatus}
 use Rattle.ring_core.specs.declared.status.NodeStatus.TheVariants.{In, Away, Asking, Gone}
 use Rattle.controller_core.specs.declared.fixed.Fixed.{Fixed}
@@ -14,6 +15,7 @@ use Rattle.controller_core.specs.Replay.{ControllerState, apply, control_is_on, 
 use Rattle.controller_core.specs.Replay.{segment_solved, solved, start}
 use Rattle.joint_history.specs.Complete.{StaysOff}
 use Rattle.joint_law.specs.AllComplete.{IsOutBy, powered_from, powered_next}
+use Rattle.joint_law.proofs.Stands.{is-away, is-gone}
 
 -- ---- power
 
@@ -58,24 +60,39 @@ replay-powered f es = fold-powered f (start f.plan) es
 
 -- ---- out of the ring
 
+-- where a node stands so, if one that asks to come in counts as in
 abbrev IsOut : NodeStatus → Fixed → List Entry → Type 0
 IsOut status fixed es = (status ≡ Gone) ⊎ ((status ≡ Away) × StaysOff fixed es)
 
-pub out-from : (status : NodeStatus) (fixed : Fixed) (es : List Entry)
-    → IsOutBy fixed.scans status es → IsOut status fixed es
-out-from In fixed es out = absurd out
-out-from Away fixed es out =
+told-out : (told : NodeStatus) (fixed : Fixed) (es : List Entry)
+    → IsOutBy fixed.scans told es → IsOut told fixed es
+told-out In fixed es out = absurd out
+told-out Away fixed es out =
     inr (refl, record { scans = out.scans_gone; off = replay-powered fixed es ∙ out.off })
-out-from Asking fixed es out = absurd out
-out-from Gone fixed es out = inl refl
+told-out Asking fixed es out = absurd out
+told-out Gone fixed es out = inl refl
 
-pub out-by : (status : NodeStatus) (fixed : Fixed) (es : List Entry)
-    → IsOut status fixed es → IsOutBy fixed.scans status es
-out-by In fixed es (inl is) = absurd cc
-out-by In fixed es (inr off) = absurd (let is : In ≡ Away = off.0 in cc)
-out-by Away fixed es (inl is) = absurd cc
-out-by Away fixed es (inr off) =
+out-told : (told : NodeStatus) (fixed : Fixed) (es : List Entry)
+    → IsOut told fixed es → IsOutBy fixed.scans told es
+out-told In fixed es (inl is) = absurd cc
+out-told In fixed es (inr off) = absurd (let is : In ≡ Away = off.0 in cc)
+out-told Away fixed es (inl is) = absurd cc
+out-told Away fixed es (inr off) =
     record { scans_gone = off.1.scans; off = sym (replay-powered fixed es) ∙ off.1.off }
-out-by Asking fixed es (inl is) = absurd cc
-out-by Asking fixed es (inr off) = absurd (let is : Asking ≡ Away = off.0 in cc)
-out-by Gone fixed es out = tt
+out-told Asking fixed es (inl is) = absurd cc
+out-told Asking fixed es (inr off) = absurd (let is : Asking ≡ Away = off.0 in cc)
+out-told Gone fixed es out = tt
+
+pub out-from : (told status : NodeStatus) (fixed : Fixed) (es : List Entry)
+    → told ≡ admitted_status status → IsOutBy fixed.scans told es → IsOut status fixed es
+out-from told status fixed es is out =
+    ⊎_elim (λ (gone : told ≡ Gone). inl (is-gone status (sym is ∙ gone)))
+    (λ (off : (told ≡ Away) × StaysOff fixed es). inr (is-away status (sym is ∙ off.0), off.1))
+    (told-out told fixed es out)
+
+pub out-by : (told status : NodeStatus) (fixed : Fixed) (es : List Entry)
+    → told ≡ admitted_status status → IsOut status fixed es → IsOutBy fixed.scans told es
+out-by told status fixed es is out = out-told told fixed es
+    (⊎_elim (λ (gone : status ≡ Gone). inl (is ∙ ap admitted_status gone))
+    (λ (off : (status ≡ Away) × StaysOff fixed es). inr (is ∙ ap admitted_status off.0, off.1))
+    out)

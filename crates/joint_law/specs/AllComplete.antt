@@ -1,52 +1,49 @@
--- Which stations were done. This project's own.
+-- Which stations and which ends of bridges were done. This project's own.
 use Rattle.std.specs.Prelude.{◌≡◌, ℕ, ◌<◌, Bool, true, false, List, [], ◌∷◌, get_or, length}
-use Rattle.std.specs.Prelude.{count_by, Option, Some, None}
+use Rattle.std.specs.Prelude.{count_by, Contains, Option, Some, None}
 use Rattle.plant_types.specs.declared.net.HostPlan.{HostPlan}
-use Rattle.plant_types.specs.declared.net.NetPlan.{NetPlan}
 use Rattle.plant_types.specs.declared.plan.Plant.{Plant}
 use Rattle.ring_core.specs.Machine.{addresses}
-use Rattle.ring_core.specs.Legal.{IsMember}
 use Rattle.ring_core.specs.declared.entry.RingEntry.{RingEntry}
 use Rattle.ring_core.specs.declared.status.NodeStatus.{NodeStatus}
 use Rattle.ring_core.specs.declared.status.NodeStatus.TheVariants.{In, Away, Asking, Gone}
 use Rattle.controller_core.specs.declared.entry.Entry.{Entry}
 use Rattle.controller_core.specs.declared.entry.Entry.TheVariants.{Begin, Fail}
 use Rattle.tied_lists.specs.Items.{replies_in}
-use Rattle.tied_lists.specs.Waits.{status_at}
+use Rattle.bridge_relay.specs.declared.entry.BridgeEntry.{BridgeEntry}
+use Rattle.bridge_relay.specs.declared.entry.BridgeEntry.TheVariants as bridge_entries
+use Rattle.joint_history.specs.declared.joint.BridgeLog.{BridgeLog}
 use Rattle.joint_history.specs.declared.joint.ControllerLog.{ControllerLog}
 use Rattle.joint_history.specs.declared.joint.HostLog.{HostLog}
 use Rattle.joint_history.specs.declared.joint.Joint.{Joint}
-use Rattle.joint_history.specs.Complete.{is_scan_end}
+use Rattle.joint_history.specs.Bridges.{side_items}
+use Rattle.joint_history.specs.Complete.{EndsEachCall, LeavesQuietly, is_scan_end}
 use Rattle.joint_history.specs.Reading.{host_items_of, items_of}
 use Rattle.joint_law.specs.AllCourses.{AreDone, AreHostsDone}
 use Rattle.joint_law.specs.Completing.{EachAllows, HasNoticed, HostAllows, NodeAllows}
 use Rattle.joint_law.specs.Failing.{is_fail}
 use Rattle.joint_law.specs.Picked.{AreOfNode, picked}
-use Rattle.joint_law.specs.RingFollowing.{IsRingBehind}
 use Rattle.joint_law.specs.Spots.{IsCompleteAt}
+use Rattle.joint_law.specs.Standing.{status_by}
 use Rattle.joint_law.specs.declared.complete.Followed.{Followed}
 use Rattle.joint_law.specs.declared.complete.Standing.{Standing}
-use Rattle.plant_types.specs.Plans.{first_net}
-use Rattle.joint_history.specs.Nets.{noted_on_rings}
 
 -- What following all lists has shown is so.
 pub record IsFollowed (plant : Plant) (scans : ℕ) (joint : Joint) (followed : Followed)
     : Type 0 where
   pub done : AreDone plant scans joint followed.done.now
   pub hosts : AreHostsDone plant joint followed.hosts_done.now
-  pub ring : IsRingBehind (first_net plant) (noted_on_rings joint) followed.ring.now
 
--- The entries of a node on the ring.
-abbrev pub entries_on : Standing → List RingEntry
-entries_on on = picked on.ring.now on.places.now
+-- The entries of a node on its ring.
+abbrev pub own_entries : Standing → List RingEntry
+own_entries on = picked on.ring.now on.places.now
 
--- A node stands so behind the whole list, if it is a member.
-pub record IsStandingOf (ring : List RingEntry) (net : NetPlan) (node : ℕ) (on : Standing)
-    : Type 0 where
+-- A node with its entries among these, and where it stands by them if it is a member.
+pub record IsStandingOf (ring : List RingEntry) (node : ℕ) (on : Standing) : Type 0 where
   pub node_is : on.node ≡ node
   pub ring_is : on.ring.now ≡ ring
   pub places : AreOfNode on.ring.now node on.places.now
-  pub status : IsMember net node → on.status ≡ status_at net ring node
+  pub status : on.status ≡ status_by (own_entries on)
 
 -- A node was done on the ring, whose station gave such replies and lost its power so often.
 pub record IsNodeDone (answers : List (Option (List ℕ))) (fails : ℕ) (b : List RingEntry)
@@ -94,6 +91,15 @@ pub record IsHostNodeDone (plan : HostPlan) (status : NodeStatus) (log : HostLog
   pub node : IsNodeDone (replies_in (host_items_of log.entries).answers) 0 b
   pub asks : EachAllows (HostAllows plan) b
 
+-- An end of a bridge was done: each call that it sent on has ended, once, and it left for good, in
+-- its bridge's list and on the ring, where it was quiet before.
+pub record IsEndDone (status : NodeStatus) (list : List BridgeEntry) (side : ℕ)
+    (b : List RingEntry) : Type 0 where
+  pub finished : EndsEachCall (side_items side list)
+  pub gone : Contains list (bridge_entries.Gone side)
+  pub left : status ≡ Gone
+  pub quiet : LeavesQuietly b
+
 -- Each controller of a node was done, and its node on the ring.
 abbrev pub AreControllersDone : ℕ → List ControllerLog → List Bool → ℕ → NodeStatus
     → List RingEntry → Type 0
@@ -111,24 +117,33 @@ AreHostNodesDone plans logs done node status b = (k : ℕ) (p : HostPlan) (d : H
 -- A controller was done, and its node on the ring, if it is this node.
 abbrev pub IsControllerDoneOn : ℕ → Standing → ControllerLog → Bool → Type 0
 IsControllerDoneOn scans on log is_done = log.node ≡ on.node
-    → IsControllerDone scans on.status log is_done (entries_on on)
+    → IsControllerDone scans on.status log is_done (own_entries on)
 
 -- Each controller of this node was.
 abbrev pub AreControllersDoneOn : ℕ → Standing → List ControllerLog → List Bool → Type 0
 AreControllersDoneOn scans on logs done =
-    AreControllersDone scans logs done on.node on.status (entries_on on)
+    AreControllersDone scans logs done on.node on.status (own_entries on)
 
 -- A host was done, its node on the ring, and it asked nothing too early, if it is this node.
 abbrev pub IsHostNodeDoneOn : HostPlan → Standing → HostLog → Bool → Type 0
 IsHostNodeDoneOn plan on log is_done = log.node ≡ on.node
-    → IsHostNodeDone plan on.status log is_done (entries_on on)
+    → IsHostNodeDone plan on.status log is_done (own_entries on)
 
 -- Each host of this node was.
 abbrev pub AreHostNodesDoneOn : List HostPlan → Standing → List HostLog → List Bool → Type 0
 AreHostNodesDoneOn plans on logs done =
-    AreHostNodesDone plans logs done on.node on.status (entries_on on)
+    AreHostNodesDone plans logs done on.node on.status (own_entries on)
 
--- The first node whose stations are not complete; none where all are.
+-- An end of a bridge was done, if it is this node.
+abbrev pub IsEndDoneOn : Standing → List BridgeEntry → ℕ → Type 0
+IsEndDoneOn on list side = side ≡ on.node → IsEndDone on.status list side (own_entries on)
+
+-- So was each end of a bridge.
+abbrev pub AreEndsDoneOn : Standing → BridgeLog → Type 0
+AreEndsDoneOn on log =
+    IsEndDoneOn on log.entries log.left × IsEndDoneOn on log.entries log.right
+
+-- The first address at which not all is complete; none where all is.
 abbrev pub IsFirstIncomplete : Plant → ℕ → Joint → Option ℕ → Type 0
 IsFirstIncomplete plant scans joint None =
     (n : ℕ) → n < addresses → IsCompleteAt plant scans joint n

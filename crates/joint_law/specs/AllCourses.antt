@@ -1,19 +1,15 @@
 -- How the lists of all stations, bridges and rings go. This project's own.
 use Rattle.std.specs.Prelude.{◌≡◌, ◌↔◌, ℕ, ◌+◌, ◌<◌, Bool, false, List, get_or, length, IsTrue}
-use Rattle.plant_types.specs.declared.net.NetPlan.{NetPlan}
 use Rattle.plant_types.specs.declared.plan.ControllerPlan.{ControllerPlan}
 use Rattle.plant_types.specs.declared.plan.Plant.{Plant}
-use Rattle.ring_core.specs.declared.bare.BareRing.{BareRing}
 use Rattle.controller_core.specs.declared.notes.Notes.{Notes}
 use Rattle.joint_history.specs.declared.joint.ControllerLog.{ControllerLog}
 use Rattle.joint_history.specs.declared.joint.HostLog.{HostLog}
-use Rattle.joint_history.specs.declared.joint.RingLog.{RingLog}
 use Rattle.joint_history.specs.declared.joint.Joint.{Joint}
 use Rattle.joint_history.specs.Complete.{ControllerIsComplete, EndsEachCall}
 use Rattle.joint_history.specs.JointLaws.{fixed_of}
 use Rattle.joint_history.specs.Noted.{notes_in}
 use Rattle.joint_history.specs.Reading.{host_items_of}
-use Rattle.joint_law.specs.RingFollowing.{IsRingBehind}
 use Rattle.joint_law.specs.Spots.{AreLegalBridgeLogs, AreLegalHostLogs, AreLegalLogs}
 use Rattle.joint_law.specs.Spots.{AreLegalRingLogs, BridgeSpot, ControllerSpot, HostSpot, RingSpot}
 use Rattle.joint_law.specs.declared.courses.BridgeCourses.{BridgeCourses}
@@ -39,13 +35,6 @@ pub record AreHostsDone (plant : Plant) (joint : Joint) (done : List Bool) : Typ
   pub each : (k : ℕ) (log : HostLog) → k < length plant.hosts
       → IsTrue (get_or done k false)
       ↔ EndsEachCall (host_items_of (get_or joint.hosts k log).entries)
-
--- These rings are those of the networks, each behind its list.
-pub record AreRingsBehind (plant : Plant) (joint : Joint) (rings : List BareRing) : Type 0 where
-  pub size : length rings ≡ length plant.nets
-  pub each : (k : ℕ) (net : NetPlan) (log : RingLog) (bare : BareRing) → k < length plant.nets
-      → IsRingBehind (get_or plant.nets k net) (get_or joint.rings k log).entries
-      (get_or rings k bare)
 
 -- The lists of all controllers are legal, and each was done or not, and noted this.
 pub record AreWholeCourses (plant : Plant) (scans : ℕ) (joint : Joint) (done : List Bool)
@@ -78,5 +67,4 @@ BridgesEnd plant scans joint bridge_courses.Whole = AreLegalBridgeLogs plant joi
 abbrev pub RingsEnd : Plant → ℕ → Joint → RingCourses → Type 0
 RingsEnd plant scans joint (ring_courses.Breaks network place) =
     RingSpot plant scans joint network (place + 1)
-RingsEnd plant scans joint (ring_courses.Whole rings) =
-    AreLegalRingLogs plant joint × AreRingsBehind plant joint rings
+RingsEnd plant scans joint ring_courses.Whole = AreLegalRingLogs plant joint

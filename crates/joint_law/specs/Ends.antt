@@ -7,6 +7,8 @@ use Rattle.controller_core.specs.declared.entry.Entry.{Entry}
 use Rattle.controller_core.specs.declared.entry.Entry.TheVariants.{Finish}
 use Rattle.host_port.specs.declared.entry.HostEntry.{HostEntry}
 use Rattle.host_port.specs.declared.entry.HostEntry.TheVariants.{Answer}
+use Rattle.bridge_relay.specs.declared.entry.BridgeEntry.{BridgeEntry}
+use Rattle.bridge_relay.specs.declared.entry.BridgeEntry.TheVariants as bridge_entries
 use Rattle.tied_lists.specs.Items.{Called, Ended}
 use Rattle.joint_law.specs.Named.{value_of_call}
 use Rattle.joint_law.specs.declared.by_call.ByCall.{ByCall}
@@ -28,6 +30,12 @@ end_id_in _ = None
 abbrev pub host_end_id_in : HostEntry → Option CallId
 host_end_id_in (Answer id result) = Some id
 host_end_id_in _ = None
+
+-- The call that an entry of a bridge ends for one of its ends.
+abbrev pub side_end_id_in : ℕ → BridgeEntry → Option CallId
+side_end_id_in side (bridge_entries.Finish near id result) =
+    if near == side then Some id else None
+side_end_id_in side _ = None
 
 -- How often a call ends.
 abbrev pub times_ended : List CallId → CallId → ℕ

@@ -4,6 +4,8 @@ pub mod Differing
 pub mod Failing
 pub mod Taking
 pub mod Completing
+pub mod Leaving
+pub mod Standing
 pub mod Bound
 pub mod Comparing
 pub mod Courses

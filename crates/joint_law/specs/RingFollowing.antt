@@ -1,13 +1,10 @@
 -- What it is to follow the ring's list. This project's own.
-use Rattle.std.specs.Prelude.{◌≡◌, ◌+◌, Bool, true, false, List}
+use Rattle.std.specs.Prelude.{◌≡◌, Bool, true, false, List}
 use Rattle.plant_types.specs.declared.net.NetPlan.{NetPlan}
 use Rattle.ring_core.specs.declared.bare.BareRing.{BareRing}
 use Rattle.ring_core.specs.declared.entry.RingEntry.{RingEntry}
 use Rattle.ring_core.specs.Bare.{BareMade, IsBehind, bare_net}
 use Rattle.ring_core.specs.Legal.{IsLegalRing, IsRingStep}
-use Rattle.joint_law.specs.Differing.{BreaksAt}
-use Rattle.joint_law.specs.declared.ring_following.RingCourse.{RingCourse}
-use Rattle.joint_law.specs.declared.ring_following.RingCourse.TheVariants.{Breaks, Whole}
 
 -- Behind some entries the ring made this one, which is a step.
 pub record RingMade (past : List RingEntry) (old : BareRing) (entry : RingEntry) (new : BareRing)
@@ -25,8 +22,3 @@ pub record IsRingBehind (net : NetPlan) (entries : List RingEntry) (bare : BareR
   pub net_is : bare_net bare ≡ net
   pub behind : IsBehind entries bare
   pub legal : IsLegalRing net entries
-
--- The ring's list is legal, or breaks off with an entry.
-abbrev pub IsRingCourse : NetPlan → List RingEntry → RingCourse → Type 0
-IsRingCourse net entries (Breaks place) = BreaksAt (IsLegalRing net) entries (place + 1)
-IsRingCourse net entries (Whole bare) = IsRingBehind net entries bare

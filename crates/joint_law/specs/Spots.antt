@@ -5,7 +5,7 @@ use Rattle.plant_types.specs.declared.net.BridgePlan.{BridgePlan}
 use Rattle.plant_types.specs.declared.net.HostPlan.{HostPlan}
 use Rattle.plant_types.specs.declared.net.NetPlan.{NetPlan}
 use Rattle.plant_types.specs.declared.plan.Plant.{Plant}
-use Rattle.plant_types.specs.Plans.{IsPlant, controller_nodes, host_nodes, net_numbers}
+use Rattle.plant_types.specs.Plans.{IsPlant, controller_nodes, host_nodes, net_numbers, net_of}
 use Rattle.ring_core.specs.Legal.{IsLegalRing}
 use Rattle.ring_core.specs.declared.entry.RingEntry.{RingEntry}
 use Rattle.bridge_relay.specs.Legal.{IsBridgeHistory}
@@ -21,7 +21,7 @@ use Rattle.joint_history.specs.Complete.{EndIsComplete, IsComplete, IsCompleteLo
 use Rattle.joint_history.specs.Complete.{IsCompleteHostLog}
 use Rattle.joint_history.specs.JointLaws.{IsJoint, IsLegalBridgeLog, IsLegalHostLog, IsLegalJoint}
 use Rattle.joint_history.specs.JointLaws.{IsLegalLog, IsLegalRingLog, fixed_of, logged}
-use Rattle.joint_history.specs.Nets.{net_of, noted_on_rings}
+use Rattle.joint_history.specs.Nets.{noted_on_rings}
 use Rattle.joint_law.specs.Bound.{Bound, BreaksLaw, KeepsLaw, bounds_of, number_of}
 use Rattle.joint_law.specs.Differing.{BreaksAt}
 use Rattle.joint_law.specs.declared.law.Law.{Law}

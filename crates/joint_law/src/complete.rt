@@ -1,13 +1,10 @@
-//! The first station that was not done.
-ghost use Rattle.std.specs.Prelude.{◌≡◌, ◌↔◌, ℕ, true, length, IfOk, IsTrue};
+//! The first node of which a station or an end of a bridge was not done.
+ghost use Rattle.std.specs.Prelude.{◌≡◌, ◌↔◌, ℕ, true, length, All, IfOk, IsTrue};
 ghost use Rattle.plant_types.specs.Plans.{IsPlant};
-ghost use Rattle.ring_core.specs.Bare.{IsBehind, bare_net};
-ghost use Rattle.ring_core.specs.Legal.{IsMember};
-ghost use Rattle.tied_lists.specs.Waits.{status_at};
-ghost use Rattle.joint_law.specs.AllComplete.{AreControllersDoneOn, AreHostNodesDoneOn};
-ghost use Rattle.joint_law.specs.AllComplete.{IsControllerDoneOn, IsHostNodeDoneOn};
-ghost use Rattle.joint_law.specs.AllComplete.{IsFirstIncomplete, IsFollowed};
-ghost use Rattle.joint_law.specs.AllComplete.{IsNodeDone, IsOutBy, IsStandingOf, entries_on};
+ghost use Rattle.joint_law.specs.AllComplete.{AreControllersDoneOn, AreEndsDoneOn};
+ghost use Rattle.joint_law.specs.AllComplete.{AreHostNodesDoneOn, IsControllerDoneOn, IsEndDoneOn};
+ghost use Rattle.joint_law.specs.AllComplete.{IsFirstIncomplete, IsFollowed, IsHostNodeDoneOn};
+ghost use Rattle.joint_law.specs.AllComplete.{IsNodeDone, IsOutBy, IsStandingOf, own_entries};
 ghost use Rattle.joint_law.specs.AllComplete.{powered_from};
 ghost use Rattle.joint_law.specs.Spots.{HasSections, IsCompleteAt};
 ghost use Rattle.joint_law.specs.OnRings.{AreOnRings};
@@ -15,26 +12,29 @@ ghost use Rattle.joint_law.specs.Picked.{AreWithin};
 ghost use Rattle.own_places.specs.Places.{ArePlaces};
 
 use crate::completing::{all_fit, all_fit_host, notices};
+use crate::ended::side_ends_each_call;
 use crate::failing::count_fails;
 use crate::following::count_scans;
+use crate::leaving::{has_gone, leaves_quietly};
 use crate::on_rings::OnRings;
 use crate::replying::{Replies, answers, host_answers};
+use crate::standing::status_by;
+use bridge_relay::BridgeEntry;
 use controller_core::Entry;
-use joint_history::{ControllerLog, HostLog, Joint};
+use joint_history::{BridgeLog, ControllerLog, HostLog, Joint};
 use plant_types::{ADDRESSES, HostPlan, Plant};
-use ring_core::{BareRing, NodeStatus, RingEntry};
+use ring_core::{NodeStatus, RingEntry};
 use std::alloc::{AllocError, Global};
 
-/// What following all lists has shown: which controllers and hosts were done, and the ring behind
-/// its list.
+/// What following all lists has shown: which controllers and hosts were done.
 #[derive(Clone, Copy)]
 pub(crate) struct Followed<'a> {
     pub done: &'a [bool],
     pub hosts_done: &'a [bool],
-    pub ring: &'a BareRing,
 }
 
-/// A node on the ring: its entries there, and where it stands behind them all.
+/// A node on the ring of its network: its entries among those of all rings, and where it stands
+/// behind them.
 #[derive(Clone, Copy)]
 struct Standing<'a> {
     ring: &'a [RingEntry],
@@ -52,7 +52,7 @@ fn node_is_done(
 ) -> Result<bool, AllocError>
     requires { AreWithin on.ring.now on.places.now }
     ensures { IfOk result (λ done. IsTrue done
-        ↔ IsNodeDone answers.items fails (entries_on on.entry)) }
+        ↔ IsNodeDone answers.items fails (own_entries on.entry)) }
 {
     if !all_fit(on.ring, on.places, answers) {
         return Ok(false);
@@ -182,34 +182,70 @@ fn hosts_are_done(
     Ok(true)
 }
 
-/// Where a node stands behind these entries; any answer where it is no member.
-fn status_of(bare: &BareRing, past: &[RingEntry], node: u8) -> NodeStatus
-    requires { IsBehind past.now bare.now }
-    ensures { IsMember (bare_net bare.now) node
-        → result ≡ status_at (bare_net bare.now) past.now node }
+/// Whether an end of a bridge was done, if it is the one of this node: each call that it sent on
+/// has ended, and it left for good, in its bridge's list and on the ring, where it was quiet
+/// before.
+fn end_is_done(
+    alloc: Global,
+    on: Standing,
+    entries: &[BridgeEntry],
+    side: u8,
+) -> Result<bool, AllocError>
+    requires { AreWithin on.ring.now on.places.now }
+    ensures { IfOk result (λ done. IsTrue done ↔ IsEndDoneOn on.entry entries.now side) }
 {
-    if bare.is_member(past, node) {
-        bare.status(past, node)
-    } else {
-        NodeStatus::Gone
+    if side != on.node {
+        return Ok(true);
     }
+    if !is_gone(on.status) || !has_gone(entries, side) {
+        return Ok(false);
+    }
+    if !leaves_quietly(on.ring, on.places) {
+        return Ok(false);
+    }
+    side_ends_each_call(alloc, side, entries)
 }
 
-/// A node on the ring behind the whole list.
-fn standing_of<'a>(on: OnRings<'a>, bare: &BareRing, node: u8) -> Standing<'a>
-    requires places { ArePlaces on.ring.now on.own.now }
-    requires behind { IsBehind on.ring.now bare.now }
-    ensures { IsStandingOf on.entry.ring.now (bare_net bare.now) node result }
+/// Whether both ends of a bridge were done, the left one first.
+fn bridge_is_done(alloc: Global, on: Standing, log: &BridgeLog) -> Result<bool, AllocError>
+    requires { AreWithin on.ring.now on.places.now }
+    ensures { IfOk result (λ done. IsTrue done ↔ AreEndsDoneOn on.entry log.now) }
 {
+    let entries = log.entries.as_slice();
+    if !end_is_done(alloc, on, entries, log.left)? {
+        return Ok(false);
+    }
+    end_is_done(alloc, on, entries, log.right)
+}
+
+/// Whether the ends of bridges of a node were done.
+fn bridges_are_done(alloc: Global, on: Standing, logs: &[BridgeLog]) -> Result<bool, AllocError>
+    requires { AreWithin on.ring.now on.places.now }
+    ensures { IfOk result (λ all. IsTrue all ↔ All (AreEndsDoneOn on.entry) logs.now) }
+{
+    for log in logs {
+        if !bridge_is_done(alloc, on, log)? {
+            return Ok(false);
+        }
+    }
+    Ok(true)
+}
+
+/// A node on the ring of its network.
+fn standing_of<'a>(on: OnRings<'a>, node: u8) -> Standing<'a>
+    requires { ArePlaces on.ring.now on.own.now }
+    ensures { IsStandingOf on.entry.ring.now node result }
+{
+    let places = on.own.places(node);
     Standing {
         ring: on.ring,
-        places: on.own.places(node),
+        places,
         node,
-        status: status_of(bare, on.ring, node),
+        status: status_by(on.ring, places),
     }
 }
 
-/// Whether the stations of a node were done.
+/// Whether the stations and the ends of bridges of a node were done.
 fn are_done(
     alloc: Global,
     plant: &Plant,
@@ -225,27 +261,20 @@ fn are_done(
     requires followed { IsFollowed plant.now scans joint.now followed }
     ensures { IfOk result (λ done. IsTrue done ↔ IsCompleteAt plant.now scans joint.now node) }
 {
-    let on = standing_of(on_rings, followed.ring, node);
-    if !controllers_are_done(
-        alloc,
-        on,
-        scans,
-        joint.controllers.as_slice(),
-        followed.done,
-    )? {
+    let on = standing_of(on_rings, node);
+    let logs = joint.controllers.as_slice();
+    if !controllers_are_done(alloc, on, scans, logs, followed.done)? {
         return Ok(false);
     }
     let plans = plant.hosts.as_slice();
-    hosts_are_done(
-        alloc,
-        on,
-        plans,
-        joint.hosts.as_slice(),
-        followed.hosts_done,
-    )
+    let host_logs = joint.hosts.as_slice();
+    if !hosts_are_done(alloc, on, plans, host_logs, followed.hosts_done)? {
+        return Ok(false);
+    }
+    bridges_are_done(alloc, on, joint.bridges.as_slice())
 }
 
-/// The first node whose station was not done.
+/// The first node of which a station or an end of a bridge was not done.
 pub(crate) fn first_incomplete(
     alloc: Global,
     plant: &Plant,

@@ -157,7 +157,8 @@ pub(crate) fn all_fit(ring: &[RingEntry], places: &[usize], mut answers: Replies
     true
 }
 
-fn is_ended(entry: &RingEntry) -> bool
+/// Whether an entry leaves as all was done.
+pub(crate) fn is_ended(entry: &RingEntry) -> bool
     ensures { result ≡ is_ended entry.now }
 {
     matches!(

@@ -1,16 +1,15 @@
 //! How the lists of all controllers go, of all hosts, of all bridges and of all rings.
-ghost use Rattle.std.specs.Prelude.{IfOk};
-ghost use Rattle.plant_types.specs.Plans.{IsPlant};
+ghost use Rattle.std.specs.Prelude.{◌≡◌, Contains, IfOk};
+ghost use Rattle.plant_types.specs.Plans.{IsPlant, net_of};
 ghost use Rattle.joint_law.specs.Spots.{AreLegalBridgeLogs, AreLegalHostLogs, AreLegalLogs};
 ghost use Rattle.joint_law.specs.Spots.{CanBeJudged, HasSections};
 ghost use Rattle.joint_law.specs.AllCourses.{BridgesEnd, ControllersEnd, HostsEnd, RingsEnd};
 
 use crate::following::{ControllerCourse, Course, controller_course, follow_bridge, host_course};
-use crate::ring_following::{RingCourse, ring_course};
+use crate::ring_following::follow_ring;
 use controller_core::Notes;
 use joint_history::Joint;
-use plant_types::{List, Plant};
-use ring_core::BareRing;
+use plant_types::{HostPlan, List, NetPlan, Plant};
 use std::alloc::{AllocError, Global};
 
 /// How the lists of all controllers go.
@@ -47,12 +46,12 @@ pub(crate) enum BridgeCourses {
 }
 
 /// How the lists of all rings go.
-#[derive(Drop)]
+#[derive(Clone, Copy, Drop)]
 pub(crate) enum RingCourses {
     /// The first that breaks off, and the entry, counted from 0, that makes it illegal.
     Breaks { network: u8, place: usize },
-    /// All are legal, and each ring is behind its list.
-    Whole(List<BareRing>),
+    /// All are legal.
+    Whole,
 }
 
 /// Follows the list of each controller.
@@ -89,6 +88,18 @@ pub(crate) fn controllers_course(
     Ok(ControllerCourses::Whole { done, notes })
 }
 
+/// The network of a host of a plant.
+fn net_of<'a>(plant: &'a Plant, plan: &HostPlan) -> &'a NetPlan
+    requires sound { IsPlant plant.now }
+    requires there { Contains plant.now.hosts plan.now }
+    ensures { result.now ≡ net_of plant.now plan.now.node }
+{
+    match plant.net_of(plan.node) {
+        Some(net) => net,
+        None => unreachable!(),
+    }
+}
+
 /// Follows the list of each host.
 pub(crate) fn hosts_course(
     alloc: Global,
@@ -105,8 +116,9 @@ pub(crate) fn hosts_course(
     let logs = joint.hosts.as_slice();
     let mut done = List::new(alloc);
     for at in 0..plans.len() {
+        let plan = &plans[at];
         let entries = logs[at].entries.as_slice();
-        match host_course(alloc, plant.first_net(), &plans[at], entries)? {
+        match host_course(alloc, net_of(plant, plan), plan, entries)? {
             Course::Breaks(place) => {
                 let node = logs[at].node;
                 return Ok(HostCourses::Breaks { node, place });
@@ -158,16 +170,12 @@ pub(crate) fn rings_course(
 {
     let plans = plant.nets.as_slice();
     let logs = joint.rings.as_slice();
-    let mut rings = List::new(alloc);
     for at in 0..plans.len() {
         let entries = logs[at].entries.as_slice();
-        match ring_course(alloc, &plans[at], entries)? {
-            RingCourse::Breaks(place) => {
-                let network = logs[at].network;
-                return Ok(RingCourses::Breaks { network, place });
-            }
-            RingCourse::Whole(ring) => rings.push(ring)?,
+        if let Some(place) = follow_ring(alloc, &plans[at], entries)? {
+            let network = logs[at].network;
+            return Ok(RingCourses::Breaks { network, place });
         }
     }
-    Ok(RingCourses::Whole(rings))
+    Ok(RingCourses::Whole)
 }

@@ -1,14 +1,16 @@
 //! Whether each call of a station has ended, once.
 ghost use Rattle.std.specs.Prelude.{◌≡◌, ◌↔◌, ◌++◌, [], true, Some, All, IfOk, IsTrue, OnOk, map};
 ghost use Rattle.std.specs.List.{cons_option};
+ghost use Rattle.joint_history.specs.Bridges.{side_items};
 ghost use Rattle.joint_history.specs.Complete.{EndsEachCall};
 ghost use Rattle.joint_history.specs.Reading.{called_of, host_items_of, items_of};
 ghost use Rattle.joint_law.specs.Ends.{CountsEnds, EndsOnce, NotesEnd, end_id_in, host_end_id_in};
-ghost use Rattle.joint_law.specs.Ends.{id_of_call, id_of_end};
+ghost use Rattle.joint_law.specs.Ends.{id_of_call, id_of_end, side_end_id_in};
 ghost use Rattle.joint_law.specs.Named.{value_of_call};
-ghost use Rattle.joint_law.specs.Readings.{calls_in, host_calls_in};
+ghost use Rattle.joint_law.specs.Readings.{calls_in, host_calls_in, side_calls_in};
 
 use crate::by_call::ByCall;
+use bridge_relay::BridgeEntry;
 use controller_core::{Call, Entry};
 use host_port::HostEntry;
 use mstr_block::CallId;
@@ -161,5 +163,70 @@ pub(crate) fn host_ends_each_call(alloc: Global, entries: &[HostEntry]) -> Resul
 {
     let calls = host_call_ids(alloc, entries)?;
     let ends = host_end_ids(alloc, entries)?;
+    each_ended(alloc, calls.as_slice(), ends.as_slice())
+}
+
+fn add_side_call_id(list: &mut Vec<CallId>, side: u8, entry: &BridgeEntry) -> Result<(), AllocError>
+    ensures { OnOk result (list.new.items
+        ≡ list.old.items ++ map id_of_call (side_calls_in side entry.now)) }
+{
+    let BridgeEntry::Forward { side: near, id, .. } = entry else {
+        return Ok(());
+    };
+    if *near == side {
+        list.push(*id)?;
+    }
+    Ok(())
+}
+
+fn side_call_ids(
+    alloc: Global,
+    side: u8,
+    entries: &[BridgeEntry],
+) -> Result<Vec<CallId>, AllocError>
+    ensures { IfOk result
+        (λ list. list.items ≡ map id_of_call (side_items side entries.now).calls) }
+{
+    let mut list = Vec::new(alloc);
+    for entry in entries {
+        add_side_call_id(&mut list, side, entry)?;
+    }
+    Ok(list)
+}
+
+fn add_side_end_id(list: &mut Vec<CallId>, side: u8, entry: &BridgeEntry) -> Result<(), AllocError>
+    ensures { OnOk result (list.new.items
+        ≡ list.old.items ++ cons_option (side_end_id_in side entry.now) []) }
+{
+    let BridgeEntry::Finish { side: near, id, .. } = entry else {
+        return Ok(());
+    };
+    if *near == side {
+        list.push(*id)?;
+    }
+    Ok(())
+}
+
+fn side_end_ids(alloc: Global, side: u8, entries: &[BridgeEntry]) -> Result<Vec<CallId>, AllocError>
+    ensures { IfOk result
+        (λ list. list.items ≡ map id_of_end (side_items side entries.now).ends) }
+{
+    let mut list = Vec::new(alloc);
+    for entry in entries {
+        add_side_end_id(&mut list, side, entry)?;
+    }
+    Ok(list)
+}
+
+/// Whether each call that an end of a bridge sent on has ended, once.
+pub(crate) fn side_ends_each_call(
+    alloc: Global,
+    side: u8,
+    entries: &[BridgeEntry],
+) -> Result<bool, AllocError>
+    ensures { IfOk result (λ each. IsTrue each ↔ EndsEachCall (side_items side entries.now)) }
+{
+    let calls = side_call_ids(alloc, side, entries)?;
+    let ends = side_end_ids(alloc, side, entries)?;
     each_ended(alloc, calls.as_slice(), ends.as_slice())
 }

@@ -3,7 +3,7 @@ ghost use Rattle.std.specs.Prelude.{◌≡◌, ◌+◌, ◌↔◌, IfOk};
 ghost use Rattle.plant_types.specs.Plans.{IsPlant};
 ghost use Rattle.joint_history.specs.JointLaws.{IsLegalJoint};
 ghost use Rattle.joint_history.specs.Nets.{noted_on_rings};
-ghost use Rattle.effect_laws.specs.Effects.{EffectsAreRight};
+ghost use Rattle.route_laws.specs.Effects.{EffectsAreRight};
 ghost use Rattle.joint_law.specs.AllComplete.{IsFollowed};
 ghost use Rattle.joint_law.specs.AllCourses.{AreDone, AreHostsDone, AreWholeCourses};
 ghost use Rattle.joint_law.specs.Judgements.{HasNotes, IsJudgement, verdict_of};
@@ -17,15 +17,15 @@ use crate::courses::{
     hosts_course, rings_course,
 };
 use crate::law_spots::{laws_spot, number};
-use crate::on_rings::{OnRings, joined, only_entries};
+use crate::on_rings::{OnRings, only_entries};
 use crate::sections::has_sections;
 use crate::verdict::{Judgement, Spot, Verdict};
 use controller_core::{Notes, fronts_are_legal};
-use effect_laws::effects_are_right;
-use joint_history::Joint;
+use joint_history::{Joint, noted_copied};
 use own_places::OwnPlaces;
 use plant_types::{List, Plant};
 use ring_core::RingEntry;
+use route_laws::effects_are_right;
 use std::alloc::{AllocError, Global};
 
 /// The spot of the entry of a bridge at a place, counted from 0.
@@ -70,8 +70,8 @@ fn spot_beside(
     }
 }
 
-/// The first spot of legal lists: a law between them that is broken, or a station that was not
-/// done.
+/// The first spot of legal lists: a law between them that is broken, or a node of which a station
+/// or an end of a bridge was not done.
 fn spot_from_laws(
     alloc: Global,
     plant: &Plant,
@@ -88,7 +88,7 @@ fn spot_from_laws(
     if let Some(ring) = only_entries(rings) {
         return spot_beside(alloc, plant, joint, ring, scans, followed);
     }
-    let noted = joined(alloc, rings)?;
+    let noted = noted_copied(alloc, rings)?;
     spot_beside(alloc, plant, joint, noted.as_slice(), scans, followed)
 }
 
@@ -115,11 +115,10 @@ fn spot_from_rings(
             let spot = ring_spot(network, place)?;
             Ok(Some(spot))
         }
-        RingCourses::Whole(rings) => {
+        RingCourses::Whole => {
             let followed = Followed {
                 done: done.as_slice(),
                 hosts_done: hosts_done.as_slice(),
-                ring: &rings.as_slice()[0],
             };
             spot_from_laws(alloc, plant, joint, scans, followed)
         }

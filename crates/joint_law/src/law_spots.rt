@@ -8,10 +8,10 @@ ghost use Rattle.joint_history.specs.Nets.{noted_on_rings};
 ghost use Rattle.joint_law.specs.OnRings.{AreOnRings};
 
 use crate::law::Law;
-use crate::on_rings::{OnRings, joined, only_entries};
+use crate::on_rings::{OnRings, only_entries};
 use crate::stations::{controller_breaks, host_breaks, side_breaks};
 use crate::verdict::Spot;
-use joint_history::{BridgeLog, ControllerLog, HostLog, Joint};
+use joint_history::{BridgeLog, ControllerLog, HostLog, Joint, noted_copied};
 use own_places::OwnPlaces;
 use plant_types::ADDRESSES;
 use ring_core::RingEntry;
@@ -262,6 +262,6 @@ pub fn broken_law(alloc: Global, joint: &Joint) -> Result<Option<Spot>, AllocErr
     if let Some(ring) = only_entries(rings) {
         return broken_beside(alloc, joint, ring);
     }
-    let noted = joined(alloc, rings)?;
+    let noted = noted_copied(alloc, rings)?;
     broken_beside(alloc, joint, noted.as_slice())
 }

@@ -18,11 +18,13 @@ mod judging;
 mod law;
 mod law_spots;
 mod laws;
+mod leaving;
 mod on_rings;
 mod replying;
 mod ring_following;
 mod same;
 mod sections;
+mod standing;
 mod stations;
 mod verdict;
 

@@ -1,10 +1,11 @@
 //! Following a ring's list, by the calls of a ring that keeps none.
 ghost use Rattle.std.specs.Prelude.{◌≡◌, ◌↔◌, ◌<◌, None, All, IfOk, IsTrue, length};
-ghost use Rattle.ring_core.specs.Legal.{HasRoom};
+ghost use Rattle.ring_core.specs.Legal.{HasRoom, IsLegalRing};
 ghost use Rattle.ring_core.specs.Machine.{addresses};
 ghost use Rattle.ring_core.specs.Bare.{IsBehind};
 ghost use Rattle.ring_core.specs.declared.entry.RingEntry.TheVariants as entries;
-ghost use Rattle.joint_law.specs.RingFollowing.{IsRingCourse, RingFollowed};
+ghost use Rattle.joint_law.specs.Courses.{FollowedTo};
+ghost use Rattle.joint_law.specs.RingFollowing.{RingFollowed};
 
 use crate::same::{same_frame, same_result, same_words};
 use mstr_block::{CallId, MstrResult};
@@ -194,30 +195,21 @@ fn follow(
     }
 }
 
-/// How a ring's list goes.
-#[derive(Drop)]
-pub(crate) enum RingCourse {
-    /// The entry, counted from 0, makes it illegal.
-    Breaks(usize),
-    /// It is legal, and the ring is behind it.
-    Whole(BareRing),
-}
-
-/// Follows a ring's list.
-pub(crate) fn ring_course(
+/// Makes the events of a ring's list by a ring of its own, as far as they may follow.
+pub(crate) fn follow_ring(
     alloc: Global,
     plan: &NetPlan,
     entries: &[RingEntry],
-) -> Result<RingCourse, AllocError>
+) -> Result<Option<usize>, AllocError>
     requires members { All (λ m. m < addresses) plan.now.members }
     requires fates { 0 < length plan.now.fates }
-    ensures { IfOk result (IsRingCourse plan.now entries.now) }
+    ensures { IfOk result (FollowedTo (IsLegalRing plan.now) entries.now) }
 {
     let mut ring = BareRing::new(alloc, plan)?;
     for place in 0..entries.len() {
         if !follow(alloc, &mut ring, &entries[..place], &entries[place])? {
-            return Ok(RingCourse::Breaks(place));
+            return Ok(Some(place));
         }
     }
-    Ok(RingCourse::Whole(ring))
+    Ok(None)
 }

@@ -15,11 +15,12 @@ pub enum Spot {
     Bridge { left: u8, entry: u32 },
     /// The entry makes the list of a network's ring illegal.
     Ring { network: u8, entry: u32 },
-    /// A law, 1 to 5, is broken between a station's list and its node's entries on the ring: the
-    /// two lists that it compares differ at the place, and of the fifth the place is that of the
-    /// first Down, counted among the node's own, that has no power failure of its own.
+    /// A law, 1 to 5, is broken between the list of a station, or that of a bridge for one of its
+    /// ends, and its node's entries on the ring: the two lists that it compares differ at the
+    /// place, and of the fifth the place is that of the first Down, counted among the node's own,
+    /// that has no power failure of its own.
     Law { law: u8, node: u8, place: u32 },
-    /// The station was not done.
+    /// The station of this node was not done, or the end of a bridge.
     Incomplete(u8),
 }
 

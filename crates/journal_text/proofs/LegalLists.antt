@@ -11,8 +11,7 @@ use Rattle.plant_types.specs.declared.net.HostPlan.{HostPlan}
 use Rattle.plant_types.specs.declared.net.BridgePlan.{BridgePlan}
 use Rattle.plant_types.specs.declared.plan.ControllerPlan.{ControllerPlan}
 use Rattle.plant_types.specs.declared.plan.Plant.{Plant}
-use Rattle.plant_types.specs.Plans.{IsHostPlan, first_net}
-use Rattle.plant_types.proofs.OneNet.{on-net}
+use Rattle.plant_types.specs.Plans.{IsBridgeOf, IsHostPlan, IsNetOf, PassesTests}
 use Rattle.mstr_block.specs.declared.call.CallId.{CallId}
 use Rattle.mstr_block.specs.declared.call.MstrAsk.{MstrAsk}
 use Rattle.mstr_block.specs.declared.call.MstrAsk.TheVariants.{Write, Read, LocalStats, ClearLocal}
@@ -49,14 +48,13 @@ use Rattle.joint_history.specs.declared.joint.BridgeLog.{BridgeLog}
 use Rattle.joint_history.specs.declared.joint.RingLog.{RingLog}
 use Rattle.joint_history.specs.JointLaws.{IsLegalLog, IsLegalHostLog, IsLegalBridgeLog}
 use Rattle.joint_history.specs.JointLaws.{IsLegalRingLog, fixed_of}
-use Rattle.joint_history.specs.Nets.{noted_on_rings}
 use Rattle.joint_history.specs.Reading.{called_of, controller_at, items_of, sort_of}
 use Rattle.joint_history.proofs.Collected.{CallLaws, collected-new}
-use Rattle.joint_history.proofs.OneRing.{bridges-none, legal-ring, ring_log, rings-are}
 use Rattle.journal_text.specs.Journal.{IsPlainCall, IsPlainEntry, IsPlainFrame, IsPlainGot}
 use Rattle.journal_text.specs.Journal.{IsPlainBridgeEntry, IsPlainHostEntry, IsPlainKind}
 use Rattle.journal_text.specs.Journal.{IsPlainRing}
 use Rattle.journal_text.specs.Laws.{LegalIsPlain}
+use Rattle.journal_text.proofs.ForwardRoutes.{plain_bridge}
 
 -- what stations' lists have as nodes
 same_nodes : {P L : Type 0} (R : P → L → Type 0) (plan_node : P → ℕ) (log_node : L → ℕ)
@@ -67,6 +65,17 @@ same_nodes R plan_node log_node same [] (l ∷ ls) all = absurd all
 same_nodes R plan_node log_node same (p ∷ ps) [] all = absurd all
 same_nodes R plan_node log_node same (p ∷ ps) (l ∷ ls) all =
     λ i. same p l all.0 i ∷ same_nodes R plan_node log_node same ps ls all.1 i
+
+-- what each log has by its plan, where the plans are sound, all logs have
+each_log : {P L : Type 0} (I : P → Type 0) (R : P → L → Type 0) (Q : L → Type 0)
+    → ((p : P) (l : L) → I p → R p l → Q l)
+    → (ps : List P) (ls : List L) → All I ps → AllZip R ps ls → All Q ls
+each_log I R Q each [] [] is all = All-nil Q
+each_log I R Q each [] (l ∷ ls) is all = absurd all
+each_log I R Q each (p ∷ ps) [] is all = absurd all
+each_log I R Q each (p ∷ ps) (l ∷ ls) is all =
+    All-cons Q l ls (each p l (All-head I p ps is) all.0)
+    (each_log I R Q each ps ls (All-tail I p ps is) all.1)
 
 -- a route that leads away has an address
 some_route : (n : ℕ) (route : List ℕ) → LeadsAway n route → route ≢ []
@@ -137,18 +146,6 @@ plain_entries laws fixed past (e ∷ es) legal (suc k) d within =
     plain_entries laws fixed (past ++ e ∷ []) es
     (subst (IsLegal fixed) (sym (append_assoc past (e ∷ []) es)) legal) k d (omega arith)
 
-plain_logs : CallLaws → (plant : Plant) (scans : ℕ)
-    (ps : List ControllerPlan) (ls : List ControllerLog)
-    → AllZip (IsLegalLog plant scans) ps ls
-    → All (λ (log : ControllerLog). All IsPlainEntry log.entries) ls
-plain_logs laws plant scans [] [] all k d within = absurd (omega arith)
-plain_logs laws plant scans [] (l ∷ ls) all k d within = absurd all
-plain_logs laws plant scans (p ∷ ps) [] all k d within = absurd all
-plain_logs laws plant scans (p ∷ ps) (l ∷ ls) all zero d within =
-    plain_entries laws (fixed_of plant scans p) [] l.entries all.0.1
-plain_logs laws plant scans (p ∷ ps) (l ∷ ls) all (suc k) d within =
-    plain_logs laws plant scans ps ls all.1 k d (omega arith)
-
 -- what a host asks has the route that its plan has
 some_addresses : (route : List ℕ) → 1 ≤ length route → route ≢ []
 some_addresses [] some = absurd (omega (arith, some))
@@ -166,18 +163,7 @@ plain_asks plan list is legal k d within =
     of (Answer id result) there = tt
     of (Served id request reply) there = tt
 
-plain_host_logs : (ps : List HostPlan) (ls : List HostLog) → All IsHostPlan ps
-    → AllZip IsLegalHostLog ps ls
-    → All (λ (log : HostLog). All IsPlainHostEntry log.entries) ls
-plain_host_logs [] [] is all k d within = absurd (omega arith)
-plain_host_logs [] (l ∷ ls) is all k d within = absurd all
-plain_host_logs (p ∷ ps) [] is all k d within = absurd all
-plain_host_logs (p ∷ ps) (l ∷ ls) is all zero d within =
-    plain_asks p l.entries (All-head IsHostPlan p ps is) all.0.1
-plain_host_logs (p ∷ ps) (l ∷ ls) is all (suc k) d within =
-    plain_host_logs ps ls (All-tail IsHostPlan p ps is) all.1 k d (omega arith)
-
--- each entry of a legal history of the ring is lawful
+-- each entry of a legal history of a ring is lawful
 lawful : (net : NetPlan) (past list : List RingEntry) → IsRun net past list
     → All (IsLawful net) list
 lawful net past [] run k d within = absurd (omega arith)
@@ -219,46 +205,48 @@ plain_ring net history (Pass n done words) target caller is there law = tt
 plain_ring net history (Leave n cause) target caller is there law = tt
 plain_ring net history (Join n) target caller is there law = tt
 
-pub legal-is_plain : CallLaws → OnlyItsTarget → ReplyToItsCaller → LegalIsPlain
-legal-is_plain laws target caller plant scans joint is legal =
-    let net = first_net plant in
-    let noted = noted_on_rings joint in
-    let ring = legal-ring plant scans joint is legal in
-    let rings = sym (rings-are plant scans joint is legal) in
-    let bridges = sym (bridges-none plant scans joint is legal) in
-    let history : IsRingHistory net noted = record {
+plain_entries_of_ring : OnlyItsTarget → ReplyToItsCaller → (plant : Plant) (net : NetPlan)
+    (log : RingLog) → IsNetOf plant net → IsLegalRingLog net log → All IsPlainRing log.entries
+plain_entries_of_ring target caller plant net log of legal =
+    let ring = log.entries in
+    let history : IsRingHistory net ring = record {
       members = λ k d within.
-          (let node = (on-net plant is).plan.members.each k d within in
-          let most = node.to in omega arith);
-      legal = ring;
+          (let node = of.plan.members.each k d within in let most = node.to in omega arith);
+      legal = legal.1;
     } in
-    let plain : All IsPlainRing noted = λ k d within. plain_ring net noted
-    (slice_index_or noted k d) target caller history (Contains-get_or noted k d within)
-    (lawful net [] noted ring k d within) in
-    record {
-      controllers = subst IsStrictlyIncreasing (sym (same_nodes (IsLegalLog plant scans)
-          (λ (p : ControllerPlan). p.node) (λ (l : ControllerLog). l.node)
-          (λ p l r. r.0) plant.controllers joint.controllers legal.controllers))
-          is.controllers_rise;
-      hosts = subst IsStrictlyIncreasing
-          (sym (same_nodes IsLegalHostLog (λ (p : HostPlan). p.node) (λ (l : HostLog). l.node)
-          (λ p l r. r.0) plant.hosts joint.hosts legal.hosts)) is.hosts_rise;
-      bridges = subst IsStrictlyIncreasing
-          (sym (same_nodes IsLegalBridgeLog (λ (p : BridgePlan). p.left)
-          (λ (l : BridgeLog). l.left) (λ p l r. r.0) plant.bridges joint.bridges legal.bridges))
-          is.bridges_rise;
-      rings = subst IsStrictlyIncreasing
-          (sym (same_nodes IsLegalRingLog (λ (p : NetPlan). p.number)
-          (λ (l : RingLog). l.network) (λ p l r. r.0) plant.nets joint.rings legal.rings))
-          is.nets_rise;
-      entries = plain_logs laws plant scans plant.controllers joint.controllers
-          legal.controllers;
-      asks = plain_host_logs plant.hosts joint.hosts is.hosts legal.hosts;
-      forwards = subst (λ (logs : List BridgeLog).
-          All (λ (log : BridgeLog). All IsPlainBridgeEntry log.entries) logs) bridges
-          (All-nil (λ (log : BridgeLog). All IsPlainBridgeEntry log.entries));
-      frames = subst (λ (logs : List RingLog).
-          All (λ (log : RingLog). All IsPlainRing log.entries) logs) rings
-          (All-cons (λ (log : RingLog). All IsPlainRing log.entries) (ring_log net noted) [] plain
-          (All-nil (λ (log : RingLog). All IsPlainRing log.entries)));
-    }
+    λ k d within. plain_ring net ring (slice_index_or ring k d) target caller history
+    (Contains-get_or ring k d within) (lawful net [] ring legal.1 k d within)
+
+pub legal-is_plain : CallLaws → OnlyItsTarget → ReplyToItsCaller → LegalIsPlain
+legal-is_plain laws target caller plant scans joint is legal = record {
+  controllers = subst IsStrictlyIncreasing (sym (same_nodes (IsLegalLog plant scans)
+      (λ (p : ControllerPlan). p.node) (λ (l : ControllerLog). l.node)
+      (λ p l r. r.0) plant.controllers joint.controllers legal.controllers))
+      is.controllers_rise;
+  hosts = subst IsStrictlyIncreasing
+      (sym (same_nodes IsLegalHostLog (λ (p : HostPlan). p.node) (λ (l : HostLog). l.node)
+      (λ p l r. r.0) plant.hosts joint.hosts legal.hosts)) is.hosts_rise;
+  bridges = subst IsStrictlyIncreasing
+      (sym (same_nodes IsLegalBridgeLog (λ (p : BridgePlan). p.left)
+      (λ (l : BridgeLog). l.left) (λ p l r. r.0) plant.bridges joint.bridges legal.bridges))
+      is.bridges_rise;
+  rings = subst IsStrictlyIncreasing
+      (sym (same_nodes IsLegalRingLog (λ (p : NetPlan). p.number)
+      (λ (l : RingLog). l.network) (λ p l r. r.0) plant.nets joint.rings legal.rings))
+      is.nets_rise;
+  entries = each_log PassesTests (IsLegalLog plant scans)
+      (λ (l : ControllerLog). All IsPlainEntry l.entries)
+      (λ p l sound r. plain_entries laws (fixed_of plant scans p) [] l.entries r.1)
+      plant.controllers joint.controllers is.controllers legal.controllers;
+  asks = each_log IsHostPlan IsLegalHostLog (λ (l : HostLog). All IsPlainHostEntry l.entries)
+      (λ p l sound r. plain_asks p l.entries sound r.1)
+      plant.hosts joint.hosts is.hosts legal.hosts;
+  forwards = each_log (IsBridgeOf plant) IsLegalBridgeLog
+      (λ (l : BridgeLog). All IsPlainBridgeEntry l.entries)
+      (λ p l sound r. plain_bridge p l.entries r.2)
+      plant.bridges joint.bridges is.bridges legal.bridges;
+  frames = each_log (IsNetOf plant) IsLegalRingLog
+      (λ (l : RingLog). All IsPlainRing l.entries)
+      (plain_entries_of_ring target caller plant)
+      plant.nets joint.rings is.nets legal.rings;
+}

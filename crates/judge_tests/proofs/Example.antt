@@ -1,50 +1,29 @@
 -- The plant of the tests can be judged.
-use Rattle.std.proofs.Common.{◌≡◌, ℕ, zero, suc, ◌≤◌, [], ◌∷◌, refl, arith}
-use Rattle.std.specs.List.{All, Contains}
-use Rattle.std.specs.List.Sorted.{IsStrictlyIncreasing}
+use Rattle.std.proofs.Common.{◌≡◌, ℕ, ◌≤◌, [], ◌∷◌, ◌++◌, refl, arith}
+use Rattle.std.specs.Prelude.{nat_eq}
+use Rattle.std.specs.List.{Contains, IsDistinct}
 use Rattle.std.proofs.lemmas.List.Sorted.{IsPermutation-refl}
 use Rattle.plant_types.specs.FirstFault.{tests_behind}
 use Rattle.plant_types.specs.Pairs.{no_two}
 use Rattle.plant_types.specs.declared.net.HostPlan.{HostPlan}
 use Rattle.plant_types.specs.declared.plan.ControllerPlan.{ControllerPlan}
-use Rattle.plant_types.specs.Plans.{IsAskOf, IsFromTo, IsHostPlan, IsNetPlan, IsNode}
-use Rattle.plant_types.specs.Plans.{PassesTests, net_numbers}
-use Rattle.plant_types.proofs.OneNet.{IsOnNet, net-of, of-one-net, on-a-net, stations-once}
+use Rattle.plant_types.specs.Plans.{IsAskOf, IsHostPlan, IsNetOf, IsNetPlan, IsNode, PassesTests}
+use Rattle.plant_types.specs.Plans.{controller_nodes, end_nodes, host_nodes, net_numbers}
 use Rattle.controller_core.specs.Machine.{IsRunnable}
 use Rattle.joint_history.specs.JointLaws.{fixed_of}
 use Rattle.judge_tests.specs.Example.{controller_plan, example_plant, host_plan, net_plan}
+use Rattle.judge_tests.proofs.Small.{all-one, all-two, from-to, is-node, none-rises, one-rises}
+use Rattle.judge_tests.proofs.Small.{two-rise}
 use Rattle.joint_law.specs.Spots.{CanBeJudged}
-
-all-one : {X : Type 0} (P : X → Type 0) (x : X) → P x → All P (x ∷ [])
-all-one P x here zero d low = here
-all-one P x here (suc k) d low = absurd (omega arith)
-
-all-two : {X : Type 0} (P : X → Type 0) (x y : X) → P x → P y → All P (x ∷ y ∷ [])
-all-two P x y a b zero d low = a
-all-two P x y a b (suc zero) d low = b
-all-two P x y a b (suc (suc k)) d low = absurd (omega arith)
-
-from-to : (least most number : ℕ) → least ≤ number → number ≤ most → IsFromTo least most number
-from-to least most number a b = record { from = a; to = b }
-
-none-rises : IsStrictlyIncreasing []
-none-rises k low = absurd (omega arith)
-
-one-rises : (n : ℕ) → IsStrictlyIncreasing (n ∷ [])
-one-rises n k low = absurd (omega arith)
-
-two-rise : IsStrictlyIncreasing (1 ∷ 2 ∷ [])
-two-rise zero low = omega arith
-two-rise (suc k) low = absurd (omega arith)
 
 net-sound : IsNetPlan net_plan
 net-sound = record {
   members = record {
     some = omega arith;
     each =
-        all-two IsNode 1 2 (from-to 1 64 1 (omega arith) (omega arith))
-        (from-to 1 64 2 (omega arith) (omega arith));
-    rise = two-rise;
+        all-two IsNode 1 2 (is-node 1 (omega arith) (omega arith))
+        (is-node 2 (omega arith) (omega arith));
+    rise = two-rise 1 2 (omega arith);
   };
   bridges = record { among = λ k d low. absurd (omega arith); rise = none-rises };
   fates = from-to 1 1000 1 (omega arith) (omega arith);
@@ -59,13 +38,13 @@ net-sound = record {
 
 host-sound : IsHostPlan host_plan
 host-sound = record {
-  node = from-to 1 64 2 (omega arith) (omega arith);
+  node = is-node 2 (omega arith) (omega arith);
   few = omega arith;
   requests = all-one (IsAskOf host_plan) _ (record {
     hold = from-to 1 10000 1 (omega arith) (omega arith);
     route = record {
       some = omega arith;
-      nodes = all-one IsNode 1 (from-to 1 64 1 (omega arith) (omega arith));
+      nodes = all-one IsNode 1 (is-node 1 (omega arith) (omega arith));
       other = λ same. (let one : ◌≡◌ {A = ℕ} 1 2 = cc in omega (arith, one));
       alone = λ _. refl;
     };
@@ -86,28 +65,28 @@ controller-runs scans from to = record {
   scans = omega arith;
 }
 
-on-example : IsOnNet example_plant net_plan
-on-example = record {
-  only = refl;
-  no_bridges = refl;
+net-on : IsNetOf example_plant net_plan
+net-on = record {
   plan = net-sound;
-  alone = refl;
-  no_bridge = refl;
-  controllers_there = all-one (λ (plan : ControllerPlan). plan.network ≡ 0) controller_plan refl;
-  hosts_there = all-one (λ (plan : HostPlan). plan.network ≡ 0) host_plan refl;
+  some = let some : 1 ≤ 2 = omega arith in some;
   members = IsPermutation-refl (1 ∷ 2 ∷ []);
+  bridges = IsPermutation-refl [];
 }
 
 there : Contains (net_numbers example_plant) 0
-there = on-a-net example_plant net_plan on-example 0 refl
+there = (0, omega arith, refl)
+
+each-once : IsDistinct nat_eq
+    (controller_nodes example_plant ++ host_nodes example_plant ++ end_nodes example_plant)
+unfolding IsDistinct
+each-once = ((refl, tt), (tt, tt))
 
 pub example-judged : (scans : ℕ) → 1 ≤ scans → scans ≤ 2000 → CanBeJudged example_plant scans
 example-judged scans from to = record {
   sound = record {
     scan_time = from-to 1 1000 10 (omega arith) (omega arith);
     watchdog = from-to 1 10000 500 (omega arith) (omega arith);
-    alone = of-one-net example_plant net_plan on-example;
-    nets = net-of example_plant net_plan on-example (omega arith);
+    nets = all-one (IsNetOf example_plant) net_plan net-on;
     nets_rise = one-rises 0;
     count = from-to 1 16 1 (omega arith) (omega arith);
     controllers = all-one PassesTests controller_plan controller-passes;
@@ -123,7 +102,7 @@ example-judged scans from to = record {
     few_bridges = omega arith;
     bridges = λ k d low. absurd (omega arith);
     bridges_rise = none-rises;
-    once = stations-once example_plant net_plan on-example;
+    once = each-once;
   };
   runs =
       all-one (λ plan. IsRunnable (fixed_of example_plant scans plan)) controller_plan

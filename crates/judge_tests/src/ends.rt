@@ -26,8 +26,8 @@ enum Fault {
 }
 
 /// The call by which the far end sends the request on.
-const ONWARD: CallId = CallId {
-    node: 4,
+pub(crate) const ONWARD: CallId = CallId {
+    node: 1,
     path: 1,
     seq: 1,
 };
@@ -60,7 +60,7 @@ fn controllers(alloc: Global) -> Result<List<ControllerLog>, AllocError> {
     Ok(logs)
 }
 
-fn accept(alloc: Global) -> Result<BridgeEntry, AllocError> {
+pub(crate) fn accept(alloc: Global) -> Result<BridgeEntry, AllocError> {
     Ok(BridgeEntry::Accept {
         side: 3,
         id: CALL,
@@ -69,9 +69,9 @@ fn accept(alloc: Global) -> Result<BridgeEntry, AllocError> {
     })
 }
 
-fn forward(alloc: Global) -> Result<BridgeEntry, AllocError> {
+pub(crate) fn forward(alloc: Global) -> Result<BridgeEntry, AllocError> {
     Ok(BridgeEntry::Forward {
-        side: 4,
+        side: 1,
         old: CALL,
         id: ONWARD,
         route: Route::of(&[5]),
@@ -79,7 +79,23 @@ fn forward(alloc: Global) -> Result<BridgeEntry, AllocError> {
     })
 }
 
-/// The bridge from 3 to 4.
+pub(crate) fn finish(alloc: Global) -> Result<BridgeEntry, AllocError> {
+    Ok(BridgeEntry::Finish {
+        side: 1,
+        id: ONWARD,
+        result: RelayResult::Reply(pdu_of(alloc, &REPLY)?),
+    })
+}
+
+pub(crate) fn back(alloc: Global) -> Result<BridgeEntry, AllocError> {
+    Ok(BridgeEntry::Back {
+        side: 3,
+        id: CALL,
+        reply: pdu_of(alloc, &REPLY)?,
+    })
+}
+
+/// The bridge from 3 to 1.
 fn bridges(alloc: Global, fault: Fault) -> Result<List<BridgeLog>, AllocError> {
     let mut entries = List::new(alloc);
     if fault != Fault::NoAccept {
@@ -89,16 +105,12 @@ fn bridges(alloc: Global, fault: Fault) -> Result<List<BridgeLog>, AllocError> {
         entries.push(forward(alloc)?)?;
     }
     if fault != Fault::NoFinish {
-        let result = RelayResult::Reply(pdu_of(alloc, &REPLY)?);
-        let (side, id) = (4, ONWARD);
-        entries.push(BridgeEntry::Finish { side, id, result })?;
+        entries.push(finish(alloc)?)?;
     }
     if fault != Fault::NoBack {
-        let reply = pdu_of(alloc, &REPLY)?;
-        let (side, id) = (3, CALL);
-        entries.push(BridgeEntry::Back { side, id, reply })?;
+        entries.push(back(alloc)?)?;
     }
-    let (left, right) = (3, 4);
+    let (left, right) = (3, 1);
     let mut logs = List::new(alloc);
     logs.push(BridgeLog {
         left,
@@ -108,7 +120,7 @@ fn bridges(alloc: Global, fault: Fault) -> Result<List<BridgeLog>, AllocError> {
     Ok(logs)
 }
 
-fn request(alloc: Global, id: CallId, to: u8, rest: Route) -> Result<Frame, AllocError> {
+pub(crate) fn request(alloc: Global, id: CallId, to: u8, rest: Route) -> Result<Frame, AllocError> {
     Ok(Frame {
         kind: FrameKind::Request,
         to,
@@ -118,7 +130,7 @@ fn request(alloc: Global, id: CallId, to: u8, rest: Route) -> Result<Frame, Allo
     })
 }
 
-fn reply(alloc: Global, id: CallId) -> Result<Frame, AllocError> {
+pub(crate) fn reply(alloc: Global, id: CallId) -> Result<Frame, AllocError> {
     Ok(Frame {
         kind: FrameKind::Reply,
         to: id.node,
@@ -184,11 +196,11 @@ fn broken(alloc: Global, fault: Fault) -> Result<Option<Spot>, AllocError> {
 /// Which law each fault breaks first, at which node.
 const BROKEN: [(Fault, u8, u8); 6] = [
     (Fault::NoAccept, 2, 3),
-    (Fault::NoForward, 1, 4),
+    (Fault::NoForward, 1, 1),
     (Fault::NoBack, 3, 3),
-    (Fault::NoFinish, 4, 4),
+    (Fault::NoFinish, 4, 1),
     (Fault::Down, 5, 3),
-    (Fault::NoFarRing, 1, 4),
+    (Fault::NoFarRing, 1, 1),
 ];
 
 /// The laws read all rings, and the bridge's list for each of its ends.

@@ -311,7 +311,7 @@ fn reply(alloc: Global, change: Change) -> Result<Frame, AllocError> {
     })
 }
 
-fn pass(alloc: Global, node: u8, done: bool) -> Result<RingEntry, AllocError> {
+pub(crate) fn pass(alloc: Global, node: u8, done: bool) -> Result<RingEntry, AllocError> {
     let words = Words::of(alloc, &[])?;
     Ok(RingEntry::Pass { node, done, words })
 }

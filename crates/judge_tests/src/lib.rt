@@ -2,6 +2,8 @@
 #![tactic(auto)]
 
 #[cfg(test)]
+mod bridged;
+#[cfg(test)]
 mod ends;
 #[cfg(test)]
 mod histories;

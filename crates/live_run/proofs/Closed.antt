@@ -10,10 +10,11 @@ use Rattle.plant_types.specs.declared.net.HostPlan.{HostPlan}
 use Rattle.plant_types.specs.declared.net.NetPlan.{NetPlan}
 use Rattle.plant_types.specs.declared.plan.ControllerPlan.{ControllerPlan}
 use Rattle.plant_types.specs.declared.plan.Plant.{Plant}
-use Rattle.plant_types.specs.Plans.{IsPlant, controller_nodes, first_net, host_nodes}
-use Rattle.plant_types.proofs.OneNet.{on-net}
+use Rattle.plant_types.specs.Plans.{controller_nodes, first_net, host_nodes, net_of}
+use Rattle.one_net.specs.OneNet.{IsOneNetPlant}
+use Rattle.one_net.proofs.OneNet.{net-of-first, on-net}
 use Rattle.ring_core.specs.declared.entry.RingEntry.{RingEntry}
-use Rattle.ring_core.specs.Legal.{IsLegalRing}
+use Rattle.ring_core.specs.Legal.{IsLegalRing, IsMember}
 use Rattle.ring_core.specs.Words.{maker}
 use Rattle.joint_history.specs.declared.joint.ControllerLog.{ControllerLog}
 use Rattle.joint_history.specs.declared.joint.HostLog.{HostLog}
@@ -24,13 +25,16 @@ use Rattle.joint_history.specs.JointLaws.{IsLegalLog, IsLegalRingLog, IsTiedBrid
 use Rattle.joint_history.specs.JointLaws.{IsTiedController, IsTiedHost, fixed_of}
 use Rattle.joint_history.specs.Nets.{noted_on_rings}
 use Rattle.joint_history.specs.Reading.{host_items_of, is_off_at}
-use Rattle.joint_history.proofs.OneRing.{bridges-zip, ring_log, rings-legal}
+use Rattle.joint_history.proofs.OneRing.{ring_log}
+use Rattle.one_net.proofs.OneRing.{bridges-zip, rings-legal}
 use Rattle.tied_lists.specs.Items.{AHost}
 use Rattle.tied_lists.specs.Own.{own}
 use Rattle.tied_lists.specs.Tied.{Tied}
 use Rattle.tied_lists.specs.Waits.{status_at}
 use Rattle.tied_lists.proofs.Turns.{membership-kept, own-found}
-use Rattle.turn_laws.specs.KeepsOn.{HasFinished, HostHasFinished, NoneSpent, is_out_of_ring}
+use Rattle.turn_laws.specs.KeepsOn.{HasFinished, HasFinishedOn, HostHasFinished}
+use Rattle.turn_laws.specs.KeepsOn.{HostHasFinishedOn, NoneSpent, is_out_of_ring}
+use Rattle.turn_laws.proofs.OnNets.{all-finished, all-hosts-finished}
 use Rattle.turn_laws.proofs.HostOthers.{host-others}
 use Rattle.turn_laws.proofs.Others.{others}
 use Rattle.turn_laws.proofs.Spent.{nobody-spends}
@@ -46,13 +50,13 @@ use Rattle.live_run.proofs.Ran.{all-cons}
 pub record EndedOn (plant : Plant) (scans : ℕ) (h : List RingEntry) (plan : ControllerPlan)
     (log : ControllerLog) : Type 0 where
   pub node : log.node ≡ plan.node
-  pub finished : HasFinished plant scans h plan log
+  pub finished : HasFinishedOn (first_net plant) plant scans h plan log
   pub unspent : NoneSpent (own plan.node h)
 
 -- and so did a host
 pub record HostEndedOn (plant : Plant) (h : List RingEntry) (plan : HostPlan)
     (log : HostLog) : Type 0 where
-  pub finished : HostHasFinished plant h plan log
+  pub finished : HostHasFinishedOn (first_net plant) h plan log
   pub unspent : NoneSpent (own plan.node h)
 
 -- what a node had seen, and what others added later
@@ -154,7 +158,7 @@ pub record Closes (plant : Plant) (scans : ℕ) (joint : Joint) : Type 0 where
       joint.bridges
   pub unspent : NoneSpent (noted_on_rings joint)
 
-pub closes : (plant : Plant) (scans : ℕ) (joint : Joint) (p : PassFacts RingEntry) → IsPlant plant
+pub closes : (plant : Plant) (scans : ℕ) (joint : Joint) (p : PassFacts RingEntry) → IsOneNetPlant plant
     → joint.bridges ≡ [] → joint.rings ≡ ring_log (first_net plant) (noted_on_rings joint) ∷ []
     → p.gate.opening ≡ [] → Owns maker p (noted_on_rings joint)
     → All (StartsWith (noted_on_rings joint)) p.heard
@@ -188,10 +192,13 @@ closes plant scans joint p sound none only unopened owns heard legal one two = r
         (λ a b e. subst (λ n. HostInTime b.entries (own n h))
         (sym e.finished.node) e.finished.keeps.timely.timely) plant.hosts joint.hosts served;
   };
-  controllers = zip-each (EndedOn plant scans h) (HasFinished plant scans h)
-      (λ a b e. e.finished) plant.controllers joint.controllers ran;
-  hosts = zip-each (HostEndedOn plant h) (HostHasFinished plant h) (λ a b e. e.finished) plant.hosts
-      joint.hosts served;
+  controllers = all-finished plant h (first_net plant) home scans plant.controllers
+      joint.controllers (zip-each (EndedOn plant scans h)
+      (HasFinishedOn (first_net plant) plant scans h) (λ a b e. e.finished) plant.controllers
+      joint.controllers ran);
+  hosts = all-hosts-finished plant h (first_net plant) home plant.hosts joint.hosts
+      (zip-each (HostEndedOn plant h) (HostHasFinishedOn (first_net plant) h)
+      (λ a b e. e.finished) plant.hosts joint.hosts served);
   bridges = subst (AllZip (IsCompleteBridgeLog plant h) plant.bridges) (sym none)
       (bridges-zip (IsCompleteBridgeLog plant h) plant sound);
   unspent = nobody-spends (first_net plant) h legal (λ n member. unspent n
@@ -202,6 +209,9 @@ closes plant scans joint p sound none only unopened owns heard legal one two = r
   where
     h : List RingEntry
     h = noted_on_rings joint
+
+    home : (n : ℕ) → IsMember (first_net plant) n → net_of plant n ≡ first_net plant
+    home n member = net-of-first plant n sound member
 
     ran : AllZip (EndedOn plant scans h) plant.controllers joint.controllers
     ran = zip-each (λ plan log. IsBrought p.joined p.heard plan.node

@@ -12,8 +12,9 @@ use Rattle.ring_core.specs.declared.entry.RingEntry.{RingEntry}
 use Rattle.live_run.specs.Sides.{GatedRingIs}
 use Rattle.plant_types.specs.declared.net.NetPlan.{NetPlan}
 use Rattle.plant_types.specs.declared.plan.Plant.{Plant}
-use Rattle.plant_types.specs.Plans.{IsPlant, controller_nodes, first_net, host_nodes}
-use Rattle.plant_types.proofs.OneNet.{IsOnNet, on-net}
+use Rattle.plant_types.specs.Plans.{controller_nodes, first_net, host_nodes}
+use Rattle.one_net.specs.OneNet.{IsOneNetPlant}
+use Rattle.one_net.proofs.OneNet.{IsOnNet, on-net}
 use Rattle.effect_laws.proofs.Counts.{count_cons, once_rising}
 use Rattle.live_run.specs.Dealing.{AreNew, fresh_station}
 
@@ -139,7 +140,7 @@ positive whole k d within none zero is =
     absurd (let one = counted-there 0 whole k d within is in omega (arith, one, none))
 positive whole k d within none (suc n) is = omega (arith, is)
 
-pub plant-new : (plant : Plant) → IsPlant plant → AreNew [] (controller_nodes plant)
+pub plant-new : (plant : Plant) → IsOneNetPlant plant → AreNew [] (controller_nodes plant)
     × AreNew (reverse (controller_nodes plant) ++ []) (host_nodes plant)
 plant-new plant sound =
     new-parts [] (controller_nodes plant) (host_nodes plant)

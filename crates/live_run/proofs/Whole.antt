@@ -10,8 +10,9 @@ use Rattle.plant_types.specs.declared.net.HostPlan.{HostPlan}
 use Rattle.plant_types.specs.declared.net.NetPlan.{NetPlan}
 use Rattle.plant_types.specs.declared.plan.ControllerPlan.{ControllerPlan}
 use Rattle.plant_types.specs.declared.plan.Plant.{Plant}
-use Rattle.plant_types.specs.Plans.{IsPlant, controller_nodes, first_net, host_nodes}
-use Rattle.plant_types.proofs.OneNet.{on-net}
+use Rattle.plant_types.specs.Plans.{controller_nodes, first_net, host_nodes}
+use Rattle.one_net.specs.OneNet.{IsOneNetPlant}
+use Rattle.one_net.proofs.OneNet.{on-net}
 use Rattle.ring_core.specs.declared.entry.RingEntry.{RingEntry}
 use Rattle.ring_core.specs.Legal.{IsMember}
 use Rattle.std.proofs.lemmas.List.Elements.{All-contains_itself}
@@ -32,7 +33,7 @@ all-parts : {A : Type 0} (P : A → Type 0) (xs : List A) → ((x : A) → Conta
 all-parts P xs f k d low =
     f (Rattle.std.proofs.Common.get_or xs k d) (All-contains_itself xs k d low)
 
-pub controllers-members : (plant : Plant) → IsPlant plant
+pub controllers-members : (plant : Plant) → IsOneNetPlant plant
     → All (λ n. IsMember (first_net plant) n) (controller_nodes plant)
 controllers-members plant sound =
     let net = first_net plant in
@@ -41,7 +42,7 @@ controllers-members plant sound =
     n (on-net plant sound).members
     (Contains-append_left (controller_nodes plant) (host_nodes plant) n there))
 
-pub hosts-members : (plant : Plant) → IsPlant plant
+pub hosts-members : (plant : Plant) → IsOneNetPlant plant
     → All (λ n. IsMember (first_net plant) n) (host_nodes plant)
 hosts-members plant sound =
     let net = first_net plant in
@@ -72,7 +73,7 @@ hosts-seated plant gate old new is r =
     (r.sides ∙ ap (Rattle.live_run.specs.Stations.sides_of seat_side) is)
 
 pub controllers-at : (plant : Plant) (scans : ℕ) (gate : GateFacts RingEntry NetPlan)
-    (old new : List (Seat NotedLog)) → IsPlant plant
+    (old new : List (Seat NotedLog)) → IsOneNetPlant plant
     → old ≡ map (λ (plan : ControllerPlan). fresh_station gate plan.node) plant.controllers
     → RanEach seat_side (HasRun seat_seen plant scans) plant.controllers old new
     → All (IsAtGate gate) new
@@ -81,7 +82,7 @@ controllers-at plant scans gate old new sound is r =
     (controllers-seated plant scans gate old new is r)
 
 pub hosts-at : (plant : Plant) (gate : GateFacts RingEntry NetPlan) (old new : List (Seat HostLog))
-    → IsPlant plant
+    → IsOneNetPlant plant
     → old ≡ map (λ (plan : HostPlan). fresh_station gate plan.node) plant.hosts
     → RanEach seat_side (HostHasRun seat_seen plant) plant.hosts old new → All (IsAtGate gate) new
 hosts-at plant gate old new sound is r =

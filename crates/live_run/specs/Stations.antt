@@ -13,10 +13,10 @@ use Rattle.tied_lists.specs.Own.{own}
 use Rattle.joint_history.specs.declared.joint.ControllerLog.{ControllerLog}
 use Rattle.joint_history.specs.declared.joint.HostLog.{HostLog}
 use Rattle.joint_history.specs.JointLaws.{fixed_of}
-use Rattle.joint_history.specs.Nets.{net_of}
+use Rattle.plant_types.specs.Plans.{first_net}
 use Rattle.comm_port.specs.Sides.{RingSideIs}
 use Rattle.comm_port.specs.Turns.{IsNoBridge}
-use Rattle.turn_laws.specs.KeepsOn.{HasFinished, HostHasFinished, NoneSpent}
+use Rattle.turn_laws.specs.KeepsOn.{HasFinishedOn, HostHasFinishedOn, NoneSpent}
 use Rattle.live_run.specs.declared.stations.NotedLog.{NotedLog}
 use Rattle.live_run.specs.declared.stations.Station.{Station}
 
@@ -35,10 +35,10 @@ CanServeAll plans = All IsHostPlan plans
 -- a bridge, and has seen nothing.
 pub record IsUnused {Q : Type 0} (plant : Plant) (node : ℕ) (side : RingSideIs Q)
     (known : List RingEntry) : Type 0 where
-  pub sound : IsNetPlan (net_of plant node)
-  pub member : IsMember (net_of plant node) node
-  pub no_bridge : IsNoBridge (net_of plant node) node
-  pub net : side.net ≡ net_of plant node
+  pub sound : IsNetPlan (first_net plant)
+  pub member : IsMember (first_net plant) node
+  pub no_bridge : IsNoBridge (first_net plant) node
+  pub net : side.net ≡ first_net plant
   pub writer : side.writer ≡ Some node
   pub nothing : known ≡ []
 
@@ -46,7 +46,7 @@ pub record IsUnused {Q : Type 0} (plant : Plant) (node : ℕ) (side : RingSideIs
 pub record CameToEnd (plant : Plant) (scans : ℕ) (plan : ControllerPlan) (log : ControllerLog)
     (ring : List RingEntry) : Type 0 where
   pub node : log.node ≡ plan.node
-  pub finished : HasFinished plant scans ring plan log
+  pub finished : HasFinishedOn (first_net plant) plant scans ring plan log
   pub unspent : NoneSpent (own plan.node ring)
 
 -- A controller came to its end, and what it noted of its panel is what its history has noted.
@@ -58,7 +58,7 @@ pub record CameNoted (plant : Plant) (scans : ℕ) (plan : ControllerPlan) (note
 -- A host came to its end, as its history and what its node has seen of the ring tell.
 pub record HostCameToEnd (plant : Plant) (plan : HostPlan) (log : HostLog)
     (ring : List RingEntry) : Type 0 where
-  pub finished : HostHasFinished plant ring plan log
+  pub finished : HostHasFinishedOn (first_net plant) ring plan log
   pub unspent : NoneSpent (own plan.node ring)
 
 module _ {S Q L : Type 0} (side : S → RingSideIs Q) where

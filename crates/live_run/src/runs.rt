@@ -9,16 +9,18 @@ ghost use Rattle.live_run.specs.Dealing.{AreNew, fresh_station, IsAtGate, IsLogg
 ghost use Rattle.live_run.specs.Dealing.{GatheredInto};
 ghost use Rattle.std.specs.Prelude.{◌≤◌, IfOk};
 ghost use Rattle.plant_types.specs.Limits.{most_scans};
-ghost use Rattle.plant_types.specs.Plans.{IsPlant, first_net};
+ghost use Rattle.plant_types.specs.Plans.{first_net};
+ghost use Rattle.one_net.specs.OneNet.{IsOneNetPlant};
 ghost use Rattle.joint_history.specs.Complete.{IsComplete};
 ghost use Rattle.joint_history.specs.JointLaws.{IsJoint, IsLegalJoint};
 ghost use Rattle.joint_history.specs.Nets.{noted_on_rings};
 ghost use Rattle.joint_history.specs.Noted.{IsNoted};
-ghost use Rattle.effect_laws.specs.Effects.{EffectsAreRight};
+ghost use Rattle.route_laws.specs.Effects.{EffectsAreRight};
 ghost use Rattle.entry_causes.specs.Joint.{IsInOneOrder};
 ghost use Rattle.turn_laws.specs.KeepsOn.{NoneSpent};
 ghost use Rattle.live_run.specs.Stations.{CanRunAll, CanServeAll};
 ghost use Rattle.joint_history.specs.Runnable.{CanRunPlant};
+ghost use Rattle.one_net.specs.OneNet.{IsOfOneNet};
 ghost use Rattle.live_run.specs.Runs.{IsOutcome};
 
 use crate::cells::RingCell;
@@ -28,11 +30,12 @@ use crate::lists::noted_of;
 use crate::meets::Meet;
 use crate::stations::{NotedLog, Station, run_all};
 use controller_core::notes_ask_no_scans;
-use effect_laws::effects_are_right;
 use entry_causes::joint_is_in_one_order;
-use joint_history::{HostLog, Joint, Noted, one_ring};
+use joint_history::{HostLog, Joint, Noted};
+use one_net::one_ring;
 use plant_types::{ControllerPlan, HostPlan, Plant};
 use ring_core::Ring;
+use route_laws::effects_are_right;
 use std::alloc::{AllocError, Global};
 use std::sync::Wait;
 use std::thread::Threads;
@@ -158,7 +161,7 @@ fn through_ring<M: Meet + Sync, R: Threads + Wait + Clock + Sync>(
     gate: &Gate<RingCell>,
     pass: Pass<RingCell>,
 ) -> Outcome
-    requires plant { IsPlant run.now.plant.now }
+    requires plant { IsOneNetPlant run.now.plant.now }
     requires runnable { CanRunAll run.now.plant.now run.now.scans run.now.plant.now.controllers }
     requires serving { CanServeAll run.now.plant.now.hosts }
     requires net { gate.now.fixed ≡ first_net run.now.plant.now }
@@ -206,13 +209,14 @@ pub fn live_noted<M: Meet + Sync, R: Threads + Wait + Clock + Sync>(
     meet: &M,
 ) -> Result<Noted, AllocError>
     requires plant { CanRunPlant plant.now }
+    requires one { IsOfOneNet plant.now }
     requires scans { scans ≤ most_scans }
     ensures legal { IfOk result (λ noted. IsLegalJoint plant.now scans noted.joint) }
     ensures joint { IfOk result (λ noted. IsJoint noted.joint) }
     ensures complete { IfOk result (λ noted. IsComplete plant.now scans noted.joint) }
     ensures unspent { IfOk result (λ noted. NoneSpent (noted_on_rings noted.joint)) }
     ensures effects { IfOk result (λ noted. EffectsAreRight noted.joint) }
-    ensures in_time { IfOk result (λ noted. IsInOneOrder noted.joint) }
+    ensures in_time { IfOk result (λ noted. IsInOneOrder plant.now noted.joint) }
     ensures noted { IfOk result (IsNoted plant.now) }
 {
     effects_are_right();
@@ -247,13 +251,14 @@ pub fn live<M: Meet + Sync, R: Threads + Wait + Clock + Sync>(
     meet: &M,
 ) -> Result<Joint, AllocError>
     requires plant { CanRunPlant plant.now }
+    requires one { IsOfOneNet plant.now }
     requires scans { scans ≤ most_scans }
     ensures legal { IfOk result (IsLegalJoint plant.now scans) }
     ensures joint { IfOk result IsJoint }
     ensures complete { IfOk result (IsComplete plant.now scans) }
     ensures unspent { IfOk result (λ joint. NoneSpent (noted_on_rings joint)) }
     ensures effects { IfOk result EffectsAreRight }
-    ensures in_time { IfOk result IsInOneOrder }
+    ensures in_time { IfOk result (IsInOneOrder plant.now) }
 {
     let Noted { joint, notes: _ } = live_noted(rt, alloc, plant, scans, meet)?;
     Ok(joint)

@@ -1,23 +1,24 @@
+mod joined;
 mod networks;
 mod tables;
 
-use plant_loader::{LoadEnd, load};
+use plant_loader::{LoadEnd, Version, load};
 use plant_types::{
-    Cell, ControllerPlan, Element, Fate, HostAsk, HostPlan, IoDrop, Module, ModuleKind, MoveOp,
-    Network, OrderRow, Plant, PowerRow, Ref, RefKind, ScriptRow, Short,
+    BridgePlan, Cell, ControllerPlan, Element, Fate, HostAsk, HostPlan, IoDrop, Module, ModuleKind,
+    MoveOp, NetPlan, Network, OrderRow, Plant, PowerRow, Ref, RefKind, ScriptRow, Short,
 };
 use std::alloc::{AllocError, Global};
 use std::process::Abort;
 use std::test::Fail;
 
 // Why there is no plant of these bytes, where there is none.
-fn end_of(alloc: Global, bytes: &[u8]) -> Option<LoadEnd> {
-    load(alloc, bytes).err()
+fn end_of(alloc: Global, newest: Version, bytes: &[u8]) -> Option<LoadEnd> {
+    load(alloc, newest, bytes).err()
 }
 
 // What a plant file is answered with: its fault and place, or that it is taken.
-fn answer(alloc: Global, bytes: &[u8]) -> Result<String, AllocError> {
-    match end_of(alloc, bytes) {
+fn answer(alloc: Global, newest: Version, bytes: &[u8]) -> Result<String, AllocError> {
+    match end_of(alloc, newest, bytes) {
         None => String::from_str(alloc, "taken"),
         Some(LoadEnd::Refused(fault, place)) => format!(in alloc; "{fault} {place}"),
         Some(LoadEnd::NoMemory) => String::from_str(alloc, "no memory"),
@@ -232,6 +233,67 @@ const TABLES: [Table; 20] = [
     },
 ];
 
+// What stands before the keys of a plant of several networks, before its stations, and before what
+// else such stations and bridges have.
+const JOINED: &str = "version = 2\n";
+
+const STATIONS: &str = "version = 2\nnetwork = [{ number = 1 }, { number = 2 }]\n";
+
+const HOSTS: &str = "version = 2\nnetwork = [{ number = 1 }, { number = 2 }]\n\
+    controller = [{ node = 1, network = 1 }]\nhost = [{ node = 2, ";
+
+const BRIDGES: &str = "version = 2\nnetwork = [{ number = 2 }, { number = 1 }]\n\
+    controller = [{ node = 1, network = 1 }]\nhost = [{ node = 2, network = 2 }]\nbridges = [";
+
+const ROUTES: &str = "version = 2\nnetwork = [{ number = 4 }]\n\
+    controller = [{ node = 1, network = 4 }]\nhost = [{ node = 2, network = 4, requests = [";
+
+const NEWER: Table = Table {
+    start: "version = ",
+    rows: joined::NEWER,
+    end: "",
+    head: "",
+};
+
+const JOINED_TABLES: [Table; 6] = [
+    Table {
+        start: JOINED,
+        rows: joined::NETWORKS,
+        end: "",
+        head: "",
+    },
+    Table {
+        start: STATIONS,
+        rows: joined::STATIONS,
+        end: "",
+        head: "",
+    },
+    Table {
+        start: HOSTS,
+        rows: joined::HOSTS,
+        end: "",
+        head: "",
+    },
+    Table {
+        start: BRIDGES,
+        rows: joined::BRIDGES,
+        end: "]\n",
+        head: "",
+    },
+    Table {
+        start: ROUTES,
+        rows: joined::ROUTES,
+        end: "] }]\n",
+        head: "",
+    },
+    Table {
+        start: "version = ",
+        rows: joined::VERSIONS,
+        end: "",
+        head: "",
+    },
+];
+
 fn push_file(text: &mut String, table: &Table, part: &str) -> Result<(), AllocError> {
     text.push_str(table.start)?;
     push_unfolded(text, part)?;
@@ -239,22 +301,38 @@ fn push_file(text: &mut String, table: &Table, part: &str) -> Result<(), AllocEr
 }
 
 // What the file with a part in the place of a table's rows is answered with.
-fn answer_with(alloc: Global, table: &Table, part: &str) -> Result<String, AllocError> {
+fn answer_with(
+    alloc: Global,
+    newest: Version,
+    table: &Table,
+    part: &str,
+) -> Result<String, AllocError> {
     let mut text = String::new(alloc);
     push_file(&mut text, table, part)?;
-    answer(alloc, text.as_bytes())
+    answer(alloc, newest, text.as_bytes())
 }
 
-fn answers_row(rt: &impl Abort, alloc: Global, table: &Table, row: &str) -> Result<(), Fail> {
+fn answers_row(
+    rt: &impl Abort,
+    alloc: Global,
+    newest: Version,
+    table: &Table,
+    row: &str,
+) -> Result<(), Fail> {
     let (part, tail) = row.split_once(" => ").ok_or("an answer")?;
-    let answer = answer_with(alloc, table, part)?;
+    let answer = answer_with(alloc, newest, table, part)?;
     assert_eq!(rt; answer.strip_prefix(table.head), Some(tail), "{part}");
     Ok(())
 }
 
-fn answers_table(rt: &impl Abort, alloc: Global, table: &Table) -> Result<(), Fail> {
+fn answers_table(
+    rt: &impl Abort,
+    alloc: Global,
+    newest: Version,
+    table: &Table,
+) -> Result<(), Fail> {
     for row in table.rows.lines() {
-        answers_row(rt, alloc, table, row)?;
+        answers_row(rt, alloc, newest, table, row)?;
     }
     Ok(())
 }
@@ -262,7 +340,23 @@ fn answers_table(rt: &impl Abort, alloc: Global, table: &Table) -> Result<(), Fa
 #[test]
 fn files_are_answered(rt: HostRuntime) -> Result<(), Fail> {
     for table in &TABLES {
-        answers_table(&rt, rt.alloc(), table)?;
+        answers_table(&rt, rt.alloc(), Version::One, table)?;
+    }
+    answers_table(&rt, rt.alloc(), Version::One, &NEWER)
+}
+
+#[test]
+fn they_are_answered_alike_where_newer_ones_are_read(rt: HostRuntime) -> Result<(), Fail> {
+    for table in &TABLES {
+        answers_table(&rt, rt.alloc(), Version::Two, table)?;
+    }
+    Ok(())
+}
+
+#[test]
+fn files_of_several_networks_are_answered(rt: HostRuntime) -> Result<(), Fail> {
+    for table in &JOINED_TABLES {
+        answers_table(&rt, rt.alloc(), Version::Two, table)?;
     }
     Ok(())
 }
@@ -460,15 +554,127 @@ const SMALL: &str = "version = 1\ncontroller = [{ node = 7 }]\nscan_time = 1\n";
 
 #[test]
 fn a_plant_is_read(rt: HostRuntime) -> Result<(), Fail> {
-    let is = load(rt.alloc(), READ.as_bytes()).is_ok_and(|plant| is_read(&plant));
-    assert!(rt; is);
+    for newest in [Version::One, Version::Two] {
+        let is = load(rt.alloc(), newest, READ.as_bytes()).is_ok_and(|plant| is_read(&plant));
+        assert!(rt; is);
+    }
     Ok(())
 }
 
 #[test]
 fn a_small_plant_is_read(rt: HostRuntime) -> Result<(), Fail> {
-    let is = load(rt.alloc(), SMALL.as_bytes()).is_ok_and(|plant| is_small(&plant));
+    let plant = load(rt.alloc(), Version::One, SMALL.as_bytes());
+    let is = plant.is_ok_and(|plant| is_small(&plant));
     assert!(rt; is);
+    Ok(())
+}
+
+// A plant of three networks and two bridges, none of which rise in the file.
+const JOINED_READ: &str = r#"version = 2
+bridges = ["4 31 1 30", " 1 10\t7 12 "]
+[net]
+answer = 30
+rotations = 5
+rounds = 3
+holds = 900
+[[network]]
+number = 7
+fates = "LA"
+[[network]]
+number = 1
+[[network]]
+number = 4
+fates = "DAD"
+[[controller]]
+node = 20
+network = 7
+[[controller]]
+node = 3
+network = 1
+[[host]]
+node = 50
+network = 4
+requests = ["10 31.10.20 0300000002", "1 31 08"]
+[[host]]
+node = 11
+network = 1
+"#;
+
+fn is_net(net: &NetPlan, number: u8, members: &[u8], bridges: &[u8], fates: &[Fate]) -> bool {
+    net.number == number
+        && net.members.as_slice() == members
+        && net.bridges.as_slice() == bridges
+        && net.fates.as_slice() == fates
+        && net.answer == 30
+        && net.rotations == 5
+        && net.rounds == 3
+        && net.holds == 900
+}
+
+fn are_nets(nets: &[NetPlan]) -> bool {
+    let [one, four, seven] = nets else {
+        return false;
+    };
+    is_net(one, 1, &[3, 10, 11, 30], &[10, 30], &[Fate::D])
+        && is_net(four, 4, &[31, 50], &[31], &[Fate::D, Fate::A, Fate::D])
+        && is_net(seven, 7, &[12, 20], &[12], &[Fate::L, Fate::A])
+}
+
+fn goes_by(ask: &HostAsk, hold: u32, route: &[u8], bytes: &[u8]) -> bool {
+    ask.hold == hold && ask.route.addresses() == route && ask.pdu.bytes() == bytes
+}
+
+fn are_hosts(hosts: &[HostPlan]) -> bool {
+    let [low, high] = hosts else {
+        return false;
+    };
+    let [first, second] = high.requests.as_slice() else {
+        return false;
+    };
+    low.node == 11
+        && low.network == 1
+        && low.requests.as_slice().is_empty()
+        && high.node == 50
+        && high.network == 4
+        && goes_by(first, 10, &[31, 10, 20], &[3, 0, 0, 0, 2])
+        && goes_by(second, 1, &[31], &[8])
+}
+
+fn bridge(left_net: u8, left: u8, right_net: u8, right: u8) -> BridgePlan {
+    BridgePlan {
+        left_net,
+        left,
+        right_net,
+        right,
+    }
+}
+
+fn is_joined(plant: &Plant) -> bool {
+    let [low, high] = plant.controllers.as_slice() else {
+        return false;
+    };
+    let bridges = [bridge(1, 10, 7, 12), bridge(4, 31, 1, 30)];
+    low.node == 3
+        && low.network == 1
+        && high.node == 20
+        && high.network == 7
+        && are_nets(plant.nets.as_slice())
+        && are_hosts(plant.hosts.as_slice())
+        && plant.bridges.as_slice() == bridges.as_slice()
+}
+
+#[test]
+fn a_plant_of_three_networks_is_read(rt: HostRuntime) -> Result<(), Fail> {
+    let plant = load(rt.alloc(), Version::Two, JOINED_READ.as_bytes());
+    let is = plant.is_ok_and(|plant| is_joined(&plant));
+    assert!(rt; is);
+    Ok(())
+}
+
+#[test]
+fn it_is_too_new_where_version_one_is_the_newest(rt: HostRuntime) -> Result<(), Fail> {
+    let answer = answer(rt.alloc(), Version::One, JOINED_READ.as_bytes())?;
+    assert_eq!(rt; answer.as_str(), "4 BadVersion plant");
     Ok(())
 }
 
@@ -584,23 +790,72 @@ fn push_items(text: &mut String, limit: &Limit) -> Result<(), AllocError> {
 }
 
 // What the file with the items of a limit is answered with.
-fn answer_at(alloc: Global, limit: &Limit) -> Result<String, AllocError> {
+fn answer_at(alloc: Global, newest: Version, limit: &Limit) -> Result<String, AllocError> {
     let mut text = String::new(alloc);
     push_items(&mut text, limit)?;
-    answer(alloc, text.as_bytes())
+    answer(alloc, newest, text.as_bytes())
+}
+
+fn keeps_limit(rt: &impl Abort, alloc: Global, newest: Version, limit: &Limit) -> Result<(), Fail> {
+    let answer = answer_at(alloc, newest, limit)?;
+    assert_eq!(rt;
+        answer.as_str(),
+        limit.answer,
+        "{} of {}",
+        limit.count,
+        limit.item
+    );
+    Ok(())
 }
 
 #[test]
 fn limits_are_kept(rt: HostRuntime) -> Result<(), Fail> {
     for limit in &LIMITS {
-        let answer = answer_at(rt.alloc(), limit)?;
-        assert_eq!(rt;
-            answer.as_str(),
-            limit.answer,
-            "{} of {}",
-            limit.count,
-            limit.item
-        );
+        keeps_limit(&rt, rt.alloc(), Version::One, limit)?;
+    }
+    Ok(())
+}
+
+const MANY_NETS: &str = "version = 2\ncontroller = [{}]\nnetwork = [";
+
+const MANY_BRIDGES: &str = "version = 2\nnetwork = [{ number = 1 }]\n\
+    controller = [{ node = 1, network = 1 }]\nbridges = [";
+
+const JOINED_LIMITS: [Limit; 4] = [
+    Limit {
+        start: MANY_NETS,
+        item: "{},",
+        count: 8,
+        end: "]\n",
+        answer: "2 BadKey network 1",
+    },
+    Limit {
+        start: MANY_NETS,
+        item: "{},",
+        count: 9,
+        end: "]\n",
+        answer: "13 TooLarge plant",
+    },
+    Limit {
+        start: MANY_BRIDGES,
+        item: "\"\",",
+        count: 16,
+        end: "]\n",
+        answer: "16 BadNetwork bridge 1",
+    },
+    Limit {
+        start: MANY_BRIDGES,
+        item: "\"\",",
+        count: 17,
+        end: "]\n",
+        answer: "13 TooLarge plant",
+    },
+];
+
+#[test]
+fn limits_of_several_networks_are_kept(rt: HostRuntime) -> Result<(), Fail> {
+    for limit in &JOINED_LIMITS {
+        keeps_limit(&rt, rt.alloc(), Version::Two, limit)?;
     }
     Ok(())
 }
@@ -617,7 +872,7 @@ const NO_DOCUMENTS: [&[u8]; 5] = [
 #[test]
 fn other_bytes_are_no_document(rt: HostRuntime) -> Result<(), Fail> {
     for bytes in NO_DOCUMENTS {
-        let answer = answer(rt.alloc(), bytes)?;
+        let answer = answer(rt.alloc(), Version::One, bytes)?;
         assert_eq!(rt; answer.as_str(), "1 BadToml plant");
     }
     Ok(())
@@ -633,14 +888,14 @@ const NESTED: Limit = Limit {
 
 #[test]
 fn what_is_nested_too_deep_is_no_document(rt: HostRuntime) -> Result<(), Fail> {
-    let answer = answer_at(rt.alloc(), &NESTED)?;
+    let answer = answer_at(rt.alloc(), Version::One, &NESTED)?;
     assert_eq!(rt; answer.as_str(), NESTED.answer);
     Ok(())
 }
 
 #[test]
 fn an_empty_document_has_no_version(rt: HostRuntime) -> Result<(), Fail> {
-    let answer = answer(rt.alloc(), b"")?;
+    let answer = answer(rt.alloc(), Version::One, b"")?;
     assert_eq!(rt; answer.as_str(), "2 BadKey plant");
     Ok(())
 }

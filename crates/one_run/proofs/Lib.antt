@@ -5,7 +5,10 @@ pub mod Sending
 pub mod Parts
 pub mod Turn
 pub mod HostTurn
+pub mod EndParts
+pub mod EndTurn
 pub mod Places
+pub mod Written
 pub mod Runs
 pub mod Serial
 pub mod Whole

@@ -1,17 +1,22 @@
 -- Turns one after another make one joint history.
-use Rattle.std.proofs.Common.{◌≡◌, ◌≢◌, ℕ, ◌≤◌, ◌==◌, Bool, true, false, not, List}
-use Rattle.std.proofs.Common.{[], ◌∷◌, ◌++◌, Option, Some, None, inl, inr, refl, sym, ap}
+use Rattle.std.proofs.Common.{◌≡◌, ◌≢◌, ◌⊎◌, ℕ, ◌≤◌, ◌==◌, Bool, true, false, not, List, []}
+use Rattle.std.proofs.Common.{◌∷◌, ◌++◌, Option, Some, None, inl, inr, refl, sym, ap}
 use Rattle.std.proofs.Common.{subst, ◌∙◌, arith, append_assoc, append-nil, map, set}
-use Rattle.std.specs.List.{AllByRecursion as Each, slice_get}
+use Rattle.std.specs.List.{AllByRecursion as Each, Contains, slice_get}
 use Rattle.std.proofs.lemmas.Bool.{cases_eq, eq-eqb, eqb-true}
+use Rattle.std.specs.Prelude.{◌||◌}
+use Rattle.plant_types.specs.declared.net.BridgePlan.{BridgePlan}
 use Rattle.plant_types.specs.declared.net.HostPlan.{HostPlan}
 use Rattle.plant_types.specs.declared.net.NetPlan.{NetPlan}
 use Rattle.plant_types.specs.declared.plan.ControllerPlan.{ControllerPlan}
 use Rattle.plant_types.specs.declared.plan.Plant.{Plant}
-use Rattle.plant_types.specs.Plans.{IsPlant, first_net}
+use Rattle.plant_types.specs.Plans.{IsPlant, net_of}
+use Rattle.bridge_relay.specs.declared.entry.BridgeEntry.{BridgeEntry}
+use Rattle.bridge_relay.specs.Legal.{IsBridgeHistory}
+use Rattle.bridge_port.specs.EndParts.{HoldsEndTurn}
+use Rattle.bridge_port.proofs.Across.{legal-front}
 use Rattle.ring_core.specs.declared.entry.RingEntry.{RingEntry}
 use Rattle.ring_core.specs.Legal.{IsLegalRing}
-use Rattle.ring_core.specs.Machine.{ring_after}
 use Rattle.ring_core.specs.declared.status.NodeStatus.{NodeStatus}
 use Rattle.ring_core.specs.declared.status.NodeStatus.TheVariants as statuses
 use Rattle.scan_order.specs.declared.due.ScanStep.{ScanStep}
@@ -22,35 +27,44 @@ use Rattle.controller_core.specs.Controller.{IsLegal, due_step, made}
 use Rattle.controller_core.specs.Event.{entry_of}
 use Rattle.controller_core.specs.Replay.{ControllerState, replay}
 use Rattle.controller_core.proofs.NextEntry.{front_legal}
+use Rattle.tied_lists.specs.Items.{AController}
 use Rattle.tied_lists.specs.Own.{own}
+use Rattle.tied_lists.specs.Tied.{Tied}
 use Rattle.tied_lists.specs.Waits.{status_at}
 use Rattle.tied_lists.proofs.Turns.{legal-parts}
 use Rattle.host_port.specs.declared.entry.HostEntry.{HostEntry}
+use Rattle.joint_history.specs.declared.joint.BridgeLog.{BridgeLog}
 use Rattle.joint_history.specs.declared.joint.ControllerLog.{ControllerLog}
 use Rattle.joint_history.specs.declared.joint.HostLog.{HostLog}
 use Rattle.joint_history.specs.declared.joint.Joint.{Joint}
 use Rattle.comm_port.specs.declared.turn_end.TurnEnd.{TurnEnd}
+use Rattle.comm_port.specs.Failing.{join_entries}
 use Rattle.comm_port.specs.WholeTurn.{HoldsTurn}
 use Rattle.comm_port.specs.HostTurns.{HoldsHostTurn}
-use Rattle.joint_history.specs.JointLaws.{IsJoint, IsLegalJoint, IsLegalLog, IsTiedController}
-use Rattle.joint_history.specs.JointLaws.{fixed_of}
-use Rattle.joint_history.specs.Reading.{controller_at, is_off_at}
-use Rattle.joint_history.specs.Nets.{entries_of_rings, noted_on_rings}
+use Rattle.joint_history.specs.JointLaws.{IsJoint, IsLegalBridgeLog, IsLegalJoint, IsLegalLog}
+use Rattle.joint_history.specs.JointLaws.{IsTiedController, fixed_of}
+use Rattle.joint_history.specs.Reading.{is_off_at, controller_at, items_of}
+use Rattle.joint_history.specs.Nets.{entries_on, noted_on, noted_on_rings}
 use Rattle.joint_history.proofs.Collected.{CallLaws}
-use Rattle.joint_history.proofs.OneRing.{legal-ring}
+use Rattle.net_laws.proofs.Apart.{controller-no-host, host-no-end}
+use Rattle.net_laws.proofs.On.{IsOn, controller-at-on, host-at-on, net-same}
+use Rattle.net_laws.proofs.Rings.{own-on, ring-there}
 use Rattle.serial_run.specs.declared.order.Turn.{Turn}
 use Rattle.serial_run.specs.declared.order.Turn.TheVariants.{Step, Hold, Visit, Away}
-use Rattle.serial_run.specs.Turns.{MakesHoldTurnAt, HostHoldsAt, IsControllerAt, MakesHold}
-use Rattle.serial_run.specs.Turns.{ComesBackAt, MakesAwayTurn, coming_back}
-use Rattle.serial_run.specs.Turns.{MakesStep, MakesTurn, MakesTurns, MakesVisit, StepsAt, VisitsAt}
-use Rattle.serial_run.specs.Turns.{VisitsIfDue, VisitsWhere, place_of_controller, empty_log}
-use Rattle.serial_run.specs.Turns.{place_of_host}
-use Rattle.serial_run.specs.Turns.{nothing_made, stepped_list, visit_is_due, with_host_list}
-use Rattle.serial_run.specs.Turns.{MakesHoldOn, empty_ring_log, net_numbered, with_list, with_noted}
-use Rattle.serial_run.proofs.Lists.{position-none, zip-at-first}
+use Rattle.serial_run.specs.Turns.{ComesBackAt, EndHoldsAt, HostHoldsAt, IsBridgeAt}
+use Rattle.serial_run.specs.Turns.{IsControllerAt, MakesAwayTurn, MakesHold, MakesHoldOn}
+use Rattle.serial_run.specs.Turns.{MakesHoldTurnAt, MakesStep, MakesTurn, MakesTurns, MakesVisit}
+use Rattle.serial_run.specs.Turns.{StepsAt, VisitsAt, VisitsIfDue, VisitsWhere, coming_back}
+use Rattle.serial_run.specs.Turns.{empty_log, holder_on, is_end_of, net_numbered}
+use Rattle.serial_run.specs.Turns.{nothing_made, place_of_bridge, place_of_controller}
+use Rattle.serial_run.specs.Turns.{place_of_host, stepped_list, visit_is_due, with_bridge_list}
+use Rattle.serial_run.specs.Turns.{with_entries, with_host_list, with_list, with_ring}
+use Rattle.serial_run.proofs.Lists.{found-place, zip-at-first}
+use Rattle.serial_run.proofs.Networks.{contains-at, place-of}
+use Rattle.one_run.proofs.EndTurn.{BothLegal, end-turn-adds, end-turn-none, end-turn-once}
 use Rattle.one_run.proofs.Fails.{IsNoSend, none-at-first}
 use Rattle.one_run.proofs.HostTurn.{host-goes, host-same}
-use Rattle.one_run.proofs.Meets.{Behind, May, Meets, behind-more, closings, endings}
+use Rattle.one_run.proofs.Meets.{Behind, IsMine, May, Meets, behind-more, closings, endings}
 use Rattle.one_run.proofs.Meets.{endings-join, meets-front, meets-tied}
 use Rattle.one_run.proofs.Parts.{Goes, Same}
 use Rattle.one_run.proofs.Places.{all-at, get-set, map-at, position-passes, set-get, set-other}
@@ -58,28 +72,52 @@ use Rattle.one_run.proofs.Places.{some-same}
 use Rattle.one_run.proofs.Turn.{NoneFails, none-behind, quiet-others, turn-goes, turn-none}
 use Rattle.one_run.proofs.Turn.{quiet-join, turn-same}
 use Rattle.one_run.proofs.Turn.{visit-goes, visit-none, visit-same}
+use Rattle.one_run.proofs.Written.{HasRing, WentOnBy, none-at, ring-at-first, written-goes}
+use Rattle.one_run.proofs.Written.{written-has, written-here, written-other}
 
 -- ---- what holds between turns, and what the last joint history says of each before it
 
 module _ (plant : Plant) (scans : ℕ) where
-  -- of each controller no call has failed, and no more calls have ended than of its node
-  pub record KeptAt (joint : Joint) (plan : ControllerPlan) (log : ControllerLog) : Type 0 where
-    pub none : NoneFails (first_net plant) plan.node (noted_on_rings joint)
-    pub behind : Behind plan.node log.entries (noted_on_rings joint)
+  -- the node of a controller, and an end of a bridge
+  pub record IsControllerNode (n : ℕ) : Type 0 where
+    pub at : ℕ
+    pub plan : ControllerPlan
+    pub plan_is : slice_get plant.controllers at ≡ Some plan
+    pub node : plan.node ≡ n
 
-  abbrev pub Kept : Joint → Type 0
-  Kept joint = (at : ℕ) (plan : ControllerPlan) (log : ControllerLog)
-      → IsControllerAt plant joint at plan log → KeptAt joint plan log
+  pub record IsEndNode (n : ℕ) : Type 0 where
+    pub at : ℕ
+    pub plan : BridgePlan
+    pub plan_is : slice_get plant.bridges at ≡ Some plan
+    pub is_end : is_end_of n plan ≡ true
+
+  -- a node whose calls are given up at once as they fail
+  abbrev pub IsCaller : ℕ → Type 0
+  IsCaller n = IsControllerNode n ⊎ IsEndNode n
+
+  -- each network has its ring; of each such node no call has failed; and no more calls of a
+  -- controller have ended than of its node
+  pub record Kept (joint : Joint) : Type 0 where
+    pub there : (net : NetPlan) → Contains plant.nets net → HasRing net.number joint.rings
+    pub none : (net : NetPlan) → Contains plant.nets net → (n : ℕ) → IsCaller n
+        → NoneFails net n (noted_on net.number joint)
+    pub behind : (at : ℕ) (plan : ControllerPlan) (log : ControllerLog)
+        → IsControllerAt plant joint at plan log
+        → Behind plan.node log.entries (noted_on plan.network joint)
 
   pub record FineAt (joint : Joint) (plan : ControllerPlan) (log : ControllerLog) : Type 0 where
     pub legal : IsLegal (fixed_of plant scans plan) log.entries
-    pub meets : Meets plan.node log.entries (noted_on_rings joint)
+    pub meets : Meets plan.node log.entries (noted_on plan.network joint)
 
-  -- each list of a controller is legal, and tells what the list of its node does, as far as both go
+  -- each list of a ring, of a controller and of a bridge is legal, and that of a controller tells
+  -- what the list of its node does, as far as both go
   pub record Fine (joint : Joint) : Type 0 where
-    pub ring : IsLegalRing (first_net plant) (noted_on_rings joint)
+    pub rings : (net : NetPlan) → Contains plant.nets net
+        → IsLegalRing net (noted_on net.number joint)
     pub lists : (at : ℕ) (plan : ControllerPlan) (log : ControllerLog)
         → IsControllerAt plant joint at plan log → FineAt joint plan log
+    pub bridges : (at : ℕ) (plan : BridgePlan) (log : BridgeLog)
+        → IsBridgeAt plant joint at plan log → IsBridgeHistory plan log.entries
 
   -- a joint history went on
   pub record WentOnAt (joint : Joint) (at : ℕ) (plan : ControllerPlan)
@@ -89,30 +127,80 @@ module _ (plant : Plant) (scans : ℕ) where
     pub noted : List Entry
     pub entries_are : new_log.entries ≡ log.entries ++ noted
 
+  pub record BridgeWentAt (joint : Joint) (at : ℕ) (plan : BridgePlan)
+      (log : BridgeLog) : Type 0 where
+    pub new_log : BridgeLog
+    pub is : IsBridgeAt plant joint at plan new_log
+    pub noted : List BridgeEntry
+    pub entries_are : new_log.entries ≡ log.entries ++ noted
+
+  abbrev pub RingsGrow : Joint → Joint → Type 0
+  RingsGrow old new =
+      (k : ℕ) → (done : List RingEntry) × (noted_on k new ≡ noted_on k old ++ done)
+
   pub record Grows (old new : Joint) : Type 0 where
-    pub done : List RingEntry
-    pub ring_is : (noted_on_rings new) ≡ (noted_on_rings old) ++ done
+    pub rings : RingsGrow old new
     pub lists : (at : ℕ) (plan : ControllerPlan) (log : ControllerLog)
         → IsControllerAt plant old at plan log → WentOnAt new at plan log
+    pub bridges : (at : ℕ) (plan : BridgePlan) (log : BridgeLog)
+        → IsBridgeAt plant old at plan log → BridgeWentAt new at plan log
+
+  -- where these lists stayed they went on
+  same-lists : (old new : Joint) → new.controllers ≡ old.controllers → (at : ℕ)
+      (plan : ControllerPlan) (log : ControllerLog)
+      → IsControllerAt plant old at plan log → WentOnAt new at plan log
+  same-lists old new stays at plan log is = record {
+    new_log = log;
+    is = record {
+      plan_is = is.plan_is;
+      log_is = ap (λ xs. slice_get xs at) stays ∙ is.log_is;
+    };
+    noted = [];
+    entries_are = sym (append-nil log.entries);
+  }
+
+  same-bridges : (old new : Joint) → new.bridges ≡ old.bridges → (at : ℕ)
+      (plan : BridgePlan) (log : BridgeLog)
+      → IsBridgeAt plant old at plan log → BridgeWentAt new at plan log
+  same-bridges old new stays at plan log is = record {
+    new_log = log;
+    is = record {
+      plan_is = is.plan_is;
+      log_is = ap (λ xs. slice_get xs at) stays ∙ is.log_is;
+    };
+    noted = [];
+    entries_are = sym (append-nil log.entries);
+  }
 
   -- nothing more
   pub grows-none : (joint : Joint) → Grows joint joint
   grows-none joint = record {
-    done = [];
-    ring_is = sym (append-nil (noted_on_rings joint));
-    lists = λ at plan log is.
-        record { new_log = log; is = is; noted = []; entries_are = sym (append-nil log.entries) };
+    rings = λ k. ([], sym (append-nil (noted_on k joint)));
+    lists = same-lists joint joint refl;
+    bridges = same-bridges joint joint refl;
   }
 
   -- one after another
   pub grows-then : (a b c : Joint) → Grows a b → Grows b c → Grows a c
   grows-then a b c one two = record {
-    done = one.done ++ two.done;
-    ring_is = two.ring_is ∙ ap (λ l. l ++ two.done) one.ring_is
-        ∙ append_assoc (noted_on_rings a) one.done two.done;
+    rings = λ k. (
+      (one.rings k).0 ++ (two.rings k).0,
+      (two.rings k).1 ∙ ap (λ l. l ++ (two.rings k).0) (one.rings k).1
+          ∙ append_assoc (noted_on k a) (one.rings k).0 (two.rings k).0,
+    );
     lists = λ at plan log is.
         let x = one.lists at plan log is in
         let y = two.lists at plan x.new_log x.is in
+        record {
+          new_log = y.new_log;
+          is = y.is;
+          noted = x.noted ++ y.noted;
+          entries_are = y.entries_are ∙ ap (λ l. l ++ y.noted) x.entries_are
+              ∙ append_assoc log.entries x.noted y.noted;
+        };
+    bridges = λ at plan log is.
+        let x = one.bridges at plan log is in
+        let y = two.bridges at plan x.new_log x.is in
         record {
           new_log = y.new_log;
           is = y.is;
@@ -125,28 +213,132 @@ module _ (plant : Plant) (scans : ℕ) where
   -- what holds of the last joint history holds of each before
   pub fine-front : (old new : Joint) → Grows old new → Fine new → Fine old
   fine-front old new g f = record {
-    ring = (legal-parts (first_net plant) (noted_on_rings old) g.done
-        (subst (IsLegalRing (first_net plant)) g.ring_is f.ring)).0;
+    rings = λ net there.
+        let went = g.rings net.number in
+        (legal-parts net (noted_on net.number old) went.0
+        (subst (IsLegalRing net) went.1 (f.rings net there))).0;
     lists = λ at plan log is.
         let w = g.lists at plan log is in
         let k = f.lists at plan w.new_log w.is in
+        let went = g.rings plan.network in
         record {
           legal = front_legal (fixed_of plant scans plan) log.entries w.noted
               (subst (IsLegal (fixed_of plant scans plan)) w.entries_are k.legal);
-          meets = meets-front plan.node log.entries w.noted (noted_on_rings old) g.done
-              (subst (λ l. Meets plan.node l ((noted_on_rings old) ++ g.done)) w.entries_are
-              (subst (Meets plan.node w.new_log.entries) g.ring_is k.meets));
+          meets = meets-front plan.node log.entries w.noted (noted_on plan.network old) went.0
+              (subst (λ l. Meets plan.node l (noted_on plan.network old ++ went.0)) w.entries_are
+              (subst (Meets plan.node w.new_log.entries) went.1 k.meets));
         };
+    bridges = λ at plan log is.
+        let w = g.bridges at plan log is in
+        legal-front plan log.entries w.noted
+        (subst (IsBridgeHistory plan) w.entries_are (f.bridges at plan w.new_log w.is));
   }
 
-  -- the same of one controller
-  pub may-at : (joint : Joint) (at : ℕ) (plan : ControllerPlan) (log : ControllerLog) → Fine joint
-      → IsControllerAt plant joint at plan log
-      → May (fixed_of plant scans plan) (first_net plant) plan.node log.entries
-      (noted_on_rings joint)
-  may-at joint at plan log f is =
-      let k = f.lists at plan log is in
-      record { legal = k.legal; ring_legal = f.ring; meets = k.meets }
+  -- ---- the node of a station on the ring of its network
+
+  -- its list is legal
+  ring-fine : (joint : Joint) (network n : ℕ) → Fine joint → IsOn plant network n
+      → IsLegalRing (net_of plant n) (noted_on network joint)
+  ring-fine joint network n fine on =
+      subst (λ m. IsLegalRing m (noted_on network joint)) (sym on.is)
+      (subst (λ k. IsLegalRing on.net (noted_on k joint)) on.number (fine.rings on.net on.there))
+
+  -- none of its calls has failed
+  none-kept : (joint : Joint) (network n : ℕ) → Kept joint → IsOn plant network n → IsCaller n
+      → NoneFails (net_of plant n) n (noted_on network joint)
+  none-kept joint network n kept on caller =
+      subst (λ m. NoneFails m n (noted_on network joint)) (sym on.is)
+      (subst (λ k. NoneFails on.net n (noted_on k joint)) on.number
+      (kept.none on.net on.there n caller))
+
+  -- no other network has the number of its own
+  none-own : (sound : IsPlant plant) (network n : ℕ) (list : List RingEntry)
+      → IsOn plant network n → NoneFails (net_of plant n) n list → (net : NetPlan)
+      → Contains plant.nets net → net.number ≡ network → NoneFails net n list
+  none-own sound network n list on none net there is =
+      subst (λ m. NoneFails m n list)
+      (on.is ∙ sym (net-same plant net on.net sound there on.there (is ∙ sym on.number))) none
+
+  -- ---- a node wrote the ring of a network
+
+  record Writes (old new : Joint) (network n : ℕ) (list : List RingEntry) : Type 0 where
+    rings_are : new.rings ≡ map (with_entries network list) old.rings
+    done : List RingEntry
+    list_is : list ≡ noted_on network old ++ done
+    mine : Each (IsMine n) done
+
+  module _ (old new : Joint) (network n : ℕ) (list : List RingEntry)
+      (w : Writes old new network n list) where
+    went : (k : ℕ) → WentOnBy w.done (noted_on k old) (noted_on k new)
+    went k = subst (λ rings. WentOnBy w.done (noted_on k old) (entries_on k rings))
+        (sym w.rings_are) (written-goes network list w.done old.rings w.list_is k)
+
+    -- each ring went on
+    rings-grow : RingsGrow old new
+    rings-grow k = ((went k).more, (went k).is)
+
+    -- the list is the network's
+    now-is : Kept old → (net : NetPlan) → Contains plant.nets net → net.number ≡ network
+        → noted_on network new ≡ list
+    now-is kept net there is = ap (entries_on network) w.rings_are
+        ∙ written-here network list old.rings
+        (subst (λ k. HasRing k old.rings) is (kept.there net there))
+
+    -- another node sent nothing by it
+    quiet-more : (m : ℕ) → m ≢ n → (k : ℕ) → Each (IsNoSend m) (went k).more
+    quiet-more m other k = elim (went k).either [
+      | inl is ↦ subst (Each (IsNoSend m)) (sym is) (quiet-others m n other w.done w.mine)
+      | inr is ↦ subst (Each (IsNoSend m)) (sym is) tt
+    ]
+
+    -- each network keeps its ring
+    there-kept : Kept old → (net : NetPlan) → Contains plant.nets net
+        → HasRing net.number new.rings
+    there-kept kept net there = subst (HasRing net.number) (sym w.rings_are)
+        (written-has network list net.number old.rings (kept.there net there))
+
+    -- no call of another node fails by it
+    none-others : Kept old → ((net : NetPlan) → Contains plant.nets net → net.number ≡ network
+        → IsCaller n → NoneFails net n list) → (net : NetPlan) → Contains plant.nets net
+        → (m : ℕ) → IsCaller m → NoneFails net m (noted_on net.number new)
+    none-others kept ours net there m caller = elim (cases_eq m n) [
+      | inr other ↦ none-behind net m (noted_on net.number old) (went net.number).more
+          (noted_on net.number new) (went net.number).is (quiet-more m other net.number)
+          (kept.none net there m caller)
+      | inl same ↦ elim (cases_eq net.number network) [
+        | inl is ↦ subst (λ k. NoneFails net k (noted_on net.number new)) (sym same)
+            (subst (λ k. NoneFails net n (noted_on k new)) (sym is)
+            (subst (NoneFails net n) (sym (now-is kept net there is))
+            (ours net there is (subst IsCaller same caller))))
+        | inr apart ↦ subst (NoneFails net m)
+            (sym (ap (entries_on net.number) w.rings_are
+            ∙ written-other network list net.number old.rings apart))
+            (kept.none net there m caller)
+      ]
+    ]
+
+    -- no more calls have ended behind it than of a node
+    still-behind : (m : ℕ) (es : List Entry) (k : ℕ) → Behind m es (noted_on k old)
+        → Behind m es (noted_on k new)
+    still-behind m es k before =
+        subst (λ x. Behind m x (noted_on k new)) (append-nil es)
+        (subst (Behind m (es ++ [])) (sym (went k).is)
+        (behind-more m es [] (noted_on k old) (went k).more before
+        (let z : endings [] ≤ closings (own m (went k).more) = omega arith in z)))
+
+    -- where no list of a controller was written, it keeps what holds between turns
+    write-kept : Kept old → new.controllers ≡ old.controllers
+        → ((net : NetPlan) → Contains plant.nets net → net.number ≡ network
+        → IsCaller n → NoneFails net n list) → Kept new
+    write-kept kept stays ours = record {
+      there = there-kept kept;
+      none = none-others kept ours;
+      behind = λ at plan log is.
+          still-behind plan.node log.entries plan.network (kept.behind at plan log (record {
+            plan_is = is.plan_is;
+            log_is = ap (λ xs. slice_get xs at) (sym stays) ∙ is.log_is;
+          }));
+    }
 
   -- ---- one list of a controller went on
 
@@ -158,30 +350,30 @@ module _ (plant : Plant) (scans : ℕ) where
       → IsControllerAt plant joint at p l → IsControllerAt plant joint at p' l' → l ≡ l'
   log-same joint at p p' l l' a b = some-same (sym a.log_is ∙ b.log_is)
 
-  abbrev pub made_by : ℕ → ControllerLog → List Entry → List RingEntry → Joint → Joint
-  made_by at log entries ring old =
-      with_noted (first_net plant) ring (with_list at log entries old)
+  abbrev made_by : ℕ → ControllerPlan → ControllerLog → List Entry → List RingEntry → Joint
+      → Joint
+  made_by at plan log entries ring old =
+      with_ring plan.network ring (with_list at log entries old)
 
   module _ (old grown : Joint) (at : ℕ) (plan : ControllerPlan) (log : ControllerLog)
       (is : IsControllerAt plant old at plan log) (entries : List Entry)
       (logs : grown.controllers
-      ≡ set old.controllers at (record { node = log.node; entries = entries }))
-      (g : Goes plan.node log.entries entries (noted_on_rings old) (noted_on_rings grown)) where
+      ≡ set old.controllers at (record { node = log.node; entries = entries })) where
     abbrev new_log : ControllerLog
     new_log = record { node = log.node; entries = entries }
 
     -- the controller is at its place
-    pub there : IsControllerAt plant grown at plan new_log
+    there : IsControllerAt plant grown at plan new_log
     there = record {
       plan_is = is.plan_is;
       log_is = ap (λ l. slice_get l at) logs ∙ set-get old.controllers at new_log log is.log_is;
     }
 
     -- the joint history went on
-    pub list-grows : Grows old grown
-    list-grows = record {
-      done = g.done;
-      ring_is = g.ring_is;
+    list-grows : RingsGrow old grown → grown.bridges ≡ old.bridges → (noted : List Entry)
+        → entries ≡ log.entries ++ noted → Grows old grown
+    list-grows rings stays noted known_is = record {
+      rings = rings;
       lists = λ k p l is'. elim (cases_eq k at) [
         | inl here ↦
             let is-at = subst (λ j. IsControllerAt plant old j p l) here is' in
@@ -190,8 +382,8 @@ module _ (plant : Plant) (scans : ℕ) where
               new_log = new_log;
               is = subst (λ j. IsControllerAt plant grown j p new_log) (sym here)
                   (subst (λ q. IsControllerAt plant grown at q new_log) plans there);
-              noted = g.noted;
-              entries_are = g.known_is ∙ ap (λ (x : ControllerLog). x.entries ++ g.noted)
+              noted = noted;
+              entries_are = known_is ∙ ap (λ (x : ControllerLog). x.entries ++ noted)
                   (log-same old at plan p log l is is-at);
             }
         | inr other ↦ record {
@@ -205,40 +397,27 @@ module _ (plant : Plant) (scans : ℕ) where
           entries_are = sym (append-nil l.entries);
         }
       ];
+      bridges = same-bridges old grown stays;
     }
 
-    -- and keeps what holds between turns
-    pub list-kept : Kept old → NoneFails (first_net plant) plan.node (noted_on_rings grown)
-        → Behind plan.node entries (noted_on_rings grown) → Kept grown
-    list-kept kept none behind k p l is' =
+    -- and no more calls of a controller have ended than of its node
+    list-behind : Kept old → Behind plan.node entries (noted_on plan.network grown)
+        → ((m : ℕ) (es : List Entry) (k : ℕ) → Behind m es (noted_on k old)
+        → Behind m es (noted_on k grown)) → (k : ℕ) (p : ControllerPlan) (l : ControllerLog)
+        → IsControllerAt plant grown k p l → Behind p.node l.entries (noted_on p.network grown)
+    list-behind kept behind stays k p l is' =
         elim (get-set old.controllers at k new_log l
         (ap (λ xs. slice_get xs k) (sym logs) ∙ is'.log_is)) [
           | inl here ↦
               let plans : plan ≡ p = some-same (sym is.plan_is
               ∙ ap (λ j. slice_get plant.controllers j) (sym here.0) ∙ is'.plan_is) in
-              subst (λ q. KeptAt grown q l) plans
-              (subst (KeptAt grown plan) (sym here.1) (record { none = none; behind = behind }))
-          | inr was ↦
-              let before = kept k p l (record { plan_is = is'.plan_is; log_is = was }) in
-              record {
-                none = elim (cases_eq p.node plan.node) [
-                  | inl same ↦ subst (λ m. NoneFails (first_net plant) m (noted_on_rings grown))
-                      (sym same) none
-                  | inr other ↦ none-behind (first_net plant) p.node (noted_on_rings old) g.done
-                      (noted_on_rings grown) g.ring_is
-                      (quiet-others p.node plan.node other g.done g.mine) before.none
-                ];
-                behind = still-behind p.node l.entries before.behind;
-              }
+              subst (λ (q : ControllerPlan). Behind q.node l.entries (noted_on q.network grown))
+              plans
+              (subst (λ (x : ControllerLog). Behind plan.node x.entries
+              (noted_on plan.network grown)) (sym here.1) behind)
+          | inr was ↦ stays p.node l.entries p.network
+              (kept.behind k p l (record { plan_is = is'.plan_is; log_is = was }))
         ]
-      where
-        still-behind : (m : ℕ) (es : List Entry) → Behind m es (noted_on_rings old)
-            → Behind m es (noted_on_rings grown)
-        still-behind m es old' =
-            subst (λ x. Behind m x (noted_on_rings grown)) (append-nil es)
-            (subst (Behind m (es ++ [])) (sym g.ring_is)
-            (behind-more m es [] (noted_on_rings old) g.done old'
-            (let z : endings [] ≤ closings (own m g.done) = omega arith in z)))
 
   -- ---- a step
 
@@ -270,12 +449,7 @@ module _ (plant : Plant) (scans : ℕ) where
         silent = step-silent fixed (replay fixed entries) step;
       }
 
-  -- events of the scan alone
-  pub events-go : (n : ℕ) (entries noted new : List Entry) (ring : List RingEntry)
-      → new ≡ entries ++ noted → Goes n entries new ring ring
-  events-go n entries noted new ring is =
-      record { noted = noted; known_is = is; done = []; ring_is = sym (append-nil ring); mine = tt }
-
+  -- events of the scan alone end no call
   pub events-behind : (n : ℕ) (entries noted new : List Entry) (ring : List RingEntry)
       → new ≡ entries ++ noted → endings noted ≡ 0 → Behind n entries ring
       → Behind n new ring
@@ -291,55 +465,141 @@ module _ (plant : Plant) (scans : ℕ) where
     ring : List RingEntry
     end : TurnEnd
     turn : HoldsTurn true true
-        (fixed_of plant scans plan) (first_net plant) plan.node true log.entries entries
-        (noted_on_rings old) ring end
-    is : new ≡ made_by at log entries ring old
+        (fixed_of plant scans plan) (net_of plant plan.node) plan.node true log.entries entries
+        (noted_on plan.network old) ring end
+    is : new ≡ made_by at plan log entries ring old
 
   record HostHeldAs (at : ℕ) (plan : HostPlan) (log : HostLog) (old new : Joint) : Type 0 where
     entries : List HostEntry
     ring : List RingEntry
     left : Bool
-    turn : HoldsHostTurn true (first_net plant) plan.node plan true log.entries entries
-        (noted_on_rings old) ring left
-    is : new ≡ with_noted (first_net plant) ring (with_host_list at log entries old)
+    turn : HoldsHostTurn true (net_of plant plan.node) plan.node plan true log.entries entries
+        (noted_on plan.network old) ring left
+    is : new ≡ with_ring plan.network ring (with_host_list at log entries old)
+
+  record EndHeldAs (net : NetPlan) (side at : ℕ) (plan : BridgePlan) (log : BridgeLog)
+      (old new : Joint) : Type 0 where
+    entries : List BridgeEntry
+    ring : List RingEntry
+    left : Bool
+    turn : HoldsEndTurn true true plan net side true log.entries entries
+        (noted_on net.number old) ring left
+    is : new ≡ with_ring net.number ring (with_bridge_list at log entries old)
 
   -- one joint history, which keeps what holds between turns
   pub record OneJoint (new new' : Joint) : Type 0 where
     pub is : new ≡ new'
     pub kept : Kept new
 
-  module _ (laws : CallLaws) where
-    -- a step
+  module _ (sound : IsPlant plant) (laws : CallLaws) where
+    -- the network of a controller, whose node is a caller
+    on-of : (joint : Joint) (at : ℕ) (plan : ControllerPlan) (log : ControllerLog)
+        → IsControllerAt plant joint at plan log → IsOn plant plan.network plan.node
+    on-of joint at plan log is = controller-at-on plant at plan sound is.plan_is
+
+    caller-of : (joint : Joint) (at : ℕ) (plan : ControllerPlan) (log : ControllerLog)
+        → IsControllerAt plant joint at plan log → IsCaller plan.node
+    caller-of joint at plan log is =
+        inl (record { at = at; plan = plan; plan_is = is.plan_is; node = refl })
+
+    -- a controller's list and its ring went on
+    write-of : (old : Joint) (at : ℕ) (plan : ControllerPlan) (log : ControllerLog)
+        (entries : List Entry) (ring : List RingEntry)
+        → Goes plan.node log.entries entries (noted_on plan.network old) ring
+        → Writes old (made_by at plan log entries ring old) plan.network plan.node ring
+    write-of old at plan log entries ring g =
+        record { rings_are = refl; done = g.done; list_is = g.ring_is; mine = g.mine }
+
+    both-grow : (old : Joint) (at : ℕ) (plan : ControllerPlan) (log : ControllerLog)
+        (entries : List Entry) (ring : List RingEntry) → IsControllerAt plant old at plan log
+        → Goes plan.node log.entries entries (noted_on plan.network old) ring
+        → Grows old (made_by at plan log entries ring old)
+    both-grow old at plan log entries ring is g =
+        list-grows old (made_by at plan log entries ring old) at plan log is entries refl
+        (rings-grow old (made_by at plan log entries ring old) plan.network plan.node ring
+        (write-of old at plan log entries ring g)) refl g.noted g.known_is
+
+    -- the ring of its network is that list
+    ring-now : (old : Joint) (at : ℕ) (plan : ControllerPlan) (log : ControllerLog)
+        (entries : List Entry) (ring : List RingEntry) → Kept old
+        → IsControllerAt plant old at plan log
+        → Goes plan.node log.entries entries (noted_on plan.network old) ring
+        → noted_on plan.network (made_by at plan log entries ring old) ≡ ring
+    ring-now old at plan log entries ring kept is g =
+        let on = on-of old at plan log is in
+        now-is old (made_by at plan log entries ring old) plan.network plan.node ring
+        (write-of old at plan log entries ring g) kept on.net on.there on.number
+
+    -- and they keep what holds between turns
+    both-kept : (old : Joint) (at : ℕ) (plan : ControllerPlan) (log : ControllerLog)
+        (entries : List Entry) (ring : List RingEntry) → Kept old
+        → IsControllerAt plant old at plan log
+        → Goes plan.node log.entries entries (noted_on plan.network old) ring
+        → NoneFails (net_of plant plan.node) plan.node ring → Behind plan.node entries ring
+        → Kept (made_by at plan log entries ring old)
+    both-kept old at plan log entries ring kept is g none behind =
+        let new = made_by at plan log entries ring old in
+        let w = write-of old at plan log entries ring g in
+        let on = on-of old at plan log is in
+        record {
+          there = there-kept old new plan.network plan.node ring w kept;
+          none = none-others old new plan.network plan.node ring w kept
+              (λ net there' same caller.
+              none-own sound plan.network plan.node ring on none net there' same);
+          behind = list-behind old new at plan log is entries refl kept
+              (subst (Behind plan.node entries)
+              (sym (ring-now old at plan log entries ring kept is g)) behind)
+              (still-behind old new plan.network plan.node ring w);
+        }
+
+    -- what the last joint history says of the lists that a turn leaves
+    may-made : (old new : Joint) (at : ℕ) (plan : ControllerPlan) (log : ControllerLog)
+        (is : IsControllerAt plant old at plan log) (entries : List Entry)
+        (ring : List RingEntry) → Kept old
+        → Goes plan.node log.entries entries (noted_on plan.network old) ring
+        → new ≡ made_by at plan log entries ring old → Fine new
+        → May (fixed_of plant scans plan) (net_of plant plan.node) plan.node entries ring
+    may-made old new at plan log is entries ring kept g made' fine =
+        let grown = made_by at plan log entries ring old in
+        let now = ring-now old at plan log entries ring kept is g in
+        let told = subst Fine made' fine in
+        let k = told.lists at plan (record { node = log.node; entries = entries })
+        (there old grown at plan log is entries refl) in
+        record {
+          legal = k.legal;
+          ring_legal = subst (IsLegalRing (net_of plant plan.node)) now
+              (ring-fine grown plan.network plan.node told (on-of old at plan log is));
+          meets = subst (Meets plan.node entries) now k.meets;
+        }
+
     -- a step makes one thing
     step-one : (at : ℕ) (old new new' : Joint) → Kept old → StepsAt plant scans at old new
         → StepsAt plant scans at old new' → OneJoint new new'
     step-one at old new new' kept s s' =
         let plans = plan-same old at s.plan s'.plan s.log s'.log s.is s'.is in
         let logs = log-same old at s.plan s'.plan s.log s'.log s.is s'.is in
+        let entries = stepped_list (fixed_of plant scans s.plan) s.log.entries in
         let f = stepped-so (fixed_of plant scans s.plan) s.log.entries in
-        let g = events-go s.plan.node s.log.entries f.noted
-        (stepped_list (fixed_of plant scans s.plan) s.log.entries) (noted_on_rings old) f.is in
-        let before = kept at s.plan s.log s.is in
         record {
           is = s.made ∙ (λ i. with_list at (logs i)
               (stepped_list (fixed_of plant scans (plans i)) (logs i).entries) old) ∙ sym s'.made;
-          kept = subst Kept (sym s.made) (list-kept old
-              (with_list at s.log (stepped_list (fixed_of plant scans s.plan) s.log.entries) old)
-              at s.plan s.log s.is (stepped_list (fixed_of plant scans s.plan) s.log.entries) refl g
-              kept before.none
-              (events-behind s.plan.node s.log.entries f.noted (stepped_list
-              (fixed_of plant scans s.plan) s.log.entries) (noted_on_rings old) f.is f.silent
-              before.behind));
+          kept = subst Kept (sym s.made) (record {
+            there = kept.there;
+            none = kept.none;
+            behind = list-behind old (with_list at s.log entries old) at s.plan s.log s.is entries
+                refl kept
+                (events-behind s.plan.node s.log.entries f.noted entries
+                (noted_on s.plan.network old) f.is f.silent
+                (kept.behind at s.plan s.log s.is)) (λ m es k before. before);
+          });
         }
 
-    pub step-grows : (at : ℕ) (old new : Joint) → StepsAt plant scans at old new → Grows old new
+    step-grows : (at : ℕ) (old new : Joint) → StepsAt plant scans at old new → Grows old new
     step-grows at old new s =
+        let entries = stepped_list (fixed_of plant scans s.plan) s.log.entries in
         let f = stepped-so (fixed_of plant scans s.plan) s.log.entries in
-        let g = events-go s.plan.node s.log.entries f.noted
-        (stepped_list (fixed_of plant scans s.plan) s.log.entries) (noted_on_rings old) f.is in
-        subst (Grows old) (sym s.made) (list-grows old
-        (with_list at s.log (stepped_list (fixed_of plant scans s.plan) s.log.entries) old) at
-        s.plan s.log s.is (stepped_list (fixed_of plant scans s.plan) s.log.entries) refl g)
+        subst (Grows old) (sym s.made) (list-grows old (with_list at s.log entries old) at s.plan
+        s.log s.is entries refl (λ k. ([], sym (append-nil (noted_on k old)))) refl f.noted f.is)
 
     -- a controller's hold
     held-as : (at : ℕ) (old new : Joint) (h : MakesHoldTurnAt plant scans at old new)
@@ -348,42 +608,29 @@ module _ (plant : Plant) (scans : ℕ) where
         record { entries = h.entries; ring = h.ring; end = h.end; turn = h.turn; is = h.made }
 
     held-goes : (at : ℕ) (old new : Joint) (h : MakesHoldTurnAt plant scans at old new)
-        → Goes h.plan.node h.log.entries h.entries (noted_on_rings old) h.ring
+        → Goes h.plan.node h.log.entries h.entries (noted_on h.plan.network old) h.ring
     held-goes at old new h =
-        turn-goes laws (fixed_of plant scans h.plan) (first_net plant) h.plan.node refl true h.end
-        h.log.entries h.entries (noted_on_rings old) h.ring h.turn
+        turn-goes laws (fixed_of plant scans h.plan) (net_of plant h.plan.node) h.plan.node refl
+        true h.end h.log.entries h.entries (noted_on h.plan.network old) h.ring h.turn
 
-    pub held-grows : (at : ℕ) (old new : Joint) → MakesHoldTurnAt plant scans at old new
+    held-grows : (at : ℕ) (old new : Joint) → MakesHoldTurnAt plant scans at old new
         → Grows old new
     held-grows at old new h =
         subst (Grows old) (sym h.made)
-        (list-grows old (made_by at h.log h.entries h.ring old) at h.plan h.log h.is h.entries refl
-        (held-goes at old new h))
-
-    -- what the last joint history says of the lists that a turn leaves
-    may-made : (old new : Joint) (at : ℕ) (plan : ControllerPlan) (log : ControllerLog)
-        (is : IsControllerAt plant old at plan log) (entries : List Entry)
-        (ring : List RingEntry) → Goes plan.node log.entries entries (noted_on_rings old) ring
-        → new ≡ made_by at log entries ring old → Fine new
-        → May (fixed_of plant scans plan) (first_net plant) plan.node entries ring
-    may-made old new at plan log is entries ring g made' fine =
-        may-at (made_by at log entries ring old) at plan
-        (record { node = log.node; entries = entries }) (subst Fine made' fine)
-        (there old (made_by at log entries ring old) at plan log is entries refl g)
+        (both-grow old at h.plan h.log h.entries h.ring h.is (held-goes at old new h))
 
     -- a hold of a controller makes one thing
     held-one : (at : ℕ) (old new new' : Joint) → Kept old → Fine new → Fine new'
         → MakesHoldTurnAt plant scans at old new → MakesHoldTurnAt plant scans at old new'
         → OneJoint new new'
     held-one at old new new' kept fine fine' h h' = record {
-      is = h.made ∙ (λ i. made_by at h.log (same.0.known_is i) (same.0.ring_is i) old)
+      is = h.made ∙ (λ i. made_by at h.plan h.log (same.0.known_is i) (same.0.ring_is i) old)
           ∙ sym other.is;
       kept = subst Kept (sym h.made)
-          (list-kept old (made_by at h.log h.entries h.ring old) at h.plan h.log h.is h.entries refl
-          (held-goes at old new h) kept
-          (turn-none laws (fixed_of plant scans h.plan) (first_net plant) h.plan.node refl true
-          h.end
-          h.log.entries h.entries (noted_on_rings old) h.ring h.turn before.none) same.0.behind);
+          (both-kept old at h.plan h.log h.entries h.ring kept h.is (held-goes at old new h)
+          (turn-none laws (fixed_of plant scans h.plan) (net_of plant h.plan.node) h.plan.node refl
+          true h.end h.log.entries h.entries (noted_on h.plan.network old) h.ring h.turn none)
+          same.0.behind);
     }
       where
         other : HeldAs at h.plan h.log old new'
@@ -392,23 +639,25 @@ module _ (plant : Plant) (scans : ℕ) where
             (subst (λ l. HeldAs at h'.plan l old new')
             (sym (log-same old at h.plan h'.plan h.log h'.log h.is h'.is)) (held-as at old new' h'))
 
-        other-goes : Goes h.plan.node h.log.entries other.entries (noted_on_rings old) other.ring
+        other-goes : Goes h.plan.node h.log.entries other.entries (noted_on h.plan.network old)
+            other.ring
         other-goes = turn-goes laws (fixed_of plant scans h.plan)
-            (first_net plant) h.plan.node refl true
-            other.end h.log.entries other.entries (noted_on_rings old) other.ring other.turn
+            (net_of plant h.plan.node) h.plan.node refl true other.end h.log.entries other.entries
+            (noted_on h.plan.network old) other.ring other.turn
 
-        before : KeptAt old h.plan h.log
-        before = kept at h.plan h.log h.is
+        none : NoneFails (net_of plant h.plan.node) h.plan.node (noted_on h.plan.network old)
+        none = none-kept old h.plan.network h.plan.node kept (on-of old at h.plan h.log h.is)
+            (caller-of old at h.plan h.log h.is)
 
         same : Same h.plan.node h.entries other.entries h.ring other.ring × (h.end ≡ other.end)
-        same = turn-same laws (fixed_of plant scans h.plan) (first_net plant) h.plan.node refl true
-            h.end
-            other.end h.log.entries h.entries other.entries
-            (noted_on_rings old) h.ring other.ring before.behind before.none h.turn
-            (may-made old new at h.plan h.log h.is h.entries h.ring
+        same = turn-same laws (fixed_of plant scans h.plan) (net_of plant h.plan.node) h.plan.node
+            refl true h.end other.end h.log.entries h.entries other.entries
+            (noted_on h.plan.network old) h.ring other.ring (kept.behind at h.plan h.log h.is) none
+            h.turn
+            (may-made old new at h.plan h.log h.is h.entries h.ring kept
             (held-goes at old new h) h.made fine)
-            other.turn (may-made old new' at h.plan h.log h.is other.entries other.ring other-goes
-            other.is fine')
+            other.turn (may-made old new' at h.plan h.log h.is other.entries other.ring kept
+            other-goes other.is fine')
 
     -- a host's hold
     host-held-as : (at : ℕ) (old new : Joint) (h : HostHoldsAt plant at old new)
@@ -416,45 +665,53 @@ module _ (plant : Plant) (scans : ℕ) where
     host-held-as at old new h =
         record { entries = h.entries; ring = h.ring; left = h.left; turn = h.turn; is = h.made }
 
-    host-held-goes : (at : ℕ) (old new : Joint) (h : HostHoldsAt plant at old new)
-        → Goes h.plan.node h.log.entries h.entries (noted_on_rings old) h.ring
-    host-held-goes at old new h = host-goes (first_net plant) h.plan.node h.plan true h.left
-        h.log.entries
-        h.entries (noted_on_rings old) h.ring h.turn
+    host-write : (at : ℕ) (old : Joint) (plan : HostPlan) (log : HostLog)
+        (entries : List HostEntry) (ring : List RingEntry) (left : Bool)
+        → HoldsHostTurn true (net_of plant plan.node) plan.node plan true log.entries entries
+        (noted_on plan.network old) ring left
+        → Writes old (with_ring plan.network ring (with_host_list at log entries old))
+        plan.network plan.node ring
+    host-write at old plan log entries ring left turn =
+        let g = host-goes (net_of plant plan.node) plan.node plan true left log.entries entries
+        (noted_on plan.network old) ring turn in
+        record { rings_are = refl; done = g.done; list_is = g.ring_is; mine = g.mine }
 
-    pub host-held-grows : (at : ℕ) (old new : Joint) → HostHoldsAt plant at old new → Grows old new
+    host-held-grows : (at : ℕ) (old new : Joint) → HostHoldsAt plant at old new → Grows old new
     host-held-grows at old new h =
-        let g = host-held-goes at old new h in
+        let made' = with_ring h.plan.network h.ring (with_host_list at h.log h.entries old) in
         subst (Grows old) (sym h.made) (record {
-          done = g.done;
-          ring_is = g.ring_is;
-          lists = λ k p l is. record {
-            new_log = l;
-            is = record { plan_is = is.plan_is; log_is = is.log_is };
-            noted = [];
-            entries_are = sym (append-nil l.entries);
-          };
+          rings = rings-grow old made' h.plan.network h.plan.node h.ring
+              (host-write at old h.plan h.log h.entries h.ring h.left h.turn);
+          lists = same-lists old made' refl;
+          bridges = same-bridges old made' refl;
         })
+
+    -- no host is a caller
+    host-apart : (at : ℕ) (plan : HostPlan) → slice_get plant.hosts at ≡ Some plan
+        → IsCaller plan.node → ⊥
+    host-apart at plan is (inl c) =
+        controller-no-host plant sound c.at at c.plan plan c.plan_is is c.node
+    host-apart at plan is (inr e) =
+        let apart = host-no-end plant sound at e.at plan e.plan is e.plan_is in
+        by (e.plan.left == plan.node) refl e.is_end apart
+      where
+        by : (b : Bool) → (e.plan.left == plan.node) ≡ b
+            → (b || (e.plan.right == plan.node)) ≡ true
+            → (plan.node ≢ e.plan.left) × (plan.node ≢ e.plan.right) → ⊥
+        by true left is-end apart = apart.0 (sym (eqb-true e.plan.left plan.node left))
+        by false left is-end apart = apart.1 (sym (eqb-true e.plan.right plan.node is-end))
 
     -- a hold of a host makes one thing
     host-held-one : (at : ℕ) (old new new' : Joint) → Kept old → Fine new → Fine new'
-        → ((k : ℕ) (p : ControllerPlan) (l : HostPlan) → slice_get plant.controllers k ≡ Some p
-        → slice_get plant.hosts at ≡ Some l → p.node ≢ l.node)
         → HostHoldsAt plant at old new → HostHoldsAt plant at old new' → OneJoint new new'
-    host-held-one at old new new' kept fine fine' apart h h' = record {
-      is = h.made ∙ (λ i. with_noted (first_net plant) (same.1 i)
+    host-held-one at old new new' kept fine fine' h h' = record {
+      is = h.made ∙ (λ i. with_ring h.plan.network (same.1 i)
           (with_host_list at h.log (same.0 i) old)) ∙ sym other.is;
-      kept = subst Kept (sym h.made) (λ k p l is.
-          let before = kept k p l (record { plan_is = is.plan_is; log_is = is.log_is }) in
-          record {
-            none = none-behind (first_net plant) p.node (noted_on_rings old) g.done h.ring g.ring_is
-                (quiet-others p.node h.plan.node (apart k p h.plan is.plan_is h.is.plan_is) g.done
-                g.mine) before.none;
-            behind = subst (λ x. Behind p.node x h.ring) (append-nil l.entries)
-                (subst (Behind p.node (l.entries ++ [])) (sym g.ring_is)
-                (behind-more p.node l.entries [] (noted_on_rings old) g.done before.behind
-                (let z : endings [] ≤ closings (own p.node g.done) = omega arith in z)));
-          });
+      kept = subst Kept (sym h.made)
+          (write-kept old (with_ring h.plan.network h.ring (with_host_list at h.log h.entries old))
+          h.plan.network h.plan.node h.ring
+          (host-write at old h.plan h.log h.entries h.ring h.left h.turn) kept refl
+          (λ net there' same' caller. absurd (host-apart at h.plan h.is.plan_is caller)));
     }
       where
         plans : h.plan ≡ h'.plan
@@ -467,61 +724,199 @@ module _ (plant : Plant) (scans : ℕ) where
         other = subst (λ p. HostHeldAs at p h.log old new') (sym plans)
             (subst (λ l. HostHeldAs at h'.plan l old new') (sym logs) (host-held-as at old new' h'))
 
-        g : Goes h.plan.node h.log.entries h.entries (noted_on_rings old) h.ring
-        g = host-held-goes at old new h
+        on : IsOn plant h.plan.network h.plan.node
+        on = host-at-on plant at h.plan sound h.is.plan_is
+
+        legal-of : (joint : Joint) (entries : List HostEntry) (ring : List RingEntry) (left : Bool)
+            → HoldsHostTurn true (net_of plant h.plan.node) h.plan.node h.plan true h.log.entries
+            entries (noted_on h.plan.network old) ring left
+            → joint ≡ with_ring h.plan.network ring (with_host_list at h.log entries old)
+            → Fine joint → IsLegalRing (net_of plant h.plan.node) ring
+        legal-of joint entries ring left turn made' fine'' =
+            let new'' = with_ring h.plan.network ring (with_host_list at h.log entries old) in
+            subst (IsLegalRing (net_of plant h.plan.node))
+            (now-is old new'' h.plan.network h.plan.node ring
+            (host-write at old h.plan h.log entries ring left turn) kept on.net on.there on.number)
+            (ring-fine new'' h.plan.network h.plan.node (subst Fine made' fine'') on)
 
         same : (h.entries ≡ other.entries) × (h.ring ≡ other.ring) × (h.left ≡ other.left)
-        same = host-same (first_net plant) h.plan.node h.plan true h.left other.left h.log.entries
-            h.entries
-            other.entries (noted_on_rings old) h.ring other.ring h.turn
-            (subst (λ (j : Joint). IsLegalRing (first_net plant)
-            (noted_on_rings j)) h.made fine.ring)
-            other.turn (subst (λ (j : Joint). IsLegalRing (first_net plant) (noted_on_rings j))
-            other.is fine'.ring)
+        same = host-same (net_of plant h.plan.node) h.plan.node h.plan true h.left other.left
+            h.log.entries h.entries other.entries (noted_on h.plan.network old) h.ring other.ring
+            h.turn (legal-of new h.entries h.ring h.left h.turn h.made fine)
+            other.turn (legal-of new' other.entries other.ring other.left other.turn other.is fine')
+
+    -- an end's hold
+    end-held-as : (net : NetPlan) (side at : ℕ) (old new : Joint)
+        (h : EndHoldsAt plant net side at old new) → EndHeldAs net side at h.plan h.log old new
+    end-held-as net side at old new h =
+        record { entries = h.entries; ring = h.ring; left = h.left; turn = h.turn; is = h.made }
+
+    end-goes : (net : NetPlan) (side at : ℕ) (old new : Joint)
+        (h : EndHoldsAt plant net side at old new)
+        → Goes side h.log.entries h.entries (noted_on net.number old) h.ring
+    end-goes net side at old new h = end-turn-adds h.plan net side true h.left h.log.entries
+        h.entries (noted_on net.number old) h.ring h.turn
+
+    end-write : (net : NetPlan) (side at : ℕ) (old : Joint) (plan : BridgePlan) (log : BridgeLog)
+        (entries : List BridgeEntry) (ring : List RingEntry) (left : Bool)
+        → HoldsEndTurn true true plan net side true log.entries entries
+        (noted_on net.number old) ring left
+        → Writes old (with_ring net.number ring (with_bridge_list at log entries old))
+        net.number side ring
+    end-write net side at old plan log entries ring left turn =
+        let g = end-turn-adds plan net side true left log.entries entries
+        (noted_on net.number old) ring turn in
+        record { rings_are = refl; done = g.done; list_is = g.ring_is; mine = g.mine }
+
+    -- the bridge is at its place
+    bridge-there : (old : Joint) (at : ℕ) (plan : BridgePlan) (log : BridgeLog)
+        (entries : List BridgeEntry) (network : ℕ) (ring : List RingEntry)
+        → IsBridgeAt plant old at plan log
+        → IsBridgeAt plant (with_ring network ring (with_bridge_list at log entries old)) at plan
+        (record { left = log.left; right = log.right; entries = entries })
+    bridge-there old at plan log entries network ring is = record {
+      plan_is = is.plan_is;
+      log_is = set-get old.bridges at
+          (record { left = log.left; right = log.right; entries = entries }) log is.log_is;
+    }
+
+    end-held-grows : (net : NetPlan) (side at : ℕ) (old new : Joint)
+        → EndHoldsAt plant net side at old new → Grows old new
+    end-held-grows net side at old new h =
+        let made' = with_ring net.number h.ring (with_bridge_list at h.log h.entries old) in
+        let g = end-goes net side at old new h in
+        let log : BridgeLog =
+        record { left = h.log.left; right = h.log.right; entries = h.entries } in
+        subst (Grows old) (sym h.made) (record {
+          rings = rings-grow old made' net.number side h.ring
+              (end-write net side at old h.plan h.log h.entries h.ring h.left h.turn);
+          lists = same-lists old made' refl;
+          bridges = λ k p l is. elim (cases_eq k at) [
+            | inl here ↦
+                let plans : h.plan ≡ p = some-same (sym h.is.plan_is
+                ∙ ap (λ j. slice_get plant.bridges j) (sym here) ∙ is.plan_is) in
+                let logs : h.log ≡ l = some-same (sym h.is.log_is
+                ∙ ap (λ j. slice_get old.bridges j) (sym here) ∙ is.log_is) in
+                record {
+                  new_log = log;
+                  is = subst (λ j. IsBridgeAt plant made' j p log) (sym here)
+                      (subst (λ q. IsBridgeAt plant made' at q log) plans
+                      (bridge-there old at h.plan h.log h.entries net.number h.ring h.is));
+                  noted = g.noted;
+                  entries_are = g.known_is
+                      ∙ ap (λ (x : BridgeLog). x.entries ++ g.noted) logs;
+                }
+            | inr other ↦ record {
+              new_log = l;
+              is = record {
+                plan_is = is.plan_is;
+                log_is = set-other old.bridges at k log other ∙ is.log_is;
+              };
+              noted = [];
+              entries_are = sym (append-nil l.entries);
+            }
+          ];
+        })
+
+    -- a hold of an end makes one thing
+    end-held-one : (net : NetPlan) (side at : ℕ) (old new new' : Joint)
+        → Contains plant.nets net → place_of_bridge plant side ≡ Some at → Kept old
+        → Fine new → Fine new' → EndHoldsAt plant net side at old new
+        → EndHoldsAt plant net side at old new' → OneJoint new new'
+    end-held-one net side at old new new' stands placed kept fine fine' h h' = record {
+      is = h.made ∙ (λ i. with_ring net.number (same.1 i)
+          (with_bridge_list at h.log (same.0 i) old)) ∙ sym other.is;
+      kept = subst Kept (sym h.made)
+          (write-kept old (with_ring net.number h.ring (with_bridge_list at h.log h.entries old))
+          net.number side h.ring
+          (end-write net side at old h.plan h.log h.entries h.ring h.left h.turn) kept refl
+          (λ m there' is caller.
+          subst (λ x. NoneFails x side h.ring) (sym (net-same plant m net sound there' stands is))
+          (end-turn-none h.plan net side true h.left h.log.entries h.entries
+          (noted_on net.number old) h.ring h.turn)));
+    }
+      where
+        plans : h.plan ≡ h'.plan
+        plans = some-same (sym h.is.plan_is ∙ h'.is.plan_is)
+
+        logs : h.log ≡ h'.log
+        logs = some-same (sym h.is.log_is ∙ h'.is.log_is)
+
+        other : EndHeldAs net side at h.plan h.log old new'
+        other = subst (λ p. EndHeldAs net side at p h.log old new') (sym plans)
+            (subst (λ l. EndHeldAs net side at h'.plan l old new') (sym logs)
+            (end-held-as net side at old new' h'))
+
+        caller : IsCaller side
+        caller = inr (record {
+          at = at;
+          plan = h.plan;
+          plan_is = h.is.plan_is;
+          is_end = position-passes (is_end_of side) plant.bridges at h.plan placed h.is.plan_is;
+        })
+
+        legal-of : (joint : Joint) (entries : List BridgeEntry) (ring : List RingEntry)
+            (left : Bool) → HoldsEndTurn true true h.plan net side true h.log.entries entries
+            (noted_on net.number old) ring left
+            → joint ≡ with_ring net.number ring (with_bridge_list at h.log entries old)
+            → Fine joint → BothLegal h.plan net entries ring
+        legal-of joint entries ring left turn made' fine'' =
+            let new'' = with_ring net.number ring (with_bridge_list at h.log entries old) in
+            let told = subst Fine made' fine'' in
+            record {
+              bridge = told.bridges at h.plan
+                  (record { left = h.log.left; right = h.log.right; entries = entries })
+                  (bridge-there old at h.plan h.log entries net.number ring h.is);
+              on_ring = subst (IsLegalRing net)
+                  (now-is old new'' net.number side ring
+                  (end-write net side at old h.plan h.log entries ring left turn) kept net stands
+                  refl) (told.rings net stands);
+            }
+
+        same : (h.entries ≡ other.entries) × (h.ring ≡ other.ring) × (h.left ≡ other.left)
+        same = end-turn-once h.plan net side true h.left other.left h.log.entries h.entries
+            other.entries (noted_on net.number old) h.ring other.ring
+            (kept.none net stands side caller) h.turn
+            (legal-of new h.entries h.ring h.left h.turn h.made fine) other.turn
+            (legal-of new' other.entries other.ring other.left other.turn other.is fine')
 
     -- a hold of whoever has the token
-    hold-grows : (c h : Option ℕ) (old new : Joint) → MakesHold plant scans c h old new
-        → Grows old new
-    hold-grows (Some at) h old new m = held-grows at old new m
-    hold-grows None (Some at) old new m = host-held-grows at old new m
-    hold-grows None None old new m = subst (Grows old) (sym m) (grows-none old)
+    hold-grows : (net : NetPlan) (c h b : Option ℕ) (old new : Joint)
+        → MakesHold plant scans net c h b old new → Grows old new
+    hold-grows net (Some at) h b old new m = held-grows at old new m
+    hold-grows net None (Some at) b old new m = host-held-grows at old new m
+    hold-grows net None None (Some at) old new m =
+        end-held-grows net (holder_on net old) at old new m
+    hold-grows net None None None old new m = subst (Grows old) (sym m) (grows-none old)
 
     -- a hold makes one thing
-    hold-one : (holder : ℕ) (c h : Option ℕ) → place_of_controller plant holder ≡ c
-        → place_of_host plant holder ≡ h → (old new new' : Joint) → Kept old → Fine new
-        → Fine new' → MakesHold plant scans c h old new → MakesHold plant scans c h old new'
-        → OneJoint new new'
-    hold-one holder (Some at) h is is' old new new' kept fine fine' m m' =
+    hold-one : (net : NetPlan) → Contains plant.nets net → (c h b : Option ℕ)
+        → (old new new' : Joint) → place_of_bridge plant (holder_on net old) ≡ b → Kept old
+        → Fine new → Fine new' → MakesHold plant scans net c h b old new
+        → MakesHold plant scans net c h b old new' → OneJoint new new'
+    hold-one net stands (Some at) h b old new new' placed kept fine fine' m m' =
         held-one at old new new' kept fine fine' m m'
-    hold-one holder None (Some at) is is' old new new' kept fine fine' m m' =
-        host-held-one at old new new' kept fine fine'
-        (λ k p l there' found same.
-        let not-it : (p.node == holder) ≡ false = position-none
-        (λ (plan : ControllerPlan). plan.node == holder) plant.controllers k p is there' in
-        let it : (l.node == holder) ≡ true =
-        position-passes (λ (plan : HostPlan). plan.node == holder) plant.hosts at l is' found in
-        let yes' : (p.node == holder) ≡ true =
-        eq-eqb p.node holder (same ∙ eqb-true l.node holder it) in
-        let no' : true ≡ false = sym yes' ∙ not-it in cc) m m'
-    hold-one holder None None is is' old new new' kept fine fine' m m' =
+    hold-one net stands None (Some at) b old new new' placed kept fine fine' m m' =
+        host-held-one at old new new' kept fine fine' m m'
+    hold-one net stands None None (Some at) old new new' placed kept fine fine' m m' =
+        end-held-one net (holder_on net old) at old new new' stands placed kept fine fine' m m'
+    hold-one net stands None None None old new new' placed kept fine fine' m m' =
         record { is = m ∙ sym m'; kept = subst Kept (sym m) kept }
 
     -- a visit
     visited-goes : (at : ℕ) (plan : ControllerPlan) (log : ControllerLog) (old new : Joint)
         (v : VisitsAt plant scans at plan log old new)
-        → Goes plan.node log.entries v.entries (noted_on_rings old) v.ring
+        → Goes plan.node log.entries v.entries (noted_on plan.network old) v.ring
     visited-goes at plan log old new v =
-        visit-goes laws (fixed_of plant scans plan) (first_net plant) plan.node refl true
-        log.entries
-        v.entries (noted_on_rings old) v.ring v.visit
+        visit-goes laws (fixed_of plant scans plan) (net_of plant plan.node) plan.node refl true
+        log.entries v.entries (noted_on plan.network old) v.ring v.visit
 
     where-grows : (b : Bool) (at : ℕ) (plan : ControllerPlan) (log : ControllerLog)
         (old new : Joint) → IsControllerAt plant old at plan log
         → VisitsWhere b plant scans at plan log old new → Grows old new
     where-grows true at plan log old new is v =
         subst (Grows old) (sym v.made)
-        (list-grows old (made_by at log v.entries v.ring old) at plan log is v.entries refl
-        (visited-goes at plan log old new v))
+        (both-grow old at plan log v.entries v.ring is (visited-goes at plan log old new v))
     where-grows false at plan log old new is v = subst (Grows old) (sym v) (grows-none old)
 
     where-one : (b : Bool) (at : ℕ) (plan : ControllerPlan) (log : ControllerLog)
@@ -531,25 +926,23 @@ module _ (plant : Plant) (scans : ℕ) where
     where-one false at plan log old new new' is kept fine fine' v v' =
         record { is = v ∙ sym v'; kept = subst Kept (sym v) kept }
     where-one true at plan log old new new' is kept fine fine' v v' = record {
-      is = v.made ∙ (λ i. made_by at log (same.known_is i) (same.ring_is i) old) ∙ sym v'.made;
+      is = v.made ∙ (λ i. made_by at plan log (same.known_is i) (same.ring_is i) old)
+          ∙ sym v'.made;
       kept = subst Kept (sym v.made)
-          (list-kept old (made_by at log v.entries v.ring old) at plan log is v.entries refl
-          (visited-goes at plan log old new v) kept
-          (visit-none laws (fixed_of plant scans plan) (first_net plant) plan.node refl true
-          log.entries
-          v.entries (noted_on_rings old) v.ring v.visit before.none) same.behind);
+          (both-kept old at plan log v.entries v.ring kept is (visited-goes at plan log old new v)
+          (visit-none laws (fixed_of plant scans plan) (net_of plant plan.node) plan.node refl true
+          log.entries v.entries (noted_on plan.network old) v.ring v.visit
+          (none-kept old plan.network plan.node kept (on-of old at plan log is)
+          (caller-of old at plan log is))) same.behind);
     }
       where
-        before : KeptAt old plan log
-        before = kept at plan log is
-
         same : Same plan.node v.entries v'.entries v.ring v'.ring
-        same = visit-same laws (fixed_of plant scans plan) (first_net plant) plan.node refl true
-            log.entries
-            v.entries v'.entries (noted_on_rings old) v.ring v'.ring before.behind
-            v.visit (may-made old new at plan log is v.entries v.ring
+        same = visit-same laws (fixed_of plant scans plan) (net_of plant plan.node) plan.node refl
+            true log.entries v.entries v'.entries (noted_on plan.network old) v.ring v'.ring
+            (kept.behind at plan log is)
+            v.visit (may-made old new at plan log is v.entries v.ring kept
             (visited-goes at plan log old new v) v.made fine)
-            v'.visit (may-made old new' at plan log is v'.entries v'.ring
+            v'.visit (may-made old new' at plan log is v'.entries v'.ring kept
             (visited-goes at plan log old new' v') v'.made fine')
 
     -- a visit makes one thing
@@ -557,16 +950,13 @@ module _ (plant : Plant) (scans : ℕ) where
         → VisitsIfDue plant scans at old new → VisitsIfDue plant scans at old new'
         → OneJoint new new'
     visit-one at old new new' kept fine fine' v v' =
-        where-one (visit_is_due plant scans v.plan v.log.entries
-        (noted_on_rings old)) at v.plan v.log old new
-        new' v.is kept fine fine' v.visits
+        where-one (visit_is_due plant scans v.plan v.log.entries (noted_on v.plan.network old)) at
+        v.plan v.log old new new' v.is kept fine fine' v.visits
         (subst (λ p. VisitsWhere (visit_is_due plant scans p v.log.entries
-        (noted_on_rings old)) plant scans at
-        p v.log old new')
+        (noted_on p.network old)) plant scans at p v.log old new')
         (sym (plan-same old at v.plan v'.plan v.log v'.log v.is v'.is))
-        (subst (λ (l : ControllerLog). VisitsWhere
-        (visit_is_due plant scans v'.plan l.entries (noted_on_rings old)) plant scans at v'.plan l
-        old new')
+        (subst (λ (l : ControllerLog). VisitsWhere (visit_is_due plant scans v'.plan l.entries
+        (noted_on v'.plan.network old)) plant scans at v'.plan l old new')
         (sym (log-same old at v.plan v'.plan v.log v'.log v.is v'.is)) v'.visits))
 
     -- ---- an away turn
@@ -579,21 +969,45 @@ module _ (plant : Plant) (scans : ℕ) where
     coming-quiet statuses.Gone off m n = tt
     coming-quiet statuses.Away off m n = quiet-join m n (not off)
 
+    -- what it adds is its own
+    join-mine : (n : ℕ) (joined : Bool) → Each (IsMine n) (join_entries n joined)
+    join-mine n true = (eq-eqb n n refl, tt)
+    join-mine n false = tt
+
+    coming-mine : (status : NodeStatus) (off : Bool) (n : ℕ)
+        → Each (IsMine n) (coming_back status off n)
+    coming-mine statuses.In off n = tt
+    coming-mine statuses.Asking off n = tt
+    coming-mine statuses.Gone off n = tt
+    coming-mine statuses.Away off n = join-mine n (not off)
+
     -- what the controller's node adds
     abbrev back_of : ControllerPlan → ControllerLog → Joint → List RingEntry
-    back_of plan log old = coming_back (status_at (first_net plant) (noted_on_rings old) plan.node)
+    back_of plan log old =
+        coming_back (status_at (net_of plant plan.node) (noted_on plan.network old) plan.node)
         (is_off_at (fixed_of plant scans plan) log.entries) plan.node
+
+    abbrev came_back : ControllerPlan → ControllerLog → Joint → Joint
+    came_back plan log old =
+        with_ring plan.network (noted_on plan.network old ++ back_of plan log old) old
+
+    away-write : (plan : ControllerPlan) (log : ControllerLog) (old : Joint)
+        → Writes old (came_back plan log old) plan.network plan.node
+        (noted_on plan.network old ++ back_of plan log old)
+    away-write plan log old = record {
+      rings_are = refl;
+      done = back_of plan log old;
+      list_is = refl;
+      mine = coming-mine (status_at (net_of plant plan.node) (noted_on plan.network old) plan.node)
+          (is_off_at (fixed_of plant scans plan) log.entries) plan.node;
+    }
 
     away-grows : (at : ℕ) (old new : Joint) → ComesBackAt plant scans at old new → Grows old new
     away-grows at old new c = subst (Grows old) (sym c.made) (record {
-      done = back_of c.plan c.log old;
-      ring_is = refl;
-      lists = λ k p l is. record {
-        new_log = l;
-        is = record { plan_is = is.plan_is; log_is = is.log_is };
-        noted = [];
-        entries_are = sym (append-nil l.entries);
-      };
+      rings = rings-grow old (came_back c.plan c.log old) c.plan.network c.plan.node
+          (noted_on c.plan.network old ++ back_of c.plan c.log old) (away-write c.plan c.log old);
+      lists = same-lists old (came_back c.plan c.log old) refl;
+      bridges = same-bridges old (came_back c.plan c.log old) refl;
     })
 
     -- an away turn makes one thing
@@ -603,25 +1017,29 @@ module _ (plant : Plant) (scans : ℕ) where
         let plans = plan-same old at c.plan c'.plan c.log c'.log c.is c'.is in
         let logs = log-same old at c.plan c'.plan c.log c'.log c.is c'.is in
         let back = back_of c.plan c.log old in
+        let past = noted_on c.plan.network old in
         record {
-          is = c.made ∙ (λ i. with_noted (first_net plant)
-              (noted_on_rings old ++ back_of (plans i) (logs i) old) old) ∙ sym c'.made;
-          kept = subst Kept (sym c.made) (λ k p l is.
-              let before = kept k p l (record { plan_is = is.plan_is; log_is = is.log_is }) in
-              record {
-                none = none-behind (first_net plant) p.node (noted_on_rings old) back
-                    ((noted_on_rings old) ++ back) refl
-                    (coming-quiet (status_at (first_net plant) (noted_on_rings old) c.plan.node)
-                    (is_off_at (fixed_of plant scans c.plan) c.log.entries) p.node c.plan.node)
-                    before.none;
-                behind = subst (λ x. Behind p.node x ((noted_on_rings old) ++ back))
-                    (append-nil l.entries)
-                    (behind-more p.node l.entries [] (noted_on_rings old) back before.behind
-                    (let z : endings [] ≤ closings (own p.node back) = omega arith in z));
-              });
+          is = c.made ∙ (λ i. came_back (plans i) (logs i) old) ∙ sym c'.made;
+          kept = subst Kept (sym c.made)
+              (write-kept old (came_back c.plan c.log old) c.plan.network c.plan.node (past ++ back)
+              (away-write c.plan c.log old) kept refl
+              (λ net there' is caller.
+              none-behind net c.plan.node past back (past ++ back) refl
+              (coming-quiet (status_at (net_of plant c.plan.node) past c.plan.node)
+              (is_off_at (fixed_of plant scans c.plan) c.log.entries) c.plan.node c.plan.node)
+              (subst (λ k. NoneFails net c.plan.node (noted_on k old)) is
+              (kept.none net there' c.plan.node caller))));
         }
 
     -- ---- a turn, and turns one after another
+
+    -- a network that has a number is one of the plant's
+    net-stands : (network : ℕ) (net : NetPlan) → net_numbered plant network ≡ Some net
+        → Contains plant.nets net
+    net-stands network net is =
+        let place = found-place (λ (m : NetPlan). m.number == network)
+        plant.nets net is in
+        contains-at plant.nets place.0 net place.1
 
     pub turn-grows : (turn : Turn) (old new : Joint) → MakesTurn plant scans turn old new
         → Grows old new
@@ -634,7 +1052,7 @@ module _ (plant : Plant) (scans : ℕ) where
       where
         at : (net : Option NetPlan) → MakesHoldOn plant scans net old new → Grows old new
         at None m' = subst (Grows old) (sym m') (grows-none old)
-        at (Some net) m' = hold-grows _ _ old new m'
+        at (Some net) m' = hold-grows net _ _ _ old new m'
     turn-grows (Visit node) old new m = at (place_of_controller plant node) m
       where
         at : (c : Option ℕ) → MakesVisit plant scans c old new → Grows old new
@@ -658,16 +1076,17 @@ module _ (plant : Plant) (scans : ℕ) where
         at None s s' = record { is = s ∙ sym s'; kept = subst Kept (sym s) kept }
         at (Some k) s s' = step-one k old new new' kept s s'
     turn-one (Hold network) old new new' kept fine fine' m m' =
-        at (net_numbered plant network) m m'
+        at (net_numbered plant network) refl m m'
       where
-        at : (net : Option NetPlan) → MakesHoldOn plant scans net old new
+        at : (net : Option NetPlan) → net_numbered plant network ≡ net
+            → MakesHoldOn plant scans net old new
             → MakesHoldOn plant scans net old new' → OneJoint new new'
-        at None s s' = record { is = s ∙ sym s'; kept = subst Kept (sym s) kept }
-        at (Some net) s s' =
-            let holder = (ring_after net (noted_on_rings old)).holder in
-            hold-one holder (place_of_controller plant holder)
-            (place_of_host plant holder) refl refl
-            old new new' kept fine fine' s s'
+        at None is s s' = record { is = s ∙ sym s'; kept = subst Kept (sym s) kept }
+        at (Some net) is s s' =
+            let holder = holder_on net old in
+            hold-one net (net-stands network net is) (place_of_controller plant holder)
+            (place_of_host plant holder) (place_of_bridge plant holder)
+            old new new' refl kept fine fine' s s'
     turn-one (Visit node) old new new' kept fine fine' m m' =
         at (place_of_controller plant node) m m'
       where
@@ -705,27 +1124,25 @@ module _ (plant : Plant) (scans : ℕ) where
 
   -- ---- the first joint history, and the last
 
-  -- nothing is noted on the rings
-  none-noted : (nets : List NetPlan) → entries_of_rings (map empty_ring_log nets) ≡ []
-  none-noted [] = refl
-  none-noted (net ∷ []) = refl
-  none-noted (net ∷ next ∷ nets) = none-noted (next ∷ nets)
-
   pub kept-at-first : Kept (nothing_made plant)
-  kept-at-first at plan log is =
-      let from = map-at empty_log plant.controllers at log is.log_is in
-      record {
-        none = subst (NoneFails (first_net plant) plan.node) (sym (none-noted plant.nets))
-            (λ p f. none-at-first (first_net plant) plan.node p f);
-        behind = subst (Behind plan.node log.entries) (sym (none-noted plant.nets))
-            (subst (λ (l : ControllerLog). Behind plan.node l.entries []) (sym from.2)
-            (let z : endings [] ≤ closings (own plan.node []) = omega arith in z));
-      }
+  kept-at-first = record {
+    there = λ net there'.
+        let place = place-of plant.nets net there' in
+        ring-at-first plant.nets place.0 net place.1;
+    none = λ net there' n caller.
+        subst (NoneFails net n) (sym (none-at plant.nets net.number))
+        (λ p f. none-at-first net n p f);
+    behind = λ at plan log is.
+        let from = map-at empty_log plant.controllers at log is.log_is in
+        subst (Behind plan.node log.entries) (sym (none-at plant.nets plan.network))
+        (subst (λ (l : ControllerLog). Behind plan.node l.entries []) (sym from.2)
+        (let z : endings [] ≤ closings (own plan.node []) = omega arith in z));
+  }
 
   pub fine-at-last : (joint : Joint) → IsPlant plant → IsLegalJoint plant scans joint
       → IsJoint joint → Fine joint
   fine-at-last joint sound legal tied = record {
-    ring = legal-ring plant scans joint sound legal;
+    rings = λ net there'. (ring-there plant joint.rings sound legal.rings net there').legal;
     lists = λ at plan log is.
         let found = zip-at-first (IsLegalLog plant scans) plant.controllers joint.controllers at
         plan legal.controllers is.plan_is in
@@ -733,9 +1150,21 @@ module _ (plant : Plant) (scans : ℕ) where
         let ok = subst (IsLegalLog plant scans plan) same found.2 in
         let both = all-at (IsTiedController (noted_on_rings joint)) joint.controllers at log
         tied.controllers is.log_is in
+        let on = controller-at-on plant at plan sound is.plan_is in
+        let own-is : own plan.node (noted_on_rings joint) ≡ own plan.node
+        (noted_on plan.network joint) =
+        own-on plant joint.rings sound legal.rings on.net plan.node on.there on.member
+        ∙ ap (λ k. own plan.node (noted_on k joint)) on.number in
         record {
           legal = ok.1;
-          meets = subst (λ n. Meets n log.entries (noted_on_rings joint)) ok.0
-              (meets-tied log.node log.entries (noted_on_rings joint) both);
+          meets = meets-tied plan.node log.entries (noted_on plan.network joint)
+              (subst (Tied AController (items_of log.entries)) own-is
+              (subst (λ n. Tied AController (items_of log.entries) (own n (noted_on_rings joint)))
+              ok.0 both));
         };
+    bridges = λ at plan log is.
+        let found = zip-at-first IsLegalBridgeLog plant.bridges joint.bridges at plan
+        legal.bridges is.plan_is in
+        let same : found.0 ≡ log = some-same (sym found.1 ∙ is.log_is) in
+        (subst (IsLegalBridgeLog plan) same found.2).2;
   }

@@ -3,9 +3,10 @@ use Rattle.std.proofs.Common.{◌≡◌, ℕ, ◌+◌, ◌==◌, Bool, true, fal
 use Rattle.std.proofs.Common.{◌∷◌, ◌++◌, length, replicate, refl, sym, ap, subst, ◌∙◌, arith}
 use Rattle.std.proofs.Common.{append-nil}
 use Rattle.std.specs.Prelude.{if◌then◌else◌}
+use Rattle.plant_types.specs.declared.net.NetPlan.{NetPlan}
 use Rattle.plant_types.specs.declared.plan.ControllerPlan.{ControllerPlan}
 use Rattle.plant_types.specs.declared.plan.Plant.{Plant}
-use Rattle.plant_types.specs.Plans.{first_net}
+use Rattle.plant_types.specs.Plans.{IsPlant, first_net}
 use Rattle.scan_order.specs.Due.{due}
 use Rattle.scan_order.specs.declared.due.ScanStep.{ScanStep}
 use Rattle.scan_order.specs.declared.due.ScanStep.TheVariants as steps
@@ -17,16 +18,18 @@ use Rattle.controller_core.specs.Run.{entries_from}
 use Rattle.joint_history.specs.declared.joint.ControllerLog.{ControllerLog}
 use Rattle.joint_history.specs.declared.joint.Joint.{Joint}
 use Rattle.joint_history.specs.JointLaws.{fixed_of, logged}
-use Rattle.joint_history.specs.Nets.{noted_on_rings}
+use Rattle.joint_history.specs.Nets.{noted_on}
 use Rattle.joint_history.specs.Reading.{controller_at, has_ended_at}
 use Rattle.joint_history.proofs.Collected.{CallLaws}
 use Rattle.whole_scan.specs.Scans.{with_scan}
 use Rattle.serial_run.specs.declared.order.Turn.{Turn}
+use Rattle.serial_run.specs.declared.order.Turn.TheVariants.{Hold}
 use Rattle.serial_run.specs.Serial.{Finishes, IsChain, IsLateRound, IsRepetition, IsSerial}
-use Rattle.serial_run.specs.Serial.{MakesLateRounds, MakesRound, MakesRounds, Repeats}
+use Rattle.serial_run.specs.Serial.{MakesLateRounds, MakesRound, MakesRoundOfEach, MakesRoundOn}
+use Rattle.serial_run.specs.Serial.{MakesRounds, Repeats}
 use Rattle.serial_run.specs.Serial.{all_are_out, all_have_ended, away_turns_of, log_with_scan}
 use Rattle.serial_run.specs.Serial.{members_on, scanned, visits_of}
-use Rattle.serial_run.specs.Turns.{MakesTurns, first_hold, nothing_made}
+use Rattle.serial_run.specs.Turns.{MakesTurns, nothing_made}
 use Rattle.one_run.proofs.Meets.{Behind, endings}
 use Rattle.one_run.proofs.Places.{at-map, at-zip, map-at, some-same, zip-at}
 use Rattle.one_run.proofs.Runs.{Fine, Grows, Kept, OneJoint, events-behind, fine-front}
@@ -81,12 +84,11 @@ scanned-so fixed entries = at (has_ended_at fixed entries)
           (due fixed.plan ((replay fixed entries).gone + 1));
     }
 
-module _ (plant : Plant) (scans : ℕ) (laws : CallLaws) where
+module _ (plant : Plant) (scans : ℕ) (sound : IsPlant plant) (laws : CallLaws) where
   -- whole scans only add
   scan-grows : (joint : Joint) → Grows plant scans joint (scanned plant scans joint)
   scan-grows joint = record {
-    done = [];
-    ring_is = sym (append-nil (noted_on_rings joint));
+    rings = λ k. ([], sym (append-nil (noted_on k joint)));
     lists = λ at plan log is.
         let s = scanned-so (fixed_of plant scans plan) log.entries in
         record {
@@ -99,26 +101,34 @@ module _ (plant : Plant) (scans : ℕ) (laws : CallLaws) where
           noted = s.noted;
           entries_are = s.is;
         };
+    bridges = λ at plan log is. record {
+      new_log = log;
+      is = record { plan_is = is.plan_is; log_is = is.log_is };
+      noted = [];
+      entries_are = sym (append-nil log.entries);
+    };
   }
 
   -- and keep what holds between turns
   scan-kept : (joint : Joint) → Kept plant scans joint
       → Kept plant scans (scanned plant scans joint)
-  scan-kept joint kept at plan log is =
-      let from = map-at (log_with_scan plant scans) (logged plant joint) at log is.log_is in
-      let both = zip-at plant.controllers joint.controllers at from.0 from.1 in
-      let same : from.0.0 ≡ plan = some-same (sym both.0 ∙ is.plan_is) in
-      let before = kept at plan from.0.1 (record { plan_is = is.plan_is; log_is = both.1 }) in
-      let s = scanned-so (fixed_of plant scans plan) from.0.1.entries in
-      record {
-        none = before.none;
-        behind = subst (λ (l : ControllerLog). Behind plan.node l.entries (noted_on_rings joint))
-            (ap (λ (p : ControllerPlan). log_with_scan plant scans (p, from.0.1)) (sym same)
-            ∙ sym from.2)
-            (events-behind plant scans plan.node from.0.1.entries s.noted
-            (with_scan (controller_at (fixed_of plant scans plan) from.0.1.entries))
-            (noted_on_rings joint) s.is s.silent before.behind);
-      }
+  scan-kept joint kept = record {
+    there = kept.there;
+    none = kept.none;
+    behind = λ at plan log is.
+        let from = map-at (log_with_scan plant scans) (logged plant joint) at log is.log_is in
+        let both = zip-at plant.controllers joint.controllers at from.0 from.1 in
+        let same : from.0.0 ≡ plan = some-same (sym both.0 ∙ is.plan_is) in
+        let before = kept.behind at plan from.0.1
+        (record { plan_is = is.plan_is; log_is = both.1 }) in
+        let s = scanned-so (fixed_of plant scans plan) from.0.1.entries in
+        subst (λ (l : ControllerLog). Behind plan.node l.entries (noted_on plan.network joint))
+        (ap (λ (p : ControllerPlan). log_with_scan plant scans (p, from.0.1)) (sym same)
+        ∙ sym from.2)
+        (events-behind plant scans plan.node from.0.1.entries s.noted
+        (with_scan (controller_at (fixed_of plant scans plan) from.0.1.entries))
+        (noted_on plan.network joint) s.is s.silent before);
+  }
 
   -- ---- a relation that makes one thing
 
@@ -182,15 +192,41 @@ module _ (plant : Plant) (scans : ℕ) (laws : CallLaws) where
 
   -- ---- rounds and repetitions
 
-  round-one : MakesOne (MakesRound plant scans)
-  round-one = record {
+  -- a round of one network
+  round-on-one : (net : NetPlan) → MakesOne (MakesRoundOn plant scans net)
+  round-on-one net = record {
     grows = λ old new m.
-        turns-grow plant scans laws (replicate (members_on plant (noted_on_rings old))
-        (first_hold plant)) old new m;
+        turns-grow plant scans sound laws
+        (replicate (members_on net (noted_on net.number old)) (Hold net.number)) old new m;
     one = λ old new new' kept fine fine' m m'.
-        turns-one plant scans laws (replicate (members_on plant (noted_on_rings old))
-        (first_hold plant)) old new new' kept fine fine' m m';
+        turns-one plant scans sound laws
+        (replicate (members_on net (noted_on net.number old)) (Hold net.number)) old new new' kept
+        fine fine' m m';
   }
+
+  -- rounds of several only add
+  each-grows : (nets : List NetPlan) (old new : Joint) → MakesRoundOfEach plant scans nets old new
+      → Grows plant scans old new
+  each-grows [] old new m = subst (Grows plant scans old) (sym m) (grows-none plant scans old)
+  each-grows (net ∷ nets) old new m =
+      grows-then plant scans old m.0 new ((round-on-one net).grows old m.0 m.1)
+      (each-grows nets m.0 new m.2)
+
+  -- and make one thing
+  each-one : (nets : List NetPlan) (old new new' : Joint) → Kept plant scans old
+      → Fine plant scans new → Fine plant scans new' → MakesRoundOfEach plant scans nets old new
+      → MakesRoundOfEach plant scans nets old new' → OneJoint plant scans new new'
+  each-one [] old new new' kept fine fine' m m' =
+      record { is = m ∙ sym m'; kept = subst (Kept plant scans) (sym m) kept }
+  each-one (net ∷ nets) old new new' kept fine fine' m m' =
+      let one = (round-on-one net).one old m.0 m'.0 kept
+      (fine-front plant scans m.0 new (each-grows nets m.0 new m.2) fine)
+      (fine-front plant scans m'.0 new' (each-grows nets m'.0 new' m'.2) fine') m.1 m'.1 in
+      each-one nets m.0 new new' one.kept fine fine' m.2
+      (subst (λ j. MakesRoundOfEach plant scans nets j new') (sym one.is) m'.2)
+
+  round-one : MakesOne (MakesRound plant scans)
+  round-one = record { grows = each-grows plant.nets; one = each-one plant.nets }
 
   rounds-one : (count : ℕ) → MakesOne (MakesRounds plant scans count)
   rounds-one count = record {
@@ -204,8 +240,8 @@ module _ (plant : Plant) (scans : ℕ) (laws : CallLaws) where
   -- turns of one list, one after another
   made-one : (turns : List Turn) → MakesOne (MakesTurns plant scans turns)
   made-one turns = record {
-    grows = turns-grow plant scans laws turns;
-    one = turns-one plant scans laws turns;
+    grows = turns-grow plant scans sound laws turns;
+    one = turns-one plant scans sound laws turns;
   }
 
   -- the visits and rounds of a repetition only add

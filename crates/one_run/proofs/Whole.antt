@@ -51,11 +51,11 @@ fine-of plant scans joint sound run = fine-at-last plant scans joint sound run.l
 
 pub turns-run : CallLaws → OneTurnsRun
 turns-run laws plant scans order one other sound m run m' run' =
-    (turns-one plant scans laws order (nothing_made plant) one other (kept-at-first plant scans)
+    (turns-one plant scans sound laws order (nothing_made plant) one other (kept-at-first plant scans)
     (fine-of plant scans one sound run)
     (fine-of plant scans other sound run') m m').is
 
 pub serials : CallLaws → OneSerialRun
 serials laws plant scans one other sound m run m' run' =
-    serial-one plant scans laws one other (fine-of plant scans one sound run)
+    serial-one plant scans sound laws one other (fine-of plant scans one sound run)
     (fine-of plant scans other sound run') m m'

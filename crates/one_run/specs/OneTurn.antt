@@ -2,10 +2,13 @@
 -- lists that it leaves are legal and, at a controller, keep the laws between them. This project's
 -- own.
 use Rattle.std.specs.Prelude.{◌≡◌, ℕ, Bool, true, List}
+use Rattle.plant_types.specs.declared.net.BridgePlan.{BridgePlan}
 use Rattle.plant_types.specs.declared.net.HostPlan.{HostPlan}
 use Rattle.plant_types.specs.declared.net.NetPlan.{NetPlan}
 use Rattle.ring_core.specs.declared.entry.RingEntry.{RingEntry}
 use Rattle.ring_core.specs.Legal.{IsLegalRing}
+use Rattle.bridge_relay.specs.declared.entry.BridgeEntry.{BridgeEntry}
+use Rattle.bridge_relay.specs.Legal.{IsBridgeHistory}
 use Rattle.controller_core.specs.declared.fixed.Fixed.{Fixed}
 use Rattle.controller_core.specs.declared.entry.Entry.{Entry}
 use Rattle.host_port.specs.declared.entry.HostEntry.{HostEntry}
@@ -14,6 +17,7 @@ use Rattle.comm_port.specs.declared.turn_end.TurnEnd.{TurnEnd}
 use Rattle.comm_port.specs.HoldTurn.{VisitsEnd}
 use Rattle.comm_port.specs.WholeTurn.{HoldsTurn}
 use Rattle.comm_port.specs.HostTurns.{HoldsHostTurn}
+use Rattle.bridge_port.specs.EndParts.{HoldsEndTurn}
 use Rattle.turn_laws.specs.KeepsOn.{StandsTied}
 
 -- Two holds of the token by a controller that begin alike, when none of its calls has failed, end
@@ -51,4 +55,17 @@ OneHostTurn =
     → IsLegalRing net new_ring
     → HoldsHostTurn true net n plan budget list other_list ring other_ring other_left
     → IsLegalRing net other_ring
+    → (new_list ≡ other_list) × (new_ring ≡ other_ring) × (left ≡ other_left)
+
+-- Two holds of the token by an end of a bridge that begin alike, when none of its calls has failed,
+-- end alike.
+abbrev pub OneEndTurn : Type 0
+OneEndTurn =
+    (plan : BridgePlan) (net : NetPlan) (side : ℕ) (budget left other_left : Bool)
+    (list new_list other_list : List BridgeEntry) (ring new_ring other_ring : List RingEntry)
+    → NoneFailed each_path (part_at net side ring)
+    → HoldsEndTurn true true plan net side budget list new_list ring new_ring left
+    → IsBridgeHistory plan new_list → IsLegalRing net new_ring
+    → HoldsEndTurn true true plan net side budget list other_list ring other_ring other_left
+    → IsBridgeHistory plan other_list → IsLegalRing net other_ring
     → (new_list ≡ other_list) × (new_ring ≡ other_ring) × (left ≡ other_left)

@@ -1,5 +1,5 @@
 //! Laws of turns and runs: they are deterministic. This project's own.
-ghost use Rattle.one_run.specs.OneTurn.{OneHostTurn, OneTurn, OneVisit};
+ghost use Rattle.one_run.specs.OneTurn.{OneEndTurn, OneHostTurn, OneTurn, OneVisit};
 ghost use Rattle.one_run.specs.OneRun.{OneSerialRun, OneTurnsRun};
 
 use ladder_solver::segments_keep_calls;
@@ -28,6 +28,11 @@ pub fn one_visit()
 /// Two holds of the token by a host that begin alike end alike.
 pub fn one_host_turn()
     ensures { OneHostTurn }
+{}
+
+/// Two holds of the token by an end of a bridge that begin alike end alike.
+pub fn one_end_turn()
+    ensures { OneEndTurn }
 {}
 
 /// Two joint histories of a plant that turns in one order made are equal, where their lists are

@@ -1,6 +1,7 @@
 // The live top call: the plant runs in threads, and may wait.
 ghost use Rattle.std.specs.Prelude.{◌≡◌, IfOk, map, string_bytes};
 ghost use Rattle.joint_history.specs.Runnable.{CanRunPlant};
+ghost use Rattle.one_net.specs.OneNet.{IsOfOneNet};
 ghost use Rattle.command_words.specs.Words.{IsNumberOfScans, SpellsLive};
 ghost use Rattle.command_answers.specs.Due.{IsLiveDue, IsLiveShown, as_due};
 ghost use Rattle.plant984.specs.Promise.{AsksInput, PromisedLive, WritesNothing, always};
@@ -12,7 +13,7 @@ use command_answers::{Answer, Status, refused, traced};
 use command_words::live_scans;
 use live_run::{Meet, live_noted};
 use plant_io::{ReadEnd, Sink, Source, read_all};
-use plant_loader::{LoadEnd, load};
+use plant_loader::{LoadEnd, Version, load};
 use plant_types::Plant;
 use std::alloc::{AllocError, Global};
 use std::sync::Wait;
@@ -29,6 +30,7 @@ fn show_live<M: Meet + Sync, R: Threads + Wait + Clock + Sync>(
 ) -> Result<Answer, AllocError>
     requires scans { IsNumberOfScans scans }
     requires plant { CanRunPlant plant.now }
+    requires one { IsOfOneNet plant.now }
     ensures { IfOk result (λ answer. IsLiveShown scans plant.now (as_due answer)) }
 {
     let noted = live_noted(rt, alloc, plant, scans, meet)?;
@@ -47,7 +49,7 @@ fn answer_live<M: Meet + Sync, R: Threads + Wait + Clock + Sync>(
     requires { IsNumberOfScans scans }
     ensures { IfOk result (λ answer. IsLiveDue scans input.now (as_due answer)) }
 {
-    match load(alloc, input) {
+    match load(alloc, Version::One, input) {
         Ok(plant) => show_live(rt, alloc, scans, &plant, meet),
         Err(LoadEnd::Refused(fault, place)) => refused(alloc, fault, place),
         Err(LoadEnd::NoMemory) => Err(AllocError),

@@ -4,7 +4,7 @@ ghost use Rattle.plant_gen.specs.Text.{IsPlantNumber};
 use crate::tests::{ends_so, outcome_over};
 use command_answers::Status;
 use plant_gen::plant_from;
-use plant_loader::load;
+use plant_loader::{Version, load};
 use std::alloc::{AllocError, Global};
 use std::str;
 use std::test::Fail;
@@ -385,7 +385,7 @@ fn is_loaded(alloc: Global, number: u32) -> Result<bool, AllocError>
     requires { IsPlantNumber number }
 {
     let file = plant_from(alloc, number)?;
-    Ok(load(alloc, file.as_slice()).is_ok())
+    Ok(load(alloc, Version::One, file.as_slice()).is_ok())
 }
 
 // The numbers take each count of controllers and each count of networks.

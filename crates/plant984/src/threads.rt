@@ -13,7 +13,7 @@ use joint_law::{Verdict, judge};
 use journal_text::read_journal;
 use live_run::{Meet, NoMeet};
 use mstr_block::MstrResult;
-use plant_loader::load;
+use plant_loader::{Version, load};
 use std::alloc::{AllocError, Global};
 use std::str;
 use std::sync::Wait;
@@ -130,7 +130,7 @@ fn parted(alloc: Global, text: &[u8]) -> Result<(String, String), Fail> {
 fn judged_legal(alloc: Global, plant: &str, scans: u32, journal: &str) -> Result<Joint, Fail>
     requires { IsNumberOfScans scans }
 {
-    let plant = load(alloc, plant.as_bytes()).map_err(|_| "the plant")?;
+    let plant = load(alloc, Version::One, plant.as_bytes()).map_err(|_| "the plant")?;
     let joint = read_journal(alloc, journal.as_bytes()).map_err(|_| "the journal")?;
     match judge(alloc, &plant, &joint, scans)? {
         Verdict::Legal => Ok(joint),

@@ -19,7 +19,7 @@ use Rattle.plant_loader.specs.Keys.{address_at, size_at, in_sixteens, discrete_s
 use Rattle.plant_loader.specs.Keys.{array_at, list_in, texts_at, tables_at}
 
 -- a number that is taken is within its limits
-number_from-within : (low high : ℕ) (z : ℤ) (n : ℕ) → number_from low high z ≡ Some n
+pub number_from-within : (low high : ℕ) (z : ℤ) (n : ℕ) → number_from low high z ≡ Some n
     → (low ≤ n) × (n ≤ high)
 number_from-within low high (pos m) n h =
     let found = some-guard (nat_le low m && nat_le m high) (Some m) n h in

@@ -15,5 +15,10 @@ pub mod SegmentLemmas
 pub mod DropLemmas
 pub mod OrderLemmas
 pub mod FailureLemmas
+pub mod NetLemmas
 pub mod PlantLemmas
+pub mod RouteLemmas
+pub mod HostLemmas
+pub mod BridgeLemmas
+pub mod WholeLemmas
 pub mod LoadedLemmas

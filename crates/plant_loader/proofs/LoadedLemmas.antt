@@ -1,454 +1,129 @@
 -- A plant that is loaded can be run.
-use Rattle.std.proofs.Common.{◌≡◌, ◌≢◌, ℕ, ◌≤◌, ◌==◌, Bool, true, false, not, ◌&&◌, ◌||◌, List, []}
-use Rattle.std.proofs.Common.{◌∷◌, ◌++◌, length, map, Option, Some, None, Result, Ok, Err}
-use Rattle.std.proofs.Common.{true≢false, eq-eqb, refl, sym, ap₂, ◌∙◌, length-append, arith}
-use Rattle.std.specs.Prelude.{codes, nat_le, nat_eq, if◌then◌else◌}
-use Rattle.std.specs.List.{list_any, All, AllByRecursion, Contains, IsDistinct}
-use Rattle.std.specs.List.Sorted.{IsPermutation, IsStrictlyIncreasing}
+use Rattle.std.proofs.Common.{◌≡◌, ℕ, ◌≤◌, ◌==◌, true, not, List, [], ◌∷◌, length, map, Option, Result}
+use Rattle.std.proofs.Common.{Ok, Err, refl, sym, ap, subst, ◌∙◌, arith}
+use Rattle.std.specs.Prelude.{codes, nat_eq}
+use Rattle.std.specs.List.{list_any, All, AllByRecursion, IsDistinct}
 use Rattle.std.specs.Result.{IfOk}
-use Rattle.std.proofs.lemmas.Bool.{and_parts, not-true, leb-true}
 use Rattle.std.proofs.lemmas.Bool.Decides.{nat_tests}
-use Rattle.std.proofs.lemmas.List.{length-map, append-nil}
-use Rattle.std.proofs.lemmas.List.Elements.{All-nil, All-weaker}
-use Rattle.std.proofs.lemmas.List.Folds.{list_any-append}
-use Rattle.std.proofs.lemmas.List.Sorted.{All-permutation, IsPermutation-map, IsPermutation-append}
-use Rattle.std.proofs.lemmas.List.Sorted.{IsPermutation-sym, IsPermutation-trans}
-use Rattle.std.proofs.lemmas.List.Sorted.{length_permutation}
-use Rattle.toml.specs.Data.{Data, Members, as_str, get_member}
-use Rattle.plant_types.specs.declared.net.Fate.{Fate}
-use Rattle.plant_types.specs.declared.net.HostAsk.{HostAsk}
+use Rattle.std.proofs.lemmas.List.{map-append}
+use Rattle.toml.specs.Data.{Members, get_member, as_integer}
+use Rattle.plant_types.specs.declared.net.BridgePlan.{BridgePlan}
 use Rattle.plant_types.specs.declared.net.HostPlan.{HostPlan}
 use Rattle.plant_types.specs.declared.plan.ControllerPlan.{ControllerPlan}
 use Rattle.plant_types.specs.declared.plan.Plant.{Plant}
-use Rattle.plant_types.specs.declared.fault.PlantFault.TheVariants.{BadValue, BadNode}
+use Rattle.plant_types.specs.declared.fault.PlantFault.TheVariants.{BadKey, BadValue, BadNetwork}
+use Rattle.plant_types.specs.declared.fault.PlantFault.TheVariants.{BadVersion}
 use Rattle.plant_types.specs.declared.fault.Place.{Place}
-use Rattle.plant_types.specs.Plans.{AreBridges, HasNetNumbers, IsFromTo, IsNode, IsRouteFrom}
-use Rattle.plant_types.specs.Plans.{IsNetPlan, IsAskOf, IsHostPlan, PassesTests, IsPlant, is_routed}
-use Rattle.plant_types.specs.Plans.{IsBridgeOf}
-use Rattle.plant_types.proofs.OneNet.{IsOnNet, net-of, of-one-net, on-a-net, stations-once}
-use Rattle.cell_text.specs.Steps.{or_fault}
-use Rattle.cell_text.specs.Words.{text_words}
-use Rattle.plant_types.specs.Numerals.{is_numeral, value_of}
-use Rattle.cell_text.proofs.StepLemmas.{step-ok, or_fault-ok, or_fault-some, unless-ok, some-step}
-use Rattle.cell_text.proofs.StepLemmas.{some-guard}
+use Rattle.plant_types.specs.Limits.{controller_limit, host_limit, bridge_limit, net_limit}
+use Rattle.plant_types.specs.Limits.{scan_time_limit, watchdog_limit}
+use Rattle.plant_types.specs.Plans.{IsFromTo, IsNode, IsPlant}
+use Rattle.cell_text.specs.Steps.{◌>>=◌, or_fault, unless}
+use Rattle.cell_text.proofs.StepLemmas.{step-ok, or_fault-ok, unless-ok}
+use Rattle.plant_loader.specs.declared.addresses.Address.{Address}
+use Rattle.plant_loader.specs.declared.net.NetTable.{NetTable}
 use Rattle.plant_loader.specs.declared.refusal.LoadEnd.{LoadEnd}
-use Rattle.plant_loader.specs.declared.net.NetRules.{NetRules}
 use Rattle.plant_loader.specs.declared.tables.Version.{Version}
-use Rattle.plant_loader.specs.Refusals.{Gives, plant_place, net_place, host_table_place}
-use Rattle.plant_loader.specs.Refusals.{request_place, bad_toml}
-use Rattle.plant_loader.specs.InOrder.{numbered_from}
+use Rattle.plant_loader.specs.declared.tables.Version.TheVariants.{One, Two}
 use Rattle.plant_loader.specs.declared.tables.TableKind.TheVariants as kinds
+use Rattle.plant_loader.specs.Refusals.{Gives, plant_place, network_place, bad_toml}
 use Rattle.plant_loader.specs.Tables.{table_passes}
-use Rattle.plant_loader.specs.Keys.{address_at, number_at_or, texts_at, table_at, tables_at}
-use Rattle.plant_loader.specs.Requests.{is_numeral_within, numeral_within, request_words, pdu_in}
-use Rattle.plant_loader.specs.Requests.{another, target_in, ask_from, host_request}
-use Rattle.plant_loader.specs.Requests.{numbered_request, requests_of}
-use Rattle.plant_loader.specs.Stations.{has_controller, controllers_of}
-use Rattle.plant_types.specs.Limits.{controller_limit, host_limit, request_limit}
-use Rattle.plant_loader.specs.Hosts.{has_host, host_from, host_behind, hosts_of}
-use Rattle.plant_loader.specs.Rising.{by_node}
-use Rattle.plant_loader.specs.Net.{fates_in, has_letters, fates_or, rules_from, rules_in, rules_of}
-use Rattle.plant_loader.specs.Net.{station_nodes, members_of, net_from, plant_from}
-use Rattle.plant_loader.specs.Plant.{document_of, version_of}
-use Rattle.plant_loader.specs.Plant.{some_tables_at, plant_in, plant_at, plant_of}
+use Rattle.plant_loader.specs.Keys.{number_at_or, table_at, tables_at, texts_at}
+use Rattle.plant_loader.specs.Rising.{by_node, by_network}
+use Rattle.plant_loader.specs.Net.{Nets, nets_of}
+use Rattle.plant_loader.specs.Stations.{controllers_of}
+use Rattle.plant_loader.specs.Hosts.{hosts_of}
+use Rattle.plant_loader.specs.Bridges.{bridges_of}
+use Rattle.plant_loader.specs.Whole.{station_addresses, has_station, have_stations, all_addresses}
+use Rattle.plant_loader.specs.Whole.{end_addresses, plant_from}
+use Rattle.plant_loader.specs.Plant.{document_of, version_from, is_read, version_of, some_tables_at}
+use Rattle.plant_loader.specs.Plant.{network_tables, bridge_texts, TopTable, top_from, top_at}
+use Rattle.plant_loader.specs.Plant.{plant_with, plant_in, plant_at, plant_of}
 use Rattle.traffic_cop.specs.Rows.{IsRunnablePlan}
-use Rattle.plant_loader.specs.Accepted.{PassesDropTests}
-use Rattle.plant_loader.proofs.Common.{ok_value, some_value}
-use Rattle.plant_loader.proofs.KeyLemmas.{address_at-within, number_or-within, texts_at-few}
-use Rattle.plant_loader.proofs.KeyLemmas.{tables_at-few}
-use Rattle.plant_loader.proofs.TestLemmas.{each_behind-keeps, each_behind-all, each_from-all}
-use Rattle.plant_loader.proofs.TestLemmas.{each_from-length, each_of-length, with_positions-count}
-use Rattle.plant_loader.proofs.PlantLemmas.{IsRead, AreRead, controllers-read, none-node}
-use Rattle.plant_loader.proofs.PlantLemmas.{distinct-push, read-runnable}
-use Rattle.plant_loader.proofs.RisingLemmas.{to-all, by_node-moved, by_node-rises, by_node-nodes}
+use Rattle.plant_loader.specs.Accepted.{PassesDropTests, IsOfVersionOne}
+use Rattle.plant_loader.proofs.Common.{ok_value}
+use Rattle.plant_loader.proofs.KeyLemmas.{texts_at-few, tables_at-few}
+use Rattle.plant_loader.proofs.TestLemmas.{each_passes-all, with_positions-count}
+use Rattle.plant_loader.proofs.PlantLemmas.{controllers-read, read-runnable}
+use Rattle.plant_loader.proofs.NetLemmas.{AreNets, number-is, nets-are}
+use Rattle.plant_loader.proofs.HostLemmas.{hosts-are}
+use Rattle.plant_loader.proofs.BridgeLemmas.{bridges-are, nodes_of_ends}
+use Rattle.plant_loader.proofs.WholeLemmas.{AreParts, plant-is, each-controller, numbers-are}
+use Rattle.plant_loader.proofs.WholeLemmas.{nodes-stations, nodes-ends}
 
--- ---- hosts
+-- ---- the parts
 
-numeral-within : (low high : ℕ) (word : List ℕ) (n : ℕ) → numeral_within low high word ≡ Some n
-    → IsFromTo low high n
-numeral-within low high word n h =
-    let found = some-guard (is_numeral_within low high word) (Some (value_of word)) n h in
-    let same : value_of word ≡ n = some_value (value_of word) n found.1 in
-    let tests = and_parts (is_numeral word)
-    (nat_le low (value_of word) && nat_le (value_of word) high) found.0 in
-    let ranges = and_parts (nat_le low (value_of word)) (nat_le (value_of word) high) tests.1 in
-    let within : IsFromTo low high (value_of word) = record {
-      from = leb-true low (value_of word) ranges.0;
-      to = leb-true (value_of word) high ranges.1;
-    } in
-    rw (← same) within
+-- a network that has a station
+station-there : (stations : List Address) (number : ℕ) (net : NetTable)
+    → has_station stations number net ≡ Ok tt
+    → list_any (λ (at : Address). at.network == net.number) stations ≡ true
+station-there stations number net h =
+    (unless-ok (list_any (λ (at : Address). at.network == net.number) stations)
+    (BadNetwork, network_place number) (λ there. Ok there) tt (again (unless
+    (list_any (λ (at : Address). at.network == net.number) stations)
+    (BadNetwork, network_place number)) h)).0
+  where
+    again : {E : Type 0} (r : Result (Unit {0}) E) → r ≡ Ok tt → (r >>= λ there. Ok there) ≡ Ok tt
+    again (Ok there) h = h
+    again (Err e) h = absurd (cc)
 
-another-is : (node to found : ℕ) (b : Bool) → (to == node) ≡ b
-    → (if b then None else Some to) ≡ Some found → (found ≡ to) × (found ≢ node)
-another-is node to found true is h = absurd (cc)
-another-is node to found false is h =
-    let same : to ≡ found = some_value to found h in
-    (sym same, λ e. true≢false (sym (eq-eqb to node (same ∙ e)) ∙ is))
-
-target-is : (node : ℕ) (word : List ℕ) (to : ℕ) → target_in node word ≡ Some to
-    → IsNode to × (to ≢ node)
-target-is node word to h =
-    let read = some-step (another node) (numeral_within 1 64 word) to h in
-    let other = another-is node read.0 to (read.0 == node) refl read.1.1 in
-    (rw other.0 (numeral-within 1 64 word read.0 read.1.0), other.1)
-
--- a route of one address to another node
-route-is : (routed : Bool) (node to : ℕ) → IsNode to → to ≢ node
-    → IsRouteFrom routed node (to ∷ [])
-route-is routed node to address other = record {
-  some = omega arith;
-  nodes = to-all IsNode (to ∷ []) (address, tt);
-  other = λ is. other (some_value to node is);
-  alone = λ unrouted. refl;
-}
-
-request-is : (host : HostPlan) (place : Place) (text : List ℕ) (ask : HostAsk)
-    → host_request host.node place text ≡ Ok ask → IsAskOf host ask
-unfolding host_request
-request-is host place text ask h =
-    let node = host.node in
-    let words = step-ok (or_fault (BadValue, place) (request_words (text_words text))) _ ask h in
-    let hold = step-ok (or_fault (BadValue, place) (numeral_within 1 10000 words.0.hold)) _
-    ask words.1.1 in
-    let number = unless-ok (is_numeral words.0.to) (BadValue, place) _ ask hold.1.1 in
-    let pdu = step-ok (pdu_in place words.0.pdu) _ ask number.1 in
-    let to = step-ok (or_fault (BadNode, place) (target_in node words.0.to))
-    (λ to. Ok (ask_from hold.0 to pdu.0)) ask pdu.1.1 in
-    let whole : HostAsk = ask_from hold.0 to.0 pdu.0 in
-    let same : whole ≡ ask = ok_value whole ask to.1.1 in
-    let target = target-is node words.0.to to.0
-    (or_fault-some (BadNode, place) (target_in node words.0.to) to.0 to.1.0) in
-    let is : IsAskOf host whole = record {
-      hold = numeral-within 1 10000 words.0.hold hold.0
-          (or_fault-some (BadValue, place) (numeral_within 1 10000 words.0.hold) hold.0 hold.1.0);
-      route = route-is (is_routed host.network) node to.0 target.0 target.1;
-    } in
-    rw (← same) is
-
--- what is known of a host of a table
-record IsHost (controllers : List ControllerPlan) (earlier : List HostPlan)
-    (host : HostPlan) : Type 0 where
-  plan : IsHostPlan host
-  there : host.network ≡ 0
-  fresh : has_controller controllers host.node || has_host earlier host.node ≡ false
-
-host-is : (controllers : List ControllerPlan) (earlier : List HostPlan) (table : ℕ × Members)
-    (host : HostPlan)
-    → host_behind controllers earlier table ≡ Ok host → IsHost controllers earlier host
-unfolding host_behind
-host-is controllers earlier table host h =
-    let place = host_table_place table.0 in
-    let keys = step-ok (table_passes place kinds.Host table.1) _ host h in
-    let node = step-ok (address_at place table.1) _ host keys.1.1 in
-    let texts = step-ok (texts_at place request_limit (codes "requests") table.1) _ host node.1.1 in
-    let known = has_controller controllers node.0 || has_host earlier node.0 in
-    let fresh = unless-ok (not known) (BadNode, place) _ host texts.1.1 in
-    let requests = step-ok (requests_of node.0 table.0 texts.0)
-    (λ requests. Ok (host_from node.0 requests)) host fresh.1 in
-    let whole : HostPlan = host_from node.0 requests.0 in
-    let same : whole ≡ host = ok_value whole host requests.1.1 in
-    let within = address_at-within place table.1 node.0 node.1.0 in
-    let asks = each_from-all (IsAskOf whole) (numbered_request node.0 table.0)
-    (λ n text ask e. request-is whole (request_place table.0 n) text ask e) texts.0 1 requests.0
-    requests.1.0 in
-    let count = each_from-length (numbered_request node.0 table.0) texts.0 1 requests.0
-    requests.1.0 in
-    let few = texts_at-few place request_limit (codes "requests") table.1 texts.0 texts.1.0 in
-    let is : IsHost controllers earlier whole = record {
-      plan = record {
-        node = record { from = within.0; to = within.1 };
-        few = omega (arith, count, few);
-        requests = to-all (IsAskOf whole) requests.0 asks;
-      };
-      there = refl;
-      fresh = not-true known fresh.0;
-    } in
-    rw (← same) is
-
--- the hosts of a plant beside its controllers
-record AreHosts (controllers : List ControllerPlan) (hosts : List HostPlan) : Type 0 where
-  each : AllByRecursion IsHostPlan hosts
-  there : AllByRecursion (λ (host : HostPlan). host.network ≡ 0) hosts
-  nodes : IsDistinct nat_eq (station_nodes controllers hosts)
-
--- a node that no controller and no host has is none of the nodes
-none-of : (controllers : List ControllerPlan) (hosts : List HostPlan) (n : ℕ)
-    → list_any (nat_eq n) (station_nodes controllers hosts)
-    ≡ has_controller controllers n || has_host hosts n
-none-of controllers hosts n =
-    list_any-append (nat_eq n) (map (λ (plan : ControllerPlan). plan.node) controllers)
-    (map (λ (host : HostPlan). host.node) hosts)
-    ∙ ap₂ (λ a b. a || b) (sym (none-node (λ (plan : ControllerPlan). plan.node) n controllers))
-    (sym (none-node (λ (host : HostPlan). host.node) n hosts))
-
-hosts-are : (controllers : List ControllerPlan) (tables : List Members) (hosts : List HostPlan)
-    → IsDistinct nat_eq (map (λ (plan : ControllerPlan). plan.node) controllers)
-    → hosts_of controllers tables ≡ Ok hosts → AreHosts controllers hosts
-hosts-are controllers tables hosts nodes h =
-    let none : IsDistinct nat_eq (station_nodes controllers []) =
-    rw (append-nil (map (λ (plan : ControllerPlan). plan.node) controllers)) nodes in
+-- the parts that a plant is made of
+pub parts-are : (version : Version) (nets : Nets) (controller_tables host_tables : List Members)
+    (texts : List (List ℕ)) (controllers : List ControllerPlan) (hosts : List HostPlan)
+    (bridges : List BridgePlan) → AreNets version nets
+    → controllers_of version nets.tables controller_tables ≡ Ok controllers
+    → hosts_of version nets.tables controllers host_tables ≡ Ok hosts
+    → bridges_of nets.tables (station_addresses controllers hosts) texts ≡ Ok bridges
+    → have_stations (station_addresses controllers hosts) nets.tables ≡ Ok tt
+    → AreParts nets controllers hosts bridges
+parts-are version nets controller_tables host_tables texts controllers hosts bridges are h k b s =
+    let read = controllers-read version nets.tables are.first controller_tables controllers h in
+    let asking = hosts-are version nets.tables are.first controllers host_tables hosts read.nodes
+    k in
+    let stations = station_addresses controllers hosts in
+    let node = λ (at : Address). at.node in
+    let differ : IsDistinct nat_eq (map node stations) =
+    rw (nodes-stations controllers hosts) asking.nodes in
+    let joined = bridges-are nets.tables stations texts bridges differ b in
+    let nodes : IsDistinct nat_eq (map node (all_addresses controllers hosts bridges)) =
+    rw (map-append node stations (end_addresses bridges), nodes-ends bridges) joined.nodes in
     record {
-      each = each_behind-all IsHostPlan (host_behind controllers)
-          (λ before table host e. (host-is controllers before table host e).plan)
-          (numbered_from 1 tables) [] hosts tt h;
-      there = each_behind-all (λ (host : HostPlan). host.network ≡ 0) (host_behind controllers)
-          (λ before table host e. (host-is controllers before table host e).there)
-          (numbered_from 1 tables) [] hosts tt h;
-      nodes = each_behind-keeps (λ hosts. IsDistinct nat_eq (station_nodes controllers hosts))
-          (host_behind controllers)
-          (λ before table host e held. distinct-push (λ (host : HostPlan). host.node)
-          (map (λ (plan : ControllerPlan). plan.node) controllers) before host held
-          (none-of controllers before host.node ∙ (host-is controllers before table host e).fresh))
-          (numbered_from 1 tables) [] hosts none h;
+      rules = are.rules;
+      tables = are.tables;
+      controllers_read = read.each;
+      controllers_on = read.on;
+      hosts_each = asking.each;
+      hosts_on = asking.on;
+      bridges_each = joined.each;
+      bridges_on = joined.on;
+      nodes = nodes;
+      inhabited = each_passes-all (λ (net : NetTable).
+          list_any (λ (at : Address). at.network == net.number) stations ≡ true)
+          (has_station stations) (station-there stations) nets.tables 1 s;
     }
 
--- ---- the network
+-- the same of lists that are these
+pub parts-there : (version : Version) (nets : Nets) (controller_tables host_tables : List Members)
+    (texts : List (List ℕ)) (controllers : List ControllerPlan) (hosts : List HostPlan)
+    (bridges : List BridgePlan) (tables : List NetTable) (placed : List ControllerPlan)
+    (stations : List Address) → AreNets version nets
+    → tables ≡ nets.tables → placed ≡ controllers
+    → stations ≡ station_addresses controllers hosts
+    → controllers_of version tables controller_tables ≡ Ok controllers
+    → hosts_of version tables placed host_tables ≡ Ok hosts
+    → bridges_of tables stations texts ≡ Ok bridges
+    → have_stations stations tables ≡ Ok tt → AreParts nets controllers hosts bridges
+parts-there version nets controller_tables host_tables texts controllers hosts bridges tables placed
+    stations are t p s h k b o =
+    parts-are version nets controller_tables host_tables texts controllers hosts bridges are
+    (subst (λ ts. controllers_of version ts controller_tables ≡ Ok controllers) t h)
+    (subst (λ ts. hosts_of version ts controllers host_tables ≡ Ok hosts) t
+    (subst (λ cs. hosts_of version tables cs host_tables ≡ Ok hosts) p k))
+    (subst (λ ts. bridges_of ts (station_addresses controllers hosts) texts ≡ Ok bridges) t
+    (subst (λ at. bridges_of tables at texts ≡ Ok bridges) s b))
+    (subst (λ ts. have_stations (station_addresses controllers hosts) ts ≡ Ok tt) t
+    (subst (λ at. have_stations at tables ≡ Ok tt) s o))
 
-record AreRules (rules : NetRules) : Type 0 where
-  fates : IsFromTo 1 1000 (length rules.fates)
-  answer : IsFromTo 2 1000 rules.answer
-  rotations : IsFromTo 1 10 rules.rotations
-  rounds : IsFromTo 1 100 rules.rounds
-  holds : IsFromTo 1 100000 rules.holds
-
-from_to : (low high n : ℕ) → (low ≤ n) × (n ≤ high) → IsFromTo low high n
-from_to low high n h = record { from = h.0; to = h.1 }
-
-number-is : (place : Place) (key : List ℕ) (default low high : ℕ) (ms : Members) (n : ℕ)
-    → low ≤ default → default ≤ high
-    → number_at_or place key default low high ms ≡ Ok n → IsFromTo low high n
-number-is place key default low high ms n least most h =
-    from_to low high n (number_or-within place default low high (get_member key ms) n least most h)
-
-fates-few : (place : Place) (value : Option Data) (fates : List Fate)
-    → fates_or place value ≡ Ok fates → IsFromTo 1 1000 (length fates)
-unfolding fates_or
-fates-few place None fates h =
-    let same = ok_value _ fates h in rw (← same) (from_to 1 1000 1 (omega arith, omega arith))
-fates-few place (Some d) fates h =
-    let text = step-ok (or_fault (BadValue, place) (as_str d)) _ fates h in
-    let letters = unless-ok (has_letters text.0) (BadValue, place)
-    (λ letters. fates_in place text.0) fates text.1.1 in
-    let ranges = and_parts (nat_le 1 (length text.0)) (nat_le (length text.0) 1000) letters.0 in
-    let count = each_of-length _ text.0 fates letters.1 in
-    rw count (from_to 1 1000 (length text.0)
-    (leb-true 1 (length text.0) ranges.0, leb-true (length text.0) 1000 ranges.1))
-
-rules-are : (place : Place) (ms : Members) (rules : NetRules) → rules_in place ms ≡ Ok rules
-    → AreRules rules
-unfolding rules_in
-rules-are place ms rules h =
-    let keys = step-ok (table_passes place kinds.Net ms) _ rules h in
-    let fates = step-ok (fates_or place (get_member (codes "fates") ms)) _ rules keys.1.1 in
-    let answer = step-ok (number_at_or place (codes "answer") 20 2 1000 ms) _ rules fates.1.1 in
-    let rotations = step-ok (number_at_or place (codes "rotations") 4 1 10 ms) _ rules answer.1.1 in
-    let rounds = step-ok (number_at_or place (codes "rounds") 2 1 100 ms) _ rules rotations.1.1 in
-    let holds = step-ok (number_at_or place (codes "holds") 100000 1 100000 ms)
-    (λ holds. Ok (rules_from fates.0 answer.0 rotations.0 rounds.0 holds)) rules rounds.1.1 in
-    let whole : NetRules = rules_from fates.0 answer.0 rotations.0 rounds.0 holds.0 in
-    let same : whole ≡ rules = ok_value whole rules holds.1.1 in
-    let are : AreRules whole = record {
-      fates = fates-few place (get_member (codes "fates") ms) fates.0 fates.1.0;
-      answer = number-is place (codes "answer") 20 2 1000 ms answer.0 (omega arith)
-          (omega arith) answer.1.0;
-      rotations = number-is place (codes "rotations") 4 1 10 ms rotations.0 (omega arith)
-          (omega arith) rotations.1.0;
-      rounds = number-is place (codes "rounds") 2 1 100 ms rounds.0 (omega arith)
-          (omega arith) rounds.1.0;
-      holds = number-is place (codes "holds") 100000 1 100000 ms holds.0 (omega arith)
-          (omega arith) holds.1.0;
-    } in
-    rw (← same) are
-
-rules_of-are : (place : Place) (table : Option Members) (rules : NetRules)
-    → rules_of place table ≡ Ok rules → AreRules rules
-rules_of-are place None rules h = rules-are place _ rules h
-rules_of-are place (Some ms) rules h = rules-are place ms rules h
-
--- ---- the plant
-
--- what follows for each item follows for all
-all-of : {A : Type 0} (P Q : A → Type 0) → ((x : A) → P x → Q x) → (xs : List A)
-    → AllByRecursion P xs → AllByRecursion Q xs
-all-of P Q more [] h = tt
-all-of P Q more (x ∷ xs) h = (more x h.0, all-of P Q more xs h.1)
-
--- what holds of the nodes of items holds of their list
-all-nodes : {A : Type 0} (node : A → ℕ) (xs : List A) → AllByRecursion (λ x. IsNode (node x)) xs
-    → AllByRecursion IsNode (map node xs)
-all-nodes node [] h = tt
-all-nodes node (x ∷ xs) h = (h.0, all-nodes node xs h.1)
-
-both-all : (xs ys : List ℕ) → AllByRecursion IsNode xs → AllByRecursion IsNode ys
-    → AllByRecursion IsNode (xs ++ ys)
-both-all [] ys h k = k
-both-all (x ∷ xs) ys h k = (h.0, both-all xs ys h.1 k)
-
--- numbers that differ do so without those before them
-distinct-behind : (xs ys : List ℕ) → IsDistinct nat_eq (xs ++ ys) → IsDistinct nat_eq ys
-unfolding IsDistinct
-distinct-behind [] ys h = h
-distinct-behind (x ∷ xs) ys h = distinct-behind xs ys h.1
-
--- the node of each controller and of each host
-pub controller-addresses : (plans : List ControllerPlan) → AreRead plans
-    → AllByRecursion (λ (plan : ControllerPlan). IsNode plan.node) plans
-controller-addresses plans read =
-    all-of IsRead (λ plan. IsNode plan.node) (λ plan r. r.node) plans read.each
-
-host-addresses : (hosts : List HostPlan) → AllByRecursion IsHostPlan hosts
-    → AllByRecursion (λ (host : HostPlan). IsNode host.node) hosts
-host-addresses hosts each =
-    all-of IsHostPlan (λ host. IsNode host.node) (λ host h. h.node) hosts each
-
--- what is known of controllers and hosts that are read
-pub record AreStations (controllers : List ControllerPlan) (hosts : List HostPlan) : Type 0 where
-  pub controllers_read : AreRead controllers
-  pub hosts_each : AllByRecursion IsHostPlan hosts
-  pub hosts_there : AllByRecursion (λ (host : HostPlan). host.network ≡ 0) hosts
-  pub distinct : IsDistinct nat_eq (station_nodes controllers hosts)
-  pub controller_nodes_all : AllByRecursion
-      (λ (plan : ControllerPlan). IsNode plan.node) controllers
-  pub host_nodes_all : AllByRecursion (λ (host : HostPlan). IsNode host.node) hosts
-  pub nodes : AllByRecursion IsNode (station_nodes controllers hosts)
-
-pub stations-are : (controller_tables host_tables : List Members)
-    (controllers : List ControllerPlan) (hosts : List HostPlan)
-    → controllers_of controller_tables ≡ Ok controllers
-    → hosts_of controllers host_tables ≡ Ok hosts → AreStations controllers hosts
-stations-are controller_tables host_tables controllers hosts h k =
-    let read = controllers-read controller_tables controllers h in
-    let are = hosts-are controllers host_tables hosts read.nodes k in
-    let c = controller-addresses controllers read in
-    let d = host-addresses hosts are.each in
-    record {
-      controllers_read = read;
-      hosts_each = are.each;
-      hosts_there = are.there;
-      distinct = are.nodes;
-      controller_nodes_all = c;
-      host_nodes_all = d;
-      nodes = both-all (map (λ (plan : ControllerPlan). plan.node) controllers)
-          (map (λ (host : HostPlan). host.node) hosts)
-          (all-nodes (λ (plan : ControllerPlan). plan.node) controllers c)
-          (all-nodes (λ (host : HostPlan). host.node) hosts d);
-    }
-
--- a network without a bridge
-no-bridges : (members : List ℕ) → AreBridges members []
-no-bridges members = record {
-  among = to-all (Contains members) [] tt;
-  rise = λ k within. absurd (omega (arith, within));
-}
-
--- the numbers of a network of these rules
-numbers-are : (rules : NetRules) (members : List ℕ) → AreRules rules
-    → HasNetNumbers (net_from rules members)
-numbers-are rules members r = record {
-  number = omega arith;
-  answer = r.answer;
-  rotations = r.rotations;
-  rounds = r.rounds;
-  holds = r.holds;
-}
-
--- a plant that is loaded passes its tests and can be run
-pub record IsLoaded (plant : Plant) : Type 0 where
-  pub checked : IsPlant plant
-  pub drops : All PassesDropTests plant.controllers
-  pub runnable : All IsRunnablePlan plant.controllers
-
-plant_from-loaded : (scan_time watchdog : ℕ) (rules : NetRules) (controllers : List ControllerPlan)
-    (hosts : List HostPlan)
-    → IsFromTo 1 1000 scan_time → IsFromTo 1 10000 watchdog → AreRules rules
-    → AreStations controllers hosts
-    → IsFromTo 1 16 (length controllers) → length hosts ≤ 16
-    → IsLoaded (plant_from scan_time watchdog rules controllers hosts)
-plant_from-loaded scan_time watchdog rules controllers hosts t w r s count few =
-    let node = λ (plan : ControllerPlan). plan.node in
-    let host_node = λ (host : HostPlan). host.node in
-    let cs = by_node node controllers in
-    let hs = by_node host_node hosts in
-    let nodes = station_nodes controllers hosts in
-    let members = members_of controllers hosts in
-    let moved_cs : IsPermutation controllers cs =
-    by_node-moved node controllers s.controller_nodes_all in
-    let moved_hs : IsPermutation hosts hs = by_node-moved host_node hosts s.host_nodes_all in
-    let moved : IsPermutation nodes members = by_node-moved (λ (n : ℕ). n) nodes s.nodes in
-    let all_cs =
-    λ (P : ControllerPlan → Type 0) (h : (plan : ControllerPlan) → IsRead plan → P plan).
-    All-permutation P controllers cs moved_cs
-    (to-all P controllers (all-of IsRead P h controllers s.controllers_read.each)) in
-    let count_cs : length cs ≡ length controllers = length_permutation controllers cs moved_cs in
-    let count_hs : length hs ≡ length hosts = length_permutation hosts hs moved_hs in
-    let count_nodes : length members ≡ length nodes = length_permutation nodes members moved in
-    let parts = length-append (map node controllers) (map host_node hosts) in
-    let some : 1 ≤ length members =
-    omega (arith, count_nodes, parts, length-map controllers node, count.from) in
-    let cs_rise : IsStrictlyIncreasing (map node cs) = rw (by_node-nodes node controllers)
-    (by_node-rises (map node controllers) (all-nodes node controllers s.controller_nodes_all)
-    s.controllers_read.nodes) in
-    let hs_rise : IsStrictlyIncreasing (map host_node hs) = rw (by_node-nodes host_node hosts)
-    (by_node-rises (map host_node hosts) (all-nodes host_node hosts s.host_nodes_all)
-    (distinct-behind (map node controllers) (map
-    host_node hosts) s.distinct)) in
-    let own = IsPermutation-append (map node controllers) (map node cs) (map host_node hosts)
-    (map host_node hs)
-    (IsPermutation-map node controllers cs moved_cs)
-    (IsPermutation-map host_node hosts hs moved_hs) in
-    let joined = IsPermutation-trans (map node cs ++ map host_node hs) nodes members
-    (IsPermutation-sym nodes (map node cs ++ map host_node hs) own) moved in
-    let net : IsNetPlan (net_from rules members) = record {
-      members = record {
-        some = some;
-        each = All-permutation IsNode nodes members moved (to-all IsNode nodes s.nodes);
-        rise = by_node-rises nodes s.nodes s.distinct;
-      };
-      bridges = no-bridges members;
-      fates = r.fates;
-      numbers = numbers-are rules members r;
-    } in
-    let plant = plant_from scan_time watchdog rules controllers hosts in
-    let some_cs : 1 ≤ length cs = omega (arith, count_cs, count.from) in
-    let on : IsOnNet plant (net_from rules members) = record {
-      only = refl;
-      no_bridges = refl;
-      plan = net;
-      alone = refl;
-      no_bridge = refl;
-      controllers_there = all_cs (λ plan. plan.network ≡ 0) (λ plan read. read.there);
-      hosts_there = All-permutation (λ (host : HostPlan). host.network ≡ 0) hosts hs moved_hs
-          (to-all (λ (host : HostPlan). host.network ≡ 0) hosts s.hosts_there);
-      members = joined;
-    } in
-    let there = on-a-net plant (net_from rules members) on in
-    let checked : IsPlant plant = record {
-      scan_time = t;
-      watchdog = w;
-      alone = of-one-net plant (net_from rules members) on;
-      nets = net-of plant (net_from rules members) on some_cs;
-      nets_rise = λ k low. absurd (omega arith);
-      count = record { from = some_cs; to = omega (arith, count_cs, count.to) };
-      controllers = all_cs PassesTests (λ plan read. read.tests);
-      controllers_there = All-weaker (λ (p : ControllerPlan). p.network ≡ 0)
-          (λ (p : ControllerPlan). Contains (0 ∷ []) p.network) (λ p. there p.network) cs
-          on.controllers_there;
-      controllers_rise = cs_rise;
-      few = omega (arith, count_hs, few);
-      hosts = All-permutation IsHostPlan hosts hs moved_hs (to-all IsHostPlan hosts s.hosts_each);
-      hosts_there = All-weaker (λ (h : HostPlan). h.network ≡ 0)
-          (λ (h : HostPlan). Contains (0 ∷ []) h.network) (λ h. there h.network) hs on.hosts_there;
-      hosts_rise = hs_rise;
-      few_bridges = omega arith;
-      bridges = All-nil (IsBridgeOf plant);
-      bridges_rise = λ k low. absurd (omega arith);
-      once = stations-once plant (net_from rules members) on;
-    } in
-    record {
-      checked = checked;
-      drops = all_cs PassesDropTests (λ plan read. read.drops);
-      runnable = all_cs IsRunnablePlan read-runnable;
-    }
+-- ---- the table of the file
 
 -- the tables of an array that must have one
 some-tables : (place : Place) (most : ℕ) (key : List ℕ) (ms : Members) (tables : List Members)
@@ -462,74 +137,208 @@ some-tables place most key ms tables h =
     let is : 1 ≤ length read.0 = grind (arith, nat_tests, some.0) in
     rw (← same) (read.1.0, is)
 
--- what is read of a document of a version
-plant_in-loaded : (version : Version) (top : Members) (plant : Plant)
-    → plant_in version top ≡ Ok plant → IsLoaded plant
-unfolding plant_in
-plant_in-loaded version top plant h =
-    let keys = step-ok (table_passes plant_place (kinds.Plant version) top) _ plant h in
-    let scan_time = step-ok (number_at_or plant_place (codes "scan_time") 10 1 1000 top) _
-    plant keys.1.1 in
-    let watchdog = step-ok (number_at_or plant_place (codes "watchdog") 500 1 10000 top) _ plant
-    scan_time.1.1 in
-    let net = step-ok (table_at plant_place (codes "net") top) _ plant watchdog.1.1 in
-    let tables = step-ok (some_tables_at plant_place controller_limit (codes "controller") top) _
-    plant net.1.1 in
-    let host_tables = step-ok (tables_at plant_place host_limit (codes "host") top) _
-    plant tables.1.1 in
-    let rules = step-ok (rules_of net_place net.0) _ plant host_tables.1.1 in
-    let controllers = step-ok (controllers_of tables.0) _ plant rules.1.1 in
-    let hosts = step-ok (hosts_of controllers.0 host_tables.0)
-    (λ hosts. Ok (plant_from scan_time.0 watchdog.0 rules.0
-    controllers.0 hosts)) plant controllers.1.1 in
-    let whole : Plant = plant_from scan_time.0 watchdog.0 rules.0 controllers.0 hosts.0 in
-    let same : whole ≡ plant = ok_value whole plant hosts.1.1 in
-    let found = some-tables plant_place controller_limit
-    (codes "controller") top tables.0 tables.1.0 in
-    let few = tables_at-few plant_place controller_limit
-    (codes "controller") top tables.0 found.0 in
-    let host_few = tables_at-few plant_place host_limit
-    (codes "host") top host_tables.0 host_tables.1.0 in
-    let count = with_positions-count _ tables.0 controllers.0 controllers.1.0 in
-    let host_count = with_positions-count _ host_tables.0 hosts.0 hosts.1.0 in
-    let stations = stations-are tables.0 host_tables.0 controllers.0 hosts.0
-    controllers.1.0 hosts.1.0 in
-    let loaded : IsLoaded whole =
-    plant_from-loaded scan_time.0 watchdog.0 rules.0 controllers.0 hosts.0
-    (number-is plant_place (codes "scan_time") 10 1 1000 top scan_time.0 (omega arith)
-    (omega arith) scan_time.1.0)
-    (number-is plant_place (codes "watchdog") 500 1 10000 top watchdog.0 (omega arith)
-    (omega arith) watchdog.1.0)
-    (rules_of-are net_place net.0 rules.0 rules.1.0) stations
-    (record { from = omega (arith, count, found.1); to = omega (arith, count, few) })
-    (omega (arith, host_count, host_few)) in
-    rw (← same) loaded
+networks-few : (version : Version) (top : Members) (tables : List Members)
+    → network_tables version top ≡ Ok tables → length tables ≤ net_limit
+networks-few One top tables h =
+    let same : [] ≡ tables = ok_value [] tables h in rw (← same) (omega arith)
+networks-few Two top tables h =
+    tables_at-few plant_place net_limit (codes "network") top tables
+    (some-tables plant_place net_limit (codes "network") top tables h).0
 
-plant_at-loaded : (top : Members) (plant : Plant) → plant_at top ≡ Ok plant → IsLoaded plant
+bridges-few : (version : Version) (top : Members) (texts : List (List ℕ))
+    → bridge_texts version top ≡ Ok texts → length texts ≤ bridge_limit
+bridges-few One top texts h =
+    let same : [] ≡ texts = ok_value [] texts h in rw (← same) (omega arith)
+bridges-few Two top texts h = texts_at-few plant_place bridge_limit (codes "bridges") top texts h
+
+-- in version 1 there are no texts of bridges
+no-bridges : (version : Version) (top : Members) (texts : List (List ℕ))
+    → bridge_texts version top ≡ Ok texts → version ≡ One → texts ≡ []
+no-bridges One top texts h one = sym (ok_value [] texts h)
+no-bridges Two top texts h one = absurd (cc)
+
+-- what is known of the table of a file
+record IsTop (version : Version) (top : TopTable) : Type 0 where
+  scan_time : IsFromTo 1 scan_time_limit top.scan_time
+  watchdog : IsFromTo 1 watchdog_limit top.watchdog
+  networks : length top.networks ≤ net_limit
+  controllers : IsFromTo 1 controller_limit (length top.controllers)
+  hosts : length top.hosts ≤ host_limit
+  bridges : length top.bridges ≤ bridge_limit
+  first : version ≡ One → top.bridges ≡ []
+
+top-is : (version : Version) (ms : Members) (top : TopTable) → top_at version ms ≡ Ok top
+    → IsTop version top
+unfolding top_at
+top-is version ms top h =
+    let keys = step-ok (table_passes plant_place (kinds.Plant version) ms) _ top h in
+    let scan_time = step-ok (number_at_or plant_place (codes "scan_time") 10 1 scan_time_limit ms) _
+    top keys.1.1 in
+    let watchdog = step-ok (number_at_or plant_place (codes "watchdog") 500 1 watchdog_limit ms) _
+    top scan_time.1.1 in
+    let shared = step-ok (table_at plant_place (codes "net") ms) _ top watchdog.1.1 in
+    let networks = step-ok (network_tables version ms) _ top shared.1.1 in
+    let controllers = step-ok (some_tables_at plant_place controller_limit (codes "controller") ms)
+    _ top networks.1.1 in
+    let hosts = step-ok (tables_at plant_place host_limit (codes "host") ms) _ top
+    controllers.1.1 in
+    let bridges = step-ok (bridge_texts version ms)
+    (λ bridges. Ok (top_from scan_time.0 watchdog.0 shared.0 networks.0 controllers.0 hosts.0
+    bridges)) top hosts.1.1 in
+    let whole : TopTable = top_from scan_time.0 watchdog.0 shared.0 networks.0 controllers.0 hosts.0
+    bridges.0 in
+    let same : whole ≡ top = ok_value whole top bridges.1.1 in
+    let found = some-tables plant_place controller_limit (codes "controller") ms controllers.0
+    controllers.1.0 in
+    let is : IsTop version whole = record {
+      scan_time = number-is plant_place (codes "scan_time") 10 1 scan_time_limit ms scan_time.0
+          (omega arith) (omega arith) scan_time.1.0;
+      watchdog = number-is plant_place (codes "watchdog") 500 1 watchdog_limit ms watchdog.0
+          (omega arith) (omega arith) watchdog.1.0;
+      networks = networks-few version ms networks.0 networks.1.0;
+      controllers = record {
+        from = found.1;
+        to = tables_at-few plant_place controller_limit (codes "controller") ms controllers.0
+            found.0;
+      };
+      hosts = tables_at-few plant_place host_limit (codes "host") ms hosts.0 hosts.1.0;
+      bridges = bridges-few version ms bridges.0 bridges.1.0;
+      first = no-bridges version ms bridges.0 bridges.1.0;
+    } in
+    rw (← same) is
+
+-- ---- the plant
+
+-- a plant that is loaded passes its tests and can be run
+pub record IsLoaded (plant : Plant) : Type 0 where
+  pub checked : IsPlant plant
+  pub drops : All PassesDropTests plant.controllers
+  pub runnable : All IsRunnablePlan plant.controllers
+
+-- what is read of a table of a version: in version 1 it has one network and no bridge
+record IsReadOf (version : Version) (plant : Plant) : Type 0 where
+  loaded : IsLoaded plant
+  first : version ≡ One → IsOfVersionOne plant
+
+none-read : (bridges : List BridgePlan) (texts : List (List ℕ)) → length bridges ≡ length texts
+    → texts ≡ [] → bridges ≡ []
+none-read [] texts count none = refl
+none-read (bridge ∷ bridges) texts count none =
+    let zero = ap (λ (xs : List (List ℕ)). length xs) none in absurd (omega (arith, count, zero))
+
+plant_with-read : (version : Version) (top : TopTable) (plant : Plant) → IsTop version top
+    → plant_with version top ≡ Ok plant → IsReadOf version plant
+unfolding plant_with
+plant_with-read version top plant is h =
+    let nets = step-ok (nets_of version top.shared top.networks) _ plant h in
+    let controllers = step-ok (controllers_of version nets.0.tables top.controllers) _ plant
+    nets.1.1 in
+    let hosts = step-ok (hosts_of version nets.0.tables controllers.0 top.hosts) _ plant
+    controllers.1.1 in
+    let stations = station_addresses controllers.0 hosts.0 in
+    let bridges = step-ok (bridges_of nets.0.tables stations top.bridges) _ plant hosts.1.1 in
+    let there = step-ok (have_stations stations nets.0.tables)
+    (λ there. Ok (plant_from top.scan_time top.watchdog nets.0 controllers.0 hosts.0 bridges.0))
+    plant bridges.1.1 in
+    let whole : Plant =
+    plant_from top.scan_time top.watchdog nets.0 controllers.0 hosts.0 bridges.0 in
+    let same : whole ≡ plant = ok_value whole plant there.1.1 in
+    let are = nets-are version top.shared top.networks nets.0 is.networks nets.1.0 in
+    let parts = parts-are version nets.0 top.controllers top.hosts top.bridges controllers.0 hosts.0
+    bridges.0 are controllers.1.0 hosts.1.0 bridges.1.0 there.1.0 in
+    let count = with_positions-count _ top.controllers controllers.0 controllers.1.0 in
+    let host_count = with_positions-count _ top.hosts hosts.0 hosts.1.0 in
+    let bridge_count = with_positions-count _ top.bridges bridges.0 bridges.1.0 in
+    let each = each-controller top.scan_time top.watchdog nets.0 controllers.0 hosts.0 bridges.0
+    parts in
+    let read : IsReadOf version whole = record {
+      loaded = record {
+        checked = plant-is top.scan_time top.watchdog nets.0 controllers.0 hosts.0 bridges.0 parts
+            is.scan_time is.watchdog
+            (record {
+              from = omega (arith, count, is.controllers.from);
+              to = omega (arith, count, is.controllers.to);
+            })
+            (omega (arith, host_count, is.hosts)) (omega (arith, bridge_count, is.bridges));
+        drops = each PassesDropTests (λ plan read. read.drops);
+        runnable = each IsRunnablePlan read-runnable;
+      };
+      first = λ one. record {
+        net = numbers-are top.scan_time top.watchdog nets.0 controllers.0 hosts.0 bridges.0 parts
+            ∙ ap (by_network (λ n. n)) (are.first one);
+        no_bridge = ap (by_node (λ (b : BridgePlan). b.left))
+            (none-read bridges.0 top.bridges bridge_count (is.first one));
+      };
+    } in
+    rw (← same) read
+
+plant_in-read : (version : Version) (top : Members) (plant : Plant)
+    → plant_in version top ≡ Ok plant → IsReadOf version plant
+unfolding plant_in
+plant_in-read version top plant h =
+    let table = step-ok (top_at version top) _ plant h in
+    plant_with-read version table.0 plant (top-is version top table.0 table.1.0) table.1.1
+
+-- a version that is read is no newer than the newest
+read-first : (newest version : Version) → is_read newest version ≡ true → newest ≡ One
+    → version ≡ One
+read-first One One h one = refl
+read-first One Two h one = absurd (cc)
+read-first Two version h one = absurd (cc)
+
+version-first : (newest : Version) (top : Members) (version : Version)
+    → version_of newest top ≡ Ok version → newest ≡ One → version ≡ One
+unfolding version_of
+version-first newest top version h one =
+    let d = step-ok (or_fault (BadKey, plant_place) (get_member (codes "version") top)) _ version h
+    in
+    let number = step-ok (or_fault (BadValue, plant_place) (as_integer d.0)) _ version d.1.1 in
+    let found = or_fault-ok (BadVersion, plant_place) (version_from number.0) _ version
+    number.1.1 in
+    let read = unless-ok (is_read newest found.0) (BadVersion, plant_place)
+    (λ read. Ok found.0) version found.1.1 in
+    let same : found.0 ≡ version = ok_value found.0 version read.1 in
+    sym same ∙ read-first newest found.0 read.0 one
+
+plant_at-read : (newest : Version) (top : Members) (plant : Plant) → plant_at newest top ≡ Ok plant
+    → IsReadOf newest plant
 unfolding plant_at
-plant_at-loaded top plant h =
-    let version = step-ok (version_of top) _ plant h in
-    plant_in-loaded version.0 top plant version.1.1
+plant_at-read newest top plant h =
+    let version = step-ok (version_of newest top) _ plant h in
+    let read = plant_in-read version.0 top plant version.1.1 in
+    record {
+      loaded = read.loaded;
+      first = λ one. read.first (version-first newest top version.0 version.1.0 one);
+    }
 
 -- the plant of bytes
-plant_of-loaded : (bytes : List ℕ) (plant : Plant) → plant_of bytes ≡ Ok plant → IsLoaded plant
+plant_of-read : (newest : Version) (bytes : List ℕ) (plant : Plant)
+    → plant_of newest bytes ≡ Ok plant → IsReadOf newest plant
 unfolding plant_of
-plant_of-loaded bytes plant h =
-    let top = or_fault-ok bad_toml (document_of bytes) plant_at plant h in
-    plant_at-loaded top.0 plant top.1.1
+plant_of-read newest bytes plant h =
+    let top = or_fault-ok bad_toml (document_of bytes) (plant_at newest) plant h in
+    plant_at-read newest top.0 plant top.1.1
 
 -- what is read of a document is what is read of its bytes
-pub plant_of-document : (bytes : List ℕ) (top : Members) (r : Result Plant LoadEnd)
+pub plant_of-document : (newest : Version) (bytes : List ℕ) (top : Members)
+    (r : Result Plant LoadEnd)
     → or_fault bad_toml (document_of bytes) ≡ Ok top
-    → Gives (λ plant. plant) r (plant_at top) → Gives (λ plant. plant) r (plant_of bytes)
+    → Gives (λ plant. plant) r (plant_at newest top)
+    → Gives (λ plant. plant) r (plant_of newest bytes)
 unfolding plant_of
-plant_of-document bytes top r e g = rw e g
+plant_of-document newest bytes top r e g = rw e g
 
 -- so it is with what a call answered
-pub gives-loaded : (bytes : List ℕ) (r : Result Plant LoadEnd)
-    → Gives (λ plant. plant) r (plant_of bytes) → IfOk r (λ plant. IsLoaded plant)
-gives-loaded bytes (Ok plant) g = plant_of-loaded bytes plant g
-gives-loaded bytes (Err end) g = tt
+pub gives-loaded : (newest : Version) (bytes : List ℕ) (r : Result Plant LoadEnd)
+    → Gives (λ plant. plant) r (plant_of newest bytes) → IfOk r (λ plant. IsLoaded plant)
+gives-loaded newest bytes (Ok plant) g = (plant_of-read newest bytes plant g).loaded
+gives-loaded newest bytes (Err end) g = tt
+
+pub gives-first : (newest : Version) (bytes : List ℕ) (r : Result Plant LoadEnd)
+    → Gives (λ plant. plant) r (plant_of newest bytes) → newest ≡ One
+    → IfOk r (λ plant. IsOfVersionOne plant)
+gives-first newest bytes (Ok plant) g one = (plant_of-read newest bytes plant g).first one
+gives-first newest bytes (Err end) g one = tt
 
 pub loaded-checked : (r : Result Plant LoadEnd) → IfOk r (λ plant. IsLoaded plant)
     → IfOk r (λ plant. IsPlant plant)

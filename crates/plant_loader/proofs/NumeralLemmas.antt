@@ -1,8 +1,14 @@
--- Numbers that are told up to a most.
-use Rattle.std.proofs.Common.{◌≡◌, ℕ, ◌+◌, ◌*◌, ◌-◌, ◌≤◌, Bool, true, false, List, [], ◌∷◌, refl}
-use Rattle.std.proofs.Common.{ap, arith}
+-- Numbers that are told up to a most, or are in their range.
+use Rattle.std.proofs.Common.{◌≡◌, ℕ, ◌+◌, ◌*◌, ◌-◌, ◌≤◌, Bool, true, false, ◌&&◌, List, [], ◌∷◌}
+use Rattle.std.proofs.Common.{Some, refl, ap, arith}
 use Rattle.std.specs.Prelude.{fold, min, nat_le}
+use Rattle.std.proofs.lemmas.Bool.{and_parts, leb-true}
 use Rattle.std.proofs.lemmas.Bool.Decides.{nat_tests}
+use Rattle.plant_types.specs.Numerals.{is_numeral, value_of}
+use Rattle.plant_types.specs.Plans.{IsFromTo}
+use Rattle.cell_text.proofs.StepLemmas.{some-guard}
+use Rattle.plant_loader.specs.Requests.{is_numeral_within, numeral_within}
+use Rattle.plant_loader.proofs.Common.{some_value}
 
 -- one digit more
 abbrev pub more : ℕ → ℕ → ℕ
@@ -41,3 +47,18 @@ told-more most digits value = told-either most digits value (nat_le most value) 
 -- what is told is at most the most
 pub min-low : (a b : ℕ) → min a b ≤ b
 min-low a b = grind (arith, nat_tests)
+
+-- a number that a word reads as is in its range
+pub numeral-within : (low high : ℕ) (word : List ℕ) (n : ℕ) → numeral_within low high word ≡ Some n
+    → IsFromTo low high n
+numeral-within low high word n h =
+    let found = some-guard (is_numeral_within low high word) (Some (value_of word)) n h in
+    let same : value_of word ≡ n = some_value (value_of word) n found.1 in
+    let tests = and_parts (is_numeral word)
+    (nat_le low (value_of word) && nat_le (value_of word) high) found.0 in
+    let ranges = and_parts (nat_le low (value_of word)) (nat_le (value_of word) high) tests.1 in
+    let within : IsFromTo low high (value_of word) = record {
+      from = leb-true low (value_of word) ranges.0;
+      to = leb-true (value_of word) high ranges.1;
+    } in
+    rw (← same) within

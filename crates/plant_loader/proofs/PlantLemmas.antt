@@ -1,20 +1,17 @@
--- Controllers and hosts that are read pass their tests.
+-- Controllers that are read pass their tests.
 use Rattle.std.proofs.Common.{◌≡◌, ℕ, ◌+◌, ◌≤◌, ◌==◌, Bool, true, false, not, ◌&&◌, ◌||◌, List, []}
 use Rattle.std.proofs.Common.{◌∷◌, ◌++◌, length, map, Option, Some, None, Ok, refl, sym, ap, ◌∙◌}
-use Rattle.std.proofs.Common.{append_assoc, arith, le-leb}
+use Rattle.std.proofs.Common.{arith, le-leb}
 use Rattle.std.specs.Prelude.{codes, nat_le, nat_eq, is_some, if◌then◌else◌}
 use Rattle.std.specs.List.{list_any, list_all, AllByRecursion, IsDistinct}
 use Rattle.std.proofs.lemmas.Bool.{and_parts, and_from, not-true, leb-true}
-use Rattle.std.proofs.lemmas.Cmp.{nat_eq_equiv}
-use Rattle.std.proofs.lemmas.List.{map-append}
-use Rattle.std.proofs.lemmas.Map.Keys.{IsDistinct-push}
 use Rattle.toml.specs.Data.{Members}
 use Rattle.plant_types.specs.declared.reference.Ref.{Ref}
 use Rattle.plant_types.specs.declared.drops.IoDrop.{IoDrop}
 use Rattle.plant_types.specs.declared.plan.ControllerPlan.{ControllerPlan}
 use Rattle.plant_types.specs.declared.plan.OrderRow.{OrderRow}
 use Rattle.plant_types.specs.declared.fault.PlantFault.TheVariants.{BadRef, BadValue, BadNode}
-use Rattle.plant_types.specs.declared.fault.PlantFault.TheVariants.{TooLarge}
+use Rattle.plant_types.specs.declared.fault.PlantFault.TheVariants.{TooLarge, BadNetwork}
 use Rattle.plant_types.specs.declared.fault.Place.{Place}
 use Rattle.plant_types.specs.Fault.{controller_place, panel_place}
 use Rattle.plant_types.specs.Reference.{is_discrete}
@@ -33,30 +30,36 @@ use Rattle.plant_types.proofs.PassingLemmas.{checks-exact}
 use Rattle.cell_text.specs.Steps.{or_fault}
 use Rattle.cell_text.specs.Words.{text_words, only_word}
 use Rattle.cell_text.specs.Numbers.{reference_of}
-use Rattle.cell_text.proofs.StepLemmas.{step-ok, unless-ok}
+use Rattle.cell_text.proofs.StepLemmas.{step-ok, or_fault-ok, unless-ok}
 use Rattle.traffic_cop.specs.Drops.{IsNamed, drop_named}
 use Rattle.traffic_cop.specs.Rows.{HasControl, NamesDrop, FitsPlan, IsRunnablePlan}
 use Rattle.traffic_cop.proofs.CheckLemmas.{checked-ready}
 use Rattle.plant_loader.specs.declared.owner.Owner.{Owner}
+use Rattle.plant_loader.specs.declared.net.NetTable.{NetTable}
+use Rattle.plant_loader.specs.declared.tables.Version.{Version}
+use Rattle.plant_loader.specs.declared.tables.Version.TheVariants.{One}
 use Rattle.plant_loader.specs.Refusals.{Refusal}
 use Rattle.plant_loader.specs.InOrder.{numbered_from}
 use Rattle.plant_loader.specs.declared.tables.TableKind.TheVariants as kinds
 use Rattle.plant_loader.specs.Tables.{table_passes}
 use Rattle.plant_loader.specs.Keys.{address_at, size_at, discrete_size_at, texts_at, tables_at}
-use Rattle.plant_loader.specs.Controller.{owner_from, owner_at, panel_item, panel_of}
+use Rattle.plant_loader.specs.Controller.{owner_from, sizes_at, panel_item, panel_of}
 use Rattle.plant_loader.specs.Drops.{drops_of}
 use Rattle.plant_loader.specs.Pieces.{segments_of}
 use Rattle.plant_loader.specs.Orders.{nameable, orders_of}
 use Rattle.plant_loader.specs.Failures.{power_rows_of}
 use Rattle.plant_loader.specs.Stations.{Arrays, arrays_from, arrays_at, plan_of, parts_of}
 use Rattle.plant_loader.specs.Stations.{has_controller, controller_behind, controllers_of}
+use Rattle.plant_loader.specs.Net.{has_net, network_at}
 use Rattle.plant_loader.specs.Accepted.{PassesDropTests}
 use Rattle.plant_loader.proofs.Common.{ok_value, both-hold, placed-hold}
 use Rattle.plant_loader.proofs.KeyLemmas.{address_at-within, size_at-is_size}
 use Rattle.plant_loader.proofs.KeyLemmas.{discrete_size_at-is_discrete_size, texts_at-few}
 use Rattle.plant_loader.proofs.KeyLemmas.{tables_at-few}
 use Rattle.plant_loader.proofs.TestLemmas.{each_behind-keeps, each_behind-all, each_from-tests}
-use Rattle.plant_loader.proofs.TestLemmas.{each_from-length, with_positions-count}
+use Rattle.plant_loader.proofs.TestLemmas.{each_from-length, with_positions-count, none-node}
+use Rattle.plant_loader.proofs.TestLemmas.{distinct-push}
+use Rattle.plant_loader.proofs.NetLemmas.{IsOn, network-is}
 use Rattle.plant_loader.proofs.SegmentLemmas.{segments-pass, segments-count}
 use Rattle.plant_loader.proofs.DropLemmas.{drops-pass}
 use Rattle.plant_loader.proofs.OrderLemmas.{orders-pass}
@@ -91,38 +94,34 @@ panel-pass owner texts panel h =
     (one-test (has_reference owner.sizes at) BadRef (panel_item-held owner n text at e)))
     texts 1 panel h
 
--- the numbers that a table gives are an address and sizes
+-- an owner has an address and sizes
 record HasNumbers (owner : Owner) : Type 0 where
   node : (1 ≤ owner.node) × (owner.node ≤ 64)
   sizes : are_sizes owner.sizes ≡ true
 
-owner_at-has : (position : ℕ) (ms : Members) (owner : Owner) → owner_at position ms ≡ Ok owner
-    → HasNumbers owner
-unfolding owner_at
-owner_at-has position ms owner h =
-    let place = controller_place position in
-    let node = step-ok (address_at place ms) _ owner h in
-    let coils = step-ok (discrete_size_at place (codes "coils") ms) _ owner node.1.1 in
-    let inputs = step-ok (discrete_size_at place (codes "inputs") ms) _ owner coils.1.1 in
-    let input_registers = step-ok (size_at place (codes "input_registers") ms) _ owner inputs.1.1 in
+sizes_at-are : (place : Place) (ms : Members) (sizes : Sizes) → sizes_at place ms ≡ Ok sizes
+    → are_sizes sizes ≡ true
+unfolding sizes_at
+sizes_at-are place ms sizes h =
+    let coils = step-ok (discrete_size_at place (codes "coils") ms) _ sizes h in
+    let inputs = step-ok (discrete_size_at place (codes "inputs") ms) _ sizes coils.1.1 in
+    let input_registers = step-ok (size_at place (codes "input_registers") ms) _ sizes
+    inputs.1.1 in
     let registers = step-ok (size_at place (codes "registers") ms)
-    (λ registers. Ok (owner_from position node.0
-    (sizes_from coils.0 inputs.0 input_registers.0 registers))) owner input_registers.1.1 in
-    let whole : Owner =
-    owner_from position node.0 (sizes_from coils.0 inputs.0 input_registers.0 registers.0) in
-    let same : whole ≡ owner = ok_value whole owner registers.1.1 in
+    (λ registers. Ok (sizes_from coils.0 inputs.0 input_registers.0 registers)) sizes
+    input_registers.1.1 in
+    let whole : Sizes = sizes_from coils.0 inputs.0 input_registers.0 registers.0 in
+    let same : whole ≡ sizes = ok_value whole sizes registers.1.1 in
     let discretes = and_from (is_discrete_size coils.0) (is_discrete_size inputs.0)
     (discrete_size_at-is_discrete_size place (codes "coils") ms coils.0 coils.1.0)
     (discrete_size_at-is_discrete_size place (codes "inputs") ms inputs.0 inputs.1.0) in
     let words = and_from (is_size input_registers.0) (is_size registers.0)
     (size_at-is_size place (codes "input_registers") ms input_registers.0 input_registers.1.0)
     (size_at-is_size place (codes "registers") ms registers.0 registers.1.0) in
-    let has : HasNumbers whole = record {
-      node = address_at-within place ms node.0 node.1.0;
-      sizes = and_from (is_discrete_size coils.0 && is_discrete_size inputs.0)
-          (is_size input_registers.0 && is_size registers.0) discretes words;
-    } in
-    rw (← same) has
+    let are : are_sizes whole ≡ true =
+    and_from (is_discrete_size coils.0 && is_discrete_size inputs.0)
+    (is_size input_registers.0 && is_size registers.0) discretes words in
+    rw (← same) are
 
 -- the arrays of a table are few
 record HasFewItems (arrays : Arrays) : Type 0 where
@@ -160,7 +159,6 @@ pub record IsRead (plan : ControllerPlan) : Type 0 where
   pub tests : PassesTests plan
   pub drops : PassesDropTests plan
   pub node : IsNode plan.node
-  pub there : plan.network ≡ 0
 
 three-hold : {F : Type 0} (a b c : Bool) (f g k : F) → a ≡ true → b ≡ true → c ≡ true
     → first_failed ((a, f) ∷ (b, g) ∷ (c, k) ∷ []) ≡ Ok tt
@@ -229,20 +227,18 @@ parts_of-read owner arrays plan numbers few h =
       tests = tests;
       drops = drops-pass owner arrays.drops drops.0 drops.1.0;
       node = record { from = within.0; to = within.1 };
-      there = refl;
     } in
     rw (← same) read
 
--- what is known of a controller of a table
-record IsFresh (earlier : List ControllerPlan) (plan : ControllerPlan) : Type 0 where
-  read : IsRead plan
-  fresh : has_controller earlier plan.node ≡ false
+-- the node and the network of the parts
+record IsOf (owner : Owner) (plan : ControllerPlan) : Type 0 where
+  node : plan.node ≡ owner.node
+  network : plan.network ≡ owner.network
 
--- the node of the parts
-parts_of-node : (owner : Owner) (arrays : Arrays) (plan : ControllerPlan)
-    → parts_of owner arrays ≡ Ok plan → plan.node ≡ owner.node
+parts_of-owner : (owner : Owner) (arrays : Arrays) (plan : ControllerPlan)
+    → parts_of owner arrays ≡ Ok plan → IsOf owner plan
 unfolding parts_of
-parts_of-node owner arrays plan h =
+parts_of-owner owner arrays plan h =
     let drops = step-ok (drops_of owner arrays.drops) _ plan h in
     let segments = step-ok (segments_of owner arrays.segments) _ plan drops.1.1 in
     let orders = step-ok (orders_of (nameable owner segments.0 drops.0) arrays.orders) _ plan
@@ -252,61 +248,70 @@ parts_of-node owner arrays plan h =
     (λ panel. Ok (plan_of owner panel orders.0 power.0 drops.0 segments.0)) plan power.1.1 in
     let whole : ControllerPlan = plan_of owner panel.0 orders.0 power.0 drops.0 segments.0 in
     let same : whole ≡ plan = ok_value whole plan panel.1.1 in
-    rw (← same) (refl {a = owner.node})
+    let is : IsOf owner whole = record { node = refl; network = refl } in
+    rw (← same) is
 
-controller-read : (earlier : List ControllerPlan) (table : ℕ × Members) (plan : ControllerPlan)
-    → controller_behind earlier table
-    ≡ Ok plan → IsFresh earlier plan
-unfolding controller_behind
-controller-read earlier table plan h =
-    let place = controller_place table.0 in
-    let keys = step-ok (table_passes place kinds.Controller table.1) _ plan h in
-    let owner = step-ok (owner_at table.0 table.1) _ plan keys.1.1 in
-    let arrays = step-ok (arrays_at place table.1) _ plan owner.1.1 in
-    let fresh = unless-ok (not (has_controller earlier owner.0.node))
-    (BadNode, place) _ plan arrays.1.1 in
-    let own = parts_of-node owner.0 arrays.0 plan fresh.1 in
-    record {
-      read = parts_of-read owner.0 arrays.0 plan (owner_at-has table.0 table.1 owner.0 owner.1.0)
-          (arrays_at-few place table.1 arrays.0 arrays.1.0)
-          fresh.1;
-      fresh = rw own (not-true (has_controller earlier owner.0.node) fresh.0);
-    }
+-- what is known of a controller of a table
+record IsFresh (version : Version) (nets : List NetTable) (earlier : List ControllerPlan)
+    (plan : ControllerPlan) : Type 0 where
+  read : IsRead plan
+  on : IsOn version nets plan.network
+  fresh : has_controller earlier plan.node ≡ false
 
--- a node that no item has is none of the nodes
-pub none-node : {A : Type 0} (node : A → ℕ) (n : ℕ) (xs : List A)
-    → list_any (λ x. node x == n) xs ≡ list_any (nat_eq n) (map node xs)
-none-node node n [] = refl
-none-node node n (x ∷ xs) = rw (nat_eq_equiv.symm (node x) n, none-node node n xs) refl
-
--- one more item of another node
-pub distinct-push : {A : Type 0} (node : A → ℕ) (before : List ℕ) (xs : List A) (x : A)
-    → IsDistinct nat_eq (before ++ map node xs)
-    → list_any (nat_eq (node x)) (before ++ map node xs) ≡ false
-    → IsDistinct nat_eq (before ++ map node (xs ++ x ∷ []))
-distinct-push node before xs x h other =
-    rw (map-append, ← append_assoc before (map node xs) (node x ∷ []))
-    (IsDistinct-push nat_eq_equiv (before ++ map node xs) (node x) h other)
-
--- the controllers of a plant: each passes its tests, and no two have one node
-pub record AreRead (plans : List ControllerPlan) : Type 0 where
+-- the controllers of a plant: each passes its tests and is on one of the networks, and no two have
+-- one node
+pub record AreRead (nets : List NetTable) (plans : List ControllerPlan) : Type 0 where
   pub each : AllByRecursion IsRead plans
+  pub on : AllByRecursion (λ (plan : ControllerPlan). has_net nets plan.network ≡ true) plans
   pub nodes : IsDistinct nat_eq (map (λ (plan : ControllerPlan). plan.node) plans)
 
-pub controllers-read : (tables : List Members) (plans : List ControllerPlan)
-    → controllers_of tables ≡ Ok plans → AreRead plans
-unfolding IsDistinct
-controllers-read tables plans h = record {
-  each = each_behind-all IsRead controller_behind (λ before table plan e.
-      (controller-read before table plan e).read) (numbered_from 1 tables) [] plans tt h;
-  nodes = each_behind-keeps (λ plans.
-      IsDistinct nat_eq (map (λ (plan : ControllerPlan). plan.node) plans)) controller_behind
-      (λ before table plan e held.
-      distinct-push (λ (plan : ControllerPlan). plan.node) [] before plan held
-      (sym (none-node (λ (plan : ControllerPlan). plan.node) plan.node before)
-      ∙ (controller-read before table plan e).fresh))
-      (numbered_from 1 tables) [] plans tt h;
-}
+module _ (version : Version) (nets : List NetTable)
+    (first : version ≡ One → map (λ (net : NetTable). net.number) nets ≡ 0 ∷ []) where
+  controller-read : (earlier : List ControllerPlan) (table : ℕ × Members) (plan : ControllerPlan)
+      → controller_behind version nets earlier table ≡ Ok plan → IsFresh version nets earlier plan
+  unfolding controller_behind
+  controller-read earlier table plan h =
+      let place = controller_place table.0 in
+      let keys = step-ok (table_passes place (kinds.Controller version) table.1) _ plan h in
+      let node = step-ok (address_at place table.1) _ plan keys.1.1 in
+      let named = step-ok (network_at version nets place table.1) _ plan node.1.1 in
+      let sizes = step-ok (sizes_at place table.1) _ plan named.1.1 in
+      let arrays = step-ok (arrays_at place table.1) _ plan sizes.1.1 in
+      let fresh = unless-ok (not (has_controller earlier node.0)) (BadNode, place) _ plan
+      arrays.1.1 in
+      let network = or_fault-ok (BadNetwork, place) named.0
+      (λ network. parts_of (owner_from table.0 node.0 network sizes.0) arrays.0) plan fresh.1 in
+      let owner = owner_from table.0 node.0 network.0 sizes.0 in
+      let own = parts_of-owner owner arrays.0 plan network.1.1 in
+      let on = network-is version nets place table.1 network.0 first
+      (named.1.0 ∙ ap Ok network.1.0) in
+      record {
+        read = parts_of-read owner arrays.0 plan (record {
+          node = address_at-within place table.1 node.0 node.1.0;
+          sizes = sizes_at-are place table.1 sizes.0 sizes.1.0;
+        }) (arrays_at-few place table.1 arrays.0 arrays.1.0) network.1.1;
+        on = rw own.network on;
+        fresh = rw own.node (not-true (has_controller earlier node.0) fresh.0);
+      }
+
+  pub controllers-read : (tables : List Members) (plans : List ControllerPlan)
+      → controllers_of version nets tables ≡ Ok plans → AreRead nets plans
+  unfolding IsDistinct
+  controllers-read tables plans h = record {
+    each = each_behind-all IsRead (controller_behind version nets) (λ before table plan e.
+        (controller-read before table plan e).read) (numbered_from 1 tables) [] plans tt h;
+    on = each_behind-all (λ (plan : ControllerPlan). has_net nets plan.network ≡ true)
+        (controller_behind version nets) (λ before table plan e.
+        (controller-read before table plan e).on.there) (numbered_from 1 tables) [] plans tt h;
+    nodes = each_behind-keeps (λ plans.
+        IsDistinct nat_eq (map (λ (plan : ControllerPlan). plan.node) plans))
+        (controller_behind version nets)
+        (λ before table plan e held.
+        distinct-push (λ (plan : ControllerPlan). plan.node) [] before plan held
+        (sym (none-node (λ (plan : ControllerPlan). plan.node) plan.node before)
+        ∙ (controller-read before table plan e).fresh))
+        (numbered_from 1 tables) [] plans tt h;
+  }
 
 -- ---- what a controller that passes its tests can do
 

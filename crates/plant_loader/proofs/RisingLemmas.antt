@@ -1,7 +1,7 @@
 -- Items in the order of their nodes.
 use Rattle.std.proofs.Common.{◌≡◌, ℕ, suc, zero, ◌+◌, ◌≤◌, ◌<◌, ◌==◌, Bool, true, false, not, ◌&&◌}
 use Rattle.std.proofs.Common.{List, [], ◌∷◌, ◌++◌, length, get_or, nat_cmp, eq-eqb, refl, sym, ap}
-use Rattle.std.proofs.Common.{ap₂, ◌∙◌, arith}
+use Rattle.std.proofs.Common.{ap₂, subst, ◌∙◌, append_assoc, arith}
 use Rattle.std.specs.Prelude.{filter, map, if◌then◌else◌, nat_eq}
 use Rattle.std.specs.List.{flat_map, range_with_len, All, AllByRecursion, IsDistinct}
 use Rattle.std.specs.List.Sorted.{IsNonDecreasingBy, IsPermutation, IsStableByKey}
@@ -12,13 +12,16 @@ use Rattle.std.proofs.lemmas.Bool.{ne_eqb, eqb-true}
 use Rattle.std.proofs.lemmas.Bool.Decides.{nat_tests}
 use Rattle.std.proofs.lemmas.List.Sorted.{IsNonDecreasingBy-drop, All-permutation}
 use Rattle.std.proofs.lemmas.List.Sorted.{IsPermutation-refl, IsPermutation-trans}
-use Rattle.std.proofs.lemmas.List.Sorted.{IsPermutation-append_right, IsPermutation-filter_both}
+use Rattle.std.proofs.lemmas.List.Sorted.{IsPermutation-append_right, IsPermutation-append_left}
+use Rattle.std.proofs.lemmas.List.Sorted.{IsPermutation-append_comm}
+use Rattle.std.proofs.lemmas.List.Concat.{flat_map-append}
 use Rattle.std.proofs.lemmas.Map.Keys.{IsDistinct-IsPermutation, IsStrictlyIncreasing-from_sorted}
 use Rattle.std.proofs.lemmas.Cmp.{nat_eq_equiv}
 use Rattle.std.proofs.lemmas.List.{map-append}
 use Rattle.std.proofs.lemmas.List.Elements.{All-nil, All-cons, All-head, All-tail}
+use Rattle.plant_types.specs.Limits.{net_limit}
 use Rattle.plant_types.specs.Plans.{IsNode}
-use Rattle.plant_loader.specs.Rising.{by_node}
+use Rattle.plant_loader.specs.Rising.{in_turn, by_node, by_network}
 
 -- items that rise from a number on
 abbrev pub RisesFrom : {A : Type 0} → (A → ℕ) → ℕ → List A → Type 0
@@ -166,22 +169,29 @@ nodes-same node xs ys (suc n) a stable =
     (filter (λ y. node y == a) ys) refl refl stable)
     (nodes-same node xs ys n (a + 1) stable)
 
--- items of addresses
-rises-one : {A : Type 0} (node : A → ℕ) (xs : List A) (d : A)
-    → AllByRecursion (λ x. IsNode (node x)) xs → 0 < length xs → 1 ≤ node (get_or xs 0 d)
-rises-one node [] d all some = absurd (omega (arith, some))
-rises-one node (x ∷ xs) d all some = all.0.from
+-- a number is one of so many from a least one on
+abbrev pub IsAmong : ℕ → ℕ → ℕ → Type 0
+IsAmong a n number = (a ≤ number) × (number < a + n)
 
-most-below : {A : Type 0} (node : A → ℕ) (xs : List A) → AllByRecursion (λ x. IsNode (node x)) xs
-    → AllByRecursion (λ x. node x < 1 + 64) xs
-most-below node [] all = tt
-most-below node (x ∷ xs) all = (omega (arith, all.0.to), most-below node xs all.1)
+-- items of such numbers
+rises-one : {A : Type 0} (node : A → ℕ) (n a : ℕ) (xs : List A) (d : A)
+    → AllByRecursion (λ x. IsAmong a n (node x)) xs → 0 < length xs → a ≤ node (get_or xs 0 d)
+rises-one node n a [] d all some = absurd (omega (arith, some))
+rises-one node n a (x ∷ xs) d all some = all.0.0
 
--- items that rise are those by node
-pub rising-by_node : {A : Type 0} (node : A → ℕ) (xs : List A) → IsNonDecreasingBy node xs
-    → AllByRecursion (λ x. IsNode (node x)) xs → by_node node xs ≡ xs
-rising-by_node node xs h all = rising-same node 64 1 xs
-    (rises-from node 1 xs h (λ d some. rises-one node xs d all some)) (most-below node xs all)
+most-below : {A : Type 0} (node : A → ℕ) (n a : ℕ) (xs : List A)
+    → AllByRecursion (λ x. IsAmong a n (node x)) xs
+    → AllByRecursion (λ x. node x < a + n) xs
+most-below node n a [] all = tt
+most-below node n a (x ∷ xs) all = (all.0.1, most-below node n a xs all.1)
+
+-- items that rise are those in turn
+rising-in_turn : {A : Type 0} (node : A → ℕ) (n a : ℕ) (xs : List A) → IsNonDecreasingBy node xs
+    → AllByRecursion (λ x. IsAmong a n (node x)) xs
+    → in_turn (range_with_len a n) node xs ≡ xs
+rising-in_turn node n a xs h all = rising-same node n a xs
+    (rises-from node a xs h (λ d some. rises-one node n a xs d all some))
+    (most-below node n a xs all)
 
 -- what holds of each item of a list, as a fact of its items
 pub to-all : {A : Type 0} (P : A → Type 0) (xs : List A) → AllByRecursion P xs → All P xs
@@ -192,14 +202,42 @@ pub from-all : {A : Type 0} (P : A → Type 0) (xs : List A) → All P xs → Al
 from-all P [] h = tt
 from-all P (x ∷ xs) h = (All-head P x xs h, from-all P xs (All-tail P x xs h))
 
--- a stable sort by node gives the items by node
+-- a stable sort by a number gives the items in turn
+pub sorted-in_turn : {A : Type 0} (node : A → ℕ) (n a : ℕ) (xs ys : List A)
+    → IsNonDecreasingBy node ys
+    → IsStableByKey node nat_cmp xs ys → IsPermutation xs ys
+    → AllByRecursion (λ x. IsAmong a n (node x)) xs → ys ≡ in_turn (range_with_len a n) node xs
+sorted-in_turn node n a xs ys h stable moved all =
+    let every = from-all (λ x. IsAmong a n (node x)) ys
+    (All-permutation (λ x. IsAmong a n (node x)) xs ys moved
+    (to-all (λ x. IsAmong a n (node x)) xs all)) in
+    sym (rising-in_turn node n a ys h every) ∙ nodes-same node xs ys n a stable
+
+-- addresses are 1 to 64, and numbers of networks 0 to 8
+pub nodes-in : {A : Type 0} (node : A → ℕ) (xs : List A) → AllByRecursion (λ x. IsNode (node x)) xs
+    → AllByRecursion (λ x. IsAmong 1 64 (node x)) xs
+nodes-in node [] all = tt
+nodes-in node (x ∷ xs) all = ((all.0.from, omega (arith, all.0.to)), nodes-in node xs all.1)
+
+pub networks-in : {A : Type 0} (number : A → ℕ) (xs : List A)
+    → AllByRecursion (λ x. number x ≤ net_limit) xs
+    → AllByRecursion (λ x. IsAmong 0 9 (number x)) xs
+networks-in number [] all = tt
+networks-in number (x ∷ xs) all =
+    ((omega arith, omega (arith, all.0)), networks-in number xs all.1)
+
 pub sorted-by_node : {A : Type 0} (node : A → ℕ) (xs ys : List A) → IsNonDecreasingBy node ys
     → IsStableByKey node nat_cmp xs ys → IsPermutation xs ys
     → AllByRecursion (λ x. IsNode (node x)) xs → ys ≡ by_node node xs
 sorted-by_node node xs ys h stable moved all =
-    let every = from-all (λ x. IsNode (node x)) ys
-    (All-permutation (λ x. IsNode (node x)) xs ys moved (to-all (λ x. IsNode (node x)) xs all)) in
-    sym (rising-by_node node ys h every) ∙ nodes-same node xs ys 64 1 stable
+    sorted-in_turn node 64 1 xs ys h stable moved (nodes-in node xs all)
+
+pub sorted-by_network : {A : Type 0} (number : A → ℕ) (xs ys : List A)
+    → IsNonDecreasingBy number ys
+    → IsStableByKey number nat_cmp xs ys → IsPermutation xs ys
+    → AllByRecursion (λ x. number x ≤ net_limit) xs → ys ≡ by_network number xs
+sorted-by_network number xs ys h stable moved all =
+    sorted-in_turn number 9 0 xs ys h stable moved (networks-in number xs all)
 
 apart-step : {A : Type 0} (node : A → ℕ) (a k : ℕ) (x : A) (xs : List A) (b : Bool)
     → (node x == a) ≡ b → a < k
@@ -249,33 +287,84 @@ others-later node a n [] all = tt
 others-later node a n (x ∷ xs) all =
     others-step node a n x xs (node x == a) refl all.0 (others-later node a n xs all.1)
 
--- the items by node are the items in another order
-moved-from : {A : Type 0} (node : A → ℕ) (n a : ℕ) (xs : List A)
-    → AllByRecursion (λ x. (a ≤ node x) × (node x < a + n)) xs
-    → IsPermutation xs (flat_map (λ k. filter (λ x. node x == k) xs) (range_with_len a n))
-moved-from node zero a [] all = IsPermutation-refl []
-moved-from node zero a (x ∷ xs) all = absurd (omega (arith, all.0.0, all.0.1))
-moved-from node (suc n) a xs all =
+-- what stands for items of either part stands for all of them
+parts-step : {A B : Type 0} (f : A → List B) (p : A → Bool) (x : A) (xs : List A) (b : Bool)
+    → p x ≡ b
+    → IsPermutation (flat_map f xs) (flat_map f (filter p xs)
+    ++ flat_map f (filter (λ x. not (p x)) xs))
+    → IsPermutation (f x ++ flat_map f xs) (flat_map f (filter p (x ∷ xs))
+    ++ flat_map f (filter (λ x. not (p x)) (x ∷ xs)))
+parts-step f p x xs true is h =
+    let here = flat_map f (filter p xs) in
+    let others = flat_map f (filter (λ x. not (p x)) xs) in
+    rw (is, append_assoc (f x) here others)
+    (IsPermutation-append_right (f x) (flat_map f xs) (here ++ others) h)
+parts-step f p x xs false is h =
+    let here = flat_map f (filter p xs) in
+    let others = flat_map f (filter (λ x. not (p x)) xs) in
+    let front = IsPermutation-append_left others (f x ++ here) (here ++ f x)
+    (IsPermutation-append_comm (f x) here) in
+    let moved : IsPermutation ((f x ++ here) ++ others) (here ++ (f x ++ others)) =
+    rw (← append_assoc here (f x) others) front in
+    let first : IsPermutation (f x ++ flat_map f xs) ((f x ++ here) ++ others) =
+    rw (append_assoc (f x) here others)
+    (IsPermutation-append_right (f x) (flat_map f xs) (here ++ others) h) in
+    rw is (IsPermutation-trans (f x ++ flat_map f xs) ((f x ++ here) ++ others)
+    (here ++ (f x ++ others)) first moved)
+
+parts-moved : {A B : Type 0} (f : A → List B) (p : A → Bool) (xs : List A)
+    → IsPermutation (flat_map f xs) (flat_map f (filter p xs)
+    ++ flat_map f (filter (λ x. not (p x)) xs))
+parts-moved f p [] = IsPermutation-refl []
+parts-moved f p (x ∷ xs) = parts-step f p x xs (p x) refl (parts-moved f p xs)
+
+-- what stands for items in turn is what stands for the items, in another order
+moved-from : {A B : Type 0} (f : A → List B) (node : A → ℕ) (n a : ℕ) (xs : List A)
+    → AllByRecursion (λ x. IsAmong a n (node x)) xs
+    → IsPermutation (flat_map f xs) (flat_map f (in_turn (range_with_len a n) node xs))
+moved-from f node zero a [] all = IsPermutation-refl []
+moved-from f node zero a (x ∷ xs) all = absurd (omega (arith, all.0.0, all.0.1))
+moved-from f node (suc n) a xs all =
     let here = filter (λ x. node x == a) xs in
     let others = filter (λ x. not (node x == a)) xs in
-    let behind = flat_map (λ k. filter (λ x. node x == k) xs) (range_with_len (a + 1) n) in
-    let moved : IsPermutation others behind = rw (← later-kept node a xs n (a + 1) (omega arith))
-    (moved-from node n (a + 1)
-    others (others-later node a n xs all)) in
-    IsPermutation-trans xs (here ++ others) (here ++ behind)
-    (IsPermutation-filter_both (λ x. node x == a) (λ x. not (node x == a)) (λ x. refl) xs)
-    (IsPermutation-append_right here others behind moved)
+    let behind = in_turn (range_with_len (a + 1) n) node xs in
+    let moved : IsPermutation (flat_map f others) (flat_map f behind) =
+    rw (← later-kept node a xs n (a + 1) (omega arith))
+    (moved-from f node n (a + 1) others (others-later node a n xs all)) in
+    rw (flat_map-append f here behind)
+    (IsPermutation-trans (flat_map f xs) (flat_map f here ++ flat_map f others)
+    (flat_map f here ++ flat_map f behind)
+    (parts-moved f (λ x. node x == a) xs)
+    (IsPermutation-append_right (flat_map f here) (flat_map f others) (flat_map f behind) moved))
 
-nodes-in : {A : Type 0} (node : A → ℕ) (xs : List A) → AllByRecursion (λ x. IsNode (node x)) xs
-    → AllByRecursion (λ x. (1 ≤ node x) × (node x < 1 + 64)) xs
-nodes-in node [] all = tt
-nodes-in node (x ∷ xs) all = ((all.0.from, omega (arith, all.0.to)), nodes-in node xs all.1)
+-- each item alone
+alone : {A : Type 0} (xs : List A) → flat_map (λ x. x ∷ []) xs ≡ xs
+alone [] = refl
+alone (x ∷ xs) = ap (λ ys. x ∷ ys) (alone xs)
+
+in_turn-moved : {A : Type 0} (node : A → ℕ) (n a : ℕ) (xs : List A)
+    → AllByRecursion (λ x. IsAmong a n (node x)) xs
+    → IsPermutation xs (in_turn (range_with_len a n) node xs)
+in_turn-moved node n a xs all =
+    let sorted = in_turn (range_with_len a n) node xs in
+    let moved = moved-from (λ x. x ∷ []) node n a xs all in
+    subst (λ ys. IsPermutation ys sorted) (alone xs)
+    (subst (IsPermutation (flat_map (λ x. x ∷ []) xs)) (alone sorted) moved)
+
+pub by_node-flat : {A B : Type 0} (f : A → List B) (node : A → ℕ) (xs : List A)
+    → AllByRecursion (λ x. IsNode (node x)) xs
+    → IsPermutation (flat_map f xs) (flat_map f (by_node node xs))
+by_node-flat f node xs all = moved-from f node 64 1 xs (nodes-in node xs all)
 
 pub by_node-moved : {A : Type 0} (node : A → ℕ) (xs : List A)
     → AllByRecursion (λ x. IsNode (node x)) xs → IsPermutation xs (by_node node xs)
-by_node-moved node xs all = moved-from node 64 1 xs (nodes-in node xs all)
+by_node-moved node xs all = in_turn-moved node 64 1 xs (nodes-in node xs all)
 
--- numbers by node rise
+pub by_network-moved : {A : Type 0} (number : A → ℕ) (xs : List A)
+    → AllByRecursion (λ x. number x ≤ net_limit) xs → IsPermutation xs (by_network number xs)
+by_network-moved number xs all = in_turn-moved number 9 0 xs (networks-in number xs all)
+
+-- numbers in turn rise
 block-step : (k x : ℕ) (xs ys : List ℕ) (b : Bool) → (x == k) ≡ b
     → RisesFrom (λ n. n) k (filter (λ x. x == k) xs ++ ys)
     → RisesFrom (λ n. n) k (filter (λ x. x == k) (x ∷ xs) ++ ys)
@@ -313,14 +402,23 @@ rising-sorted a [] h other = tt
 rising-sorted a (x ∷ xs) h other =
     (later-less x x xs (omega arith) h.1 other.0, rising-sorted x xs h.1 other.1)
 
+in_turn-rises : (xs : List ℕ) (n a : ℕ) → AllByRecursion (IsAmong a n) xs
+    → IsDistinct nat_eq xs
+    → IsStrictlyIncreasing (in_turn (range_with_len a n) (λ n. n) xs)
+in_turn-rises xs n a all other =
+    let sorted = in_turn (range_with_len a n) (λ n. n) xs in
+    let others = IsDistinct-IsPermutation nat_eq nat_eq_equiv.symm xs sorted
+    (in_turn-moved (λ n. n) n a xs all) other in
+    IsStrictlyIncreasing-from_sorted sorted (rising-sorted a sorted (numbers-rise xs n a) others)
+
 pub by_node-rises : (xs : List ℕ) → AllByRecursion IsNode xs → IsDistinct nat_eq xs
     → IsStrictlyIncreasing (by_node (λ n. n) xs)
-by_node-rises xs all other =
-    let moved = by_node-moved (λ (n : ℕ). n) xs all in
-    let others = IsDistinct-IsPermutation nat_eq nat_eq_equiv.symm xs
-    (by_node (λ n. n) xs) moved other in
-    IsStrictlyIncreasing-from_sorted (by_node (λ n. n) xs)
-    (rising-sorted 1 (by_node (λ n. n) xs) (numbers-rise xs 64 1) others)
+by_node-rises xs all other = in_turn-rises xs 64 1 (nodes-in (λ n. n) xs all) other
+
+pub by_network-rises : (xs : List ℕ) → AllByRecursion (λ n. n ≤ net_limit) xs
+    → IsDistinct nat_eq xs
+    → IsStrictlyIncreasing (by_network (λ n. n) xs)
+by_network-rises xs all other = in_turn-rises xs 9 0 (networks-in (λ n. n) xs all) other
 
 -- the nodes of the items by node
 filter-step : {A : Type 0} (node : A → ℕ) (k : ℕ) (x : A) (xs : List A) (b : Bool)
@@ -347,3 +445,7 @@ nodes-from node xs (suc n) a =
 pub by_node-nodes : {A : Type 0} (node : A → ℕ) (xs : List A)
     → map node (by_node node xs) ≡ by_node (λ n. n) (map node xs)
 by_node-nodes node xs = nodes-from node xs 64 1
+
+pub by_network-numbers : {A : Type 0} (number : A → ℕ) (xs : List A)
+    → map number (by_network number xs) ≡ by_network (λ n. n) (map number xs)
+by_network-numbers number xs = nodes-from number xs 9 0

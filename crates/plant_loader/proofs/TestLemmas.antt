@@ -1,12 +1,17 @@
 -- Items that are read pass their tests.
-use Rattle.std.proofs.Common.{◌≡◌, ℕ, ◌+◌, List, [], ◌∷◌, ◌++◌, length, Result, Ok, refl, ap, ◌∙◌}
-use Rattle.std.proofs.Common.{length-append, arith}
-use Rattle.std.specs.List.{AllByRecursion}
+use Rattle.std.proofs.Common.{◌≡◌, ℕ, ◌+◌, ◌==◌, false, List, [], ◌∷◌, ◌++◌, length, map, Result, Ok}
+use Rattle.std.proofs.Common.{refl, ap, ◌∙◌, length-append, append_assoc, arith}
+use Rattle.std.specs.Prelude.{nat_eq}
+use Rattle.std.specs.List.{list_any, AllByRecursion, IsDistinct}
+use Rattle.std.proofs.lemmas.Cmp.{nat_eq_equiv}
+use Rattle.std.proofs.lemmas.List.{map-append}
+use Rattle.std.proofs.lemmas.Map.Keys.{IsDistinct-push}
 use Rattle.plant_types.specs.FirstFault.{Test, first_failed, tests_behind, tests_of_each}
 use Rattle.plant_types.proofs.FaultLemmas.{first_failed-held, tests_of_each-push}
 use Rattle.cell_text.specs.Steps.{◌>>=◌}
 use Rattle.cell_text.proofs.StepLemmas.{step-ok}
 use Rattle.plant_loader.specs.InOrder.{numbered_from, each_behind, each_of, each_from}
+use Rattle.plant_loader.specs.InOrder.{each_passes}
 use Rattle.plant_loader.proofs.Common.{ok_value}
 
 -- what each item that is read behind those before it keeps, all of them keep
@@ -144,3 +149,28 @@ pub with_positions-count : {A B E : Type 0} (read : List B → ℕ × A → Resu
     → each_behind read [] (numbered_from 1 xs) ≡ Ok ys → length ys ≡ length xs
 with_positions-count read xs ys h =
     omega (arith, behind-length read (numbered_from 1 xs) [] ys h, with_positions-length xs 1)
+
+-- what each test of items says, where all of them pass
+pub each_passes-all : {A E : Type 0} (P : A → Type 0) (test : ℕ → A → Result (Unit {0}) E)
+    → ((n : ℕ) (x : A) → test n x ≡ Ok tt → P x)
+    → (xs : List A) (number : ℕ) → each_passes test number xs ≡ Ok tt
+    → AllByRecursion P xs
+each_passes-all P test holds [] number h = tt
+each_passes-all P test holds (x ∷ xs) number h =
+    let here = step-ok (test number x) (λ here. each_passes test (number + 1) xs) tt h in
+    (holds number x here.1.0, each_passes-all P test holds xs (number + 1) here.1.1)
+
+-- a node that no item has is none of the nodes
+pub none-node : {A : Type 0} (node : A → ℕ) (n : ℕ) (xs : List A)
+    → list_any (λ x. node x == n) xs ≡ list_any (nat_eq n) (map node xs)
+none-node node n [] = refl
+none-node node n (x ∷ xs) = rw (nat_eq_equiv.symm (node x) n, none-node node n xs) refl
+
+-- one more item of another node
+pub distinct-push : {A : Type 0} (node : A → ℕ) (before : List ℕ) (xs : List A) (x : A)
+    → IsDistinct nat_eq (before ++ map node xs)
+    → list_any (nat_eq (node x)) (before ++ map node xs) ≡ false
+    → IsDistinct nat_eq (before ++ map node (xs ++ x ∷ []))
+distinct-push node before xs x h other =
+    rw (map-append, ← append_assoc before (map node xs) (node x ∷ []))
+    (IsDistinct-push nat_eq_equiv (before ++ map node xs) (node x) h other)

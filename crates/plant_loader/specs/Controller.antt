@@ -1,4 +1,4 @@
--- The numbers of a controller's table, and its panel. This project's own.
+-- The map of a controller, and its panel. This project's own.
 use Rattle.std.specs.Prelude.{codes, ℕ, List, Result, Ok}
 use Rattle.toml.specs.Data.{Members}
 use Rattle.plant_types.specs.declared.reference.Ref.{Ref}
@@ -8,27 +8,26 @@ use Rattle.plant_types.specs.Sizes.{has_reference, sizes_from}
 use Rattle.cell_text.specs.Steps.{◌>>=◌, or_fault, unless}
 use Rattle.cell_text.specs.Words.{text_words, only_word}
 use Rattle.cell_text.specs.Numbers.{reference_of}
-use Rattle.plant_types.specs.Fault.{controller_place, panel_place}
+use Rattle.plant_types.specs.declared.fault.Place.{Place}
+use Rattle.plant_types.specs.Fault.{panel_place}
 use Rattle.plant_loader.specs.declared.owner.Owner.{Owner}
 use Rattle.plant_loader.specs.Refusals.{Refusal}
-use Rattle.plant_loader.specs.Keys.{address_at, size_at, discrete_size_at}
+use Rattle.plant_loader.specs.Keys.{size_at, discrete_size_at}
 use Rattle.plant_loader.specs.InOrder.{each_from}
 
--- The controller of a position, by its node and its map.
-abbrev pub owner_from : ℕ → ℕ → Sizes → Owner
-owner_from position node sizes = record { position = position; node = node; sizes = sizes }
+-- The controller of a position, by its node, its network and its map.
+abbrev pub owner_from : ℕ → ℕ → ℕ → Sizes → Owner
+owner_from position node network sizes =
+    record { position = position; node = node; network = network; sizes = sizes }
 
--- The numbers of the table of the controller at a position: its node, and how many references of
--- each kind it has.
-unfoldable pub owner_at : ℕ → Members → Result Owner Refusal
-owner_at position ms = do
-  place ← Ok (controller_place position)
-  node ← address_at place ms
+-- How many references of each kind the controller of a table has.
+unfoldable pub sizes_at : Place → Members → Result Sizes Refusal
+sizes_at place ms = do
   coils ← discrete_size_at place (codes "coils") ms
   inputs ← discrete_size_at place (codes "inputs") ms
   input_registers ← size_at place (codes "input_registers") ms
   registers ← size_at place (codes "registers") ms
-  Ok (owner_from position node (sizes_from coils inputs input_registers registers))
+  Ok (sizes_from coils inputs input_registers registers)
 
 -- A text of a panel, counted from 1, is one word, which is a reference of the map.
 unfoldable pub panel_item : Owner → ℕ → List ℕ → Result Ref Refusal

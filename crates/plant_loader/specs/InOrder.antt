@@ -35,6 +35,15 @@ each_from read number (x ∷ xs) = do
   ys ← each_from read (number + 1) xs
   Ok (y ∷ ys)
 
+-- Items, each tested with its position, the first of which is given: the first refusal, if there is
+-- one.
+abbrev pub each_passes : {A E : Type 0} → (ℕ → A → Result (Unit {0}) E) → ℕ → List A
+    → Result (Unit {0}) E
+each_passes test number [] = Ok tt
+each_passes test number (x ∷ xs) = do
+  here ← test number x
+  each_passes test (number + 1) xs
+
 -- The items that are read, behind those that were read before.
 abbrev pub with_front : {A E : Type 0} → List A → Result (List A) E → Result (List A) E
 with_front front read = read >>= λ more. Ok (front ++ more)

@@ -3,6 +3,7 @@ pub mod InOrder
 pub mod Given
 pub mod Keys
 pub mod Tables
+pub mod Net
 pub mod Hex
 pub mod Controller
 pub mod Texts
@@ -12,11 +13,13 @@ pub mod Pieces
 pub mod Orders
 pub mod Program
 pub mod Kept
+pub mod Routes
 pub mod Requests
 pub mod Failures
 pub mod Stations
 pub mod Hosts
 pub mod Rising
-pub mod Net
+pub mod Whole
+pub mod Bridges
 pub mod Plant
 pub mod Accepted

@@ -15,16 +15,23 @@ Refusal = PlantFault × Place
 abbrev pub plant_place : Place
 plant_place = record { part = parts.Plant; at = 0 ∷ 0 ∷ 0 ∷ 0 ∷ [] }
 
--- The table of the network, a host's table, and a request of a host.
+-- The table of what all networks share, and the table of one network.
 abbrev pub net_place : Place
 net_place = record { part = parts.Net; at = 0 ∷ 0 ∷ 0 ∷ 0 ∷ [] }
 
+abbrev pub network_place : ℕ → Place
+network_place network = record { part = parts.Network; at = network ∷ 0 ∷ 0 ∷ 0 ∷ [] }
+
+-- A host's table, a request of a host, and the text of a bridge.
 abbrev pub host_table_place : ℕ → Place
 host_table_place host = record { part = parts.Host; at = host ∷ 0 ∷ 0 ∷ 0 ∷ [] }
 
 abbrev pub request_place : ℕ → ℕ → Place
 request_place host request =
     record { part = parts.HostRequest; at = host ∷ request ∷ 0 ∷ 0 ∷ [] }
+
+abbrev pub bridge_place : ℕ → Place
+bridge_place bridge = record { part = parts.Bridge; at = bridge ∷ 0 ∷ 0 ∷ 0 ∷ [] }
 
 -- The bytes are no document.
 abbrev pub bad_toml : Refusal

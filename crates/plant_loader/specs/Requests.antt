@@ -1,17 +1,19 @@
 -- The requests of a host by their texts. This project's own.
 use Rattle.std.specs.Prelude.{ℕ, ◌%◌, Bool, ◌&&◌, ◌==◌, nat_le, if◌then◌else◌, List, [], ◌∷◌}
-use Rattle.std.specs.Prelude.{length, Option, Some, None, option_and_then, Result, Ok}
+use Rattle.std.specs.Prelude.{length, Option, Some, None, Result, Ok}
 use Rattle.std.specs.List.{list_all}
 use Rattle.plant_types.specs.declared.net.HostAsk.{HostAsk}
 use Rattle.plant_types.specs.declared.fault.PlantFault.TheVariants.{BadValue, BadNode}
 use Rattle.plant_types.specs.declared.fault.Place.{Place}
-use Rattle.plant_types.specs.Limits.{due_limit, most_address}
+use Rattle.plant_types.specs.Limits.{due_limit}
 use Rattle.plant_types.specs.Words.{pdu_of}
 use Rattle.cell_text.specs.Steps.{◌>>=◌, or_fault, unless}
 use Rattle.cell_text.specs.Words.{text_words}
 use Rattle.plant_types.specs.Numerals.{is_numeral, value_of}
 use Rattle.plant_loader.specs.declared.requests.RequestWords.{RequestWords as FoundWords}
+use Rattle.plant_loader.specs.declared.tables.Version.{Version}
 use Rattle.plant_loader.specs.Refusals.{Refusal, request_place}
+use Rattle.plant_loader.specs.Routes.{is_route, route_from}
 use Rattle.plant_loader.specs.Hex.{is_hex_digit, hex_pairs}
 use Rattle.plant_loader.specs.InOrder.{each_from}
 
@@ -28,21 +30,21 @@ numeral_within low high word = if is_numeral_within low high word then Some (val
 abbrev pub most_told : ℕ
 most_told = 100000
 
--- The three words of a request: the hold of the token from which on it is due, the node that is
--- asked, and the PDU.
+-- The three words of a request: the hold of the token from which on it is due, the route to the
+-- node that is asked, and the PDU.
 pub record RequestWords : Type 0 where
   pub hold : List ℕ
-  pub to : List ℕ
+  pub route : List ℕ
   pub pdu : List ℕ
 
 abbrev pub request_words_from : List ℕ → List ℕ → List ℕ → RequestWords
-request_words_from hold to pdu = record { hold = hold; to = to; pdu = pdu }
+request_words_from hold route pdu = record { hold = hold; route = route; pdu = pdu }
 
 abbrev pub request_in : FoundWords → RequestWords
-request_in found = request_words_from found.hold.now found.to.now found.pdu.now
+request_in found = request_words_from found.hold.now found.route.now found.pdu.now
 
 abbrev pub request_words : List (List ℕ) → Option RequestWords
-request_words (hold ∷ to ∷ pdu ∷ []) = Some (request_words_from hold to pdu)
+request_words (hold ∷ route ∷ pdu ∷ []) = Some (request_words_from hold route pdu)
 request_words _ = None
 
 -- The PDU of a word: 1 to 253 bytes, each of two hexadecimal digits.
@@ -55,30 +57,24 @@ pdu_spelled word = if is_hex_text word then pdu_of (hex_pairs word) else None
 abbrev pub pdu_in : Place → List ℕ → Result (List ℕ) Refusal
 pdu_in place word = or_fault (BadValue, place) (pdu_spelled word)
 
--- A node that is asked: another one than the host's own.
-abbrev pub another : ℕ → ℕ → Option ℕ
-another node to = if to == node then None else Some to
-
-abbrev pub target_in : ℕ → List ℕ → Option ℕ
-target_in node word = option_and_then (another node) (numeral_within 1 most_address word)
-
--- A request from its parts: its route is the one node that is asked.
-abbrev pub ask_from : ℕ → ℕ → List ℕ → HostAsk
-ask_from hold to pdu = record { hold = hold; route = to ∷ []; pdu = pdu }
+-- A request from its parts.
+abbrev pub ask_from : ℕ → List ℕ → List ℕ → HostAsk
+ask_from hold route pdu = record { hold = hold; route = route; pdu = pdu }
 
 -- The request of a text of the host of a node.
-unfoldable pub host_request : ℕ → Place → List ℕ → Result HostAsk Refusal
-host_request node place text = do
+unfoldable pub host_request : Version → ℕ → Place → List ℕ → Result HostAsk Refusal
+host_request version node place text = do
   words ← or_fault (BadValue, place) (request_words (text_words text))
   hold ← or_fault (BadValue, place) (numeral_within 1 due_limit words.hold)
-  number ← unless (is_numeral words.to) (BadValue, place)
+  reads ← unless (is_route version words.route) (BadValue, place)
   pdu ← pdu_in place words.pdu
-  to ← or_fault (BadNode, place) (target_in node words.to)
-  Ok (ask_from hold to pdu)
+  route ← or_fault (BadNode, place) (route_from node words.route)
+  Ok (ask_from hold route pdu)
 
-abbrev pub numbered_request : ℕ → ℕ → ℕ → List ℕ → Result HostAsk Refusal
-numbered_request node host number text = host_request node (request_place host number) text
+abbrev pub numbered_request : Version → ℕ → ℕ → ℕ → List ℕ → Result HostAsk Refusal
+numbered_request version node host number text =
+    host_request version node (request_place host number) text
 
 -- The requests of the host of a node at a position.
-abbrev pub requests_of : ℕ → ℕ → List (List ℕ) → Result (List HostAsk) Refusal
-requests_of node host texts = each_from (numbered_request node host) 1 texts
+abbrev pub requests_of : Version → ℕ → ℕ → List (List ℕ) → Result (List HostAsk) Refusal
+requests_of version node host texts = each_from (numbered_request version node host) 1 texts

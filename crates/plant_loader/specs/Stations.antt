@@ -8,21 +8,24 @@ use Rattle.plant_types.specs.declared.drops.IoDrop.{IoDrop}
 use Rattle.plant_types.specs.declared.plan.ControllerPlan.{ControllerPlan}
 use Rattle.plant_types.specs.declared.plan.OrderRow.{OrderRow}
 use Rattle.plant_types.specs.declared.plan.PowerRow.{PowerRow}
-use Rattle.plant_types.specs.declared.fault.PlantFault.TheVariants.{BadNode}
+use Rattle.plant_types.specs.declared.fault.PlantFault.TheVariants.{BadNode, BadNetwork}
 use Rattle.plant_types.specs.declared.fault.Place.{Place}
 use Rattle.plant_types.specs.Fault.{controller_place}
 use Rattle.plant_types.specs.PlanTests.{panel_limit, drop_limit, segment_limit, order_limit}
 use Rattle.plant_types.specs.PlanTests.{power_limit}
-use Rattle.cell_text.specs.Steps.{◌>>=◌, unless}
+use Rattle.cell_text.specs.Steps.{◌>>=◌, or_fault, unless}
 use Rattle.plant_loader.specs.declared.owner.Owner.{Owner}
+use Rattle.plant_loader.specs.declared.net.NetTable.{NetTable}
+use Rattle.plant_loader.specs.declared.tables.Version.{Version}
 use Rattle.plant_loader.specs.declared.stations.Arrays.{Arrays as FoundArrays}
 use Rattle.plant_loader.specs.Refusals.{Refusal}
 use Rattle.plant_loader.specs.Given.{texts_in, tables_in}
 use Rattle.plant_loader.specs.declared.tables.TableKind.TheVariants as kinds
 use Rattle.plant_loader.specs.Tables.{table_passes}
-use Rattle.plant_loader.specs.Keys.{texts_at, tables_at}
+use Rattle.plant_loader.specs.Keys.{address_at, texts_at, tables_at}
 use Rattle.plant_loader.specs.InOrder.{with_positions, each_behind}
-use Rattle.plant_loader.specs.Controller.{owner_at, panel_of}
+use Rattle.plant_loader.specs.Controller.{owner_from, sizes_at, panel_of}
+use Rattle.plant_loader.specs.Net.{network_at}
 use Rattle.plant_loader.specs.Drops.{drops_of}
 use Rattle.plant_loader.specs.Pieces.{segments_of}
 use Rattle.plant_loader.specs.Orders.{nameable, orders_of}
@@ -70,12 +73,12 @@ arrays_at place ms = do
   power ← texts_at place power_limit (codes "power") ms
   Ok (arrays_from panel drops segments orders power)
 
--- The plan of a controller from its parts, on a network without a number.
+-- The plan of a controller from its parts.
 abbrev pub plan_of : Owner → List Ref → List OrderRow → List PowerRow → List IoDrop
     → List Segment → ControllerPlan
 plan_of owner panel orders power drops segments = record {
   node = owner.node;
-  network = 0;
+  network = owner.network;
   coils = owner.sizes.coils;
   inputs = owner.sizes.inputs;
   input_registers = owner.sizes.input_registers;
@@ -103,17 +106,22 @@ abbrev pub has_controller : List ControllerPlan → ℕ → Bool
 has_controller plans node = list_any (λ plan. plan.node == node) plans
 
 -- The controller of a table behind those before it: its table, then its node, which none before it
--- has, then its parts.
-unfoldable pub controller_behind : List ControllerPlan → ℕ × Members
+-- has, then its network, which is one of these, then its parts.
+unfoldable pub controller_behind : Version → List NetTable → List ControllerPlan → ℕ × Members
     → Result ControllerPlan Refusal
-controller_behind earlier table = do
+controller_behind version nets earlier table = do
   place ← Ok (controller_place table.0)
-  keys ← table_passes place kinds.Controller table.1
-  owner ← owner_at table.0 table.1
+  keys ← table_passes place (kinds.Controller version) table.1
+  node ← address_at place table.1
+  named ← network_at version nets place table.1
+  sizes ← sizes_at place table.1
   arrays ← arrays_at place table.1
-  fresh ← unless (not (has_controller earlier owner.node)) (BadNode, place)
-  parts_of owner arrays
+  fresh ← unless (not (has_controller earlier node)) (BadNode, place)
+  network ← or_fault (BadNetwork, place) named
+  parts_of (owner_from table.0 node network sizes) arrays
 
--- The controllers of a plant, in file order.
-abbrev pub controllers_of : List Members → Result (List ControllerPlan) Refusal
-controllers_of tables = each_behind controller_behind [] (with_positions tables)
+-- The controllers of a plant on these networks, in file order.
+abbrev pub controllers_of : Version → List NetTable → List Members
+    → Result (List ControllerPlan) Refusal
+controllers_of version nets tables =
+    each_behind (controller_behind version nets) [] (with_positions tables)

@@ -1,11 +1,11 @@
-//! The numbers of a controller's table, and its panel.
+//! The map of a controller, and its panel.
 ghost use Rattle.std.specs.Prelude.{◌≡◌, ◌≤◌, length, map};
 ghost use Rattle.toml.specs.View.{table_view};
 ghost use Rattle.plant_loader.specs.Given.{texts_in};
 ghost use Rattle.plant_loader.specs.Refusals.{Gives};
-ghost use Rattle.plant_loader.specs.Controller.{owner_at, panel_item, panel_of};
+ghost use Rattle.plant_loader.specs.Controller.{sizes_at, panel_item, panel_of};
 
-use crate::keys::{address_at, discrete_size_at, size_at};
+use crate::keys::{discrete_size_at, size_at};
 use crate::owner::Owner;
 use crate::refusal::{LoadEnd, Refusal};
 use cell_text::{only_word, reference_of};
@@ -13,28 +13,20 @@ use plant_types::{List, PANEL_LIMIT, Place, PlantFault, Ref, Sizes};
 use std::alloc::Global;
 use toml::Table;
 
-/// The numbers of the table of the controller at a position: its node, and how many references of
-/// each kind it has.
-#[tactic(auto, unfolding(crate::specs::Controller::owner_at))]
-pub fn owner_at(position: u32, table: &Table) -> Result<Owner, Refusal>
-    ensures { result ≡ owner_at position (table_view table.now) }
+/// How many references of each kind the controller of a table has.
+#[tactic(auto, unfolding(crate::specs::Controller::sizes_at))]
+pub fn sizes_at(place: Place, table: &Table) -> Result<Sizes, Refusal>
+    ensures { result ≡ sizes_at place (table_view table.now) }
 {
-    let place = Place::controller(position);
-    let node = address_at(place, table)?;
     let coils = discrete_size_at(place, "coils", table)?;
     let inputs = discrete_size_at(place, "inputs", table)?;
     let input_registers = size_at(place, "input_registers", table)?;
     let registers = size_at(place, "registers", table)?;
-    let sizes = Sizes {
+    Ok(Sizes {
         coils,
         inputs,
         input_registers,
         registers,
-    };
-    Ok(Owner {
-        position,
-        node,
-        sizes,
     })
 }
 

@@ -6,10 +6,11 @@ ghost use Rattle.plant_loader.specs.Refusals.{Gives};
 ghost use Rattle.plant_loader.specs.Hosts.{has_host, host_behind, hosts_of};
 
 use crate::keys::{address_at, texts_at};
+use crate::net::{NetTable, network_at};
 use crate::refusal::{LoadEnd, host_table_place};
 use crate::requests::requests_of;
 use crate::stations::has_controller;
-use crate::tables::{TableKind, table_passes};
+use crate::tables::{TableKind, Version, table_passes};
 use plant_types::{ControllerPlan, HOST_LIMIT, HostPlan, PlantFault, REQUEST_LIMIT};
 use std::alloc::Global;
 use toml::Table;
@@ -24,45 +25,54 @@ pub fn has_host(hosts: &[HostPlan], node: u8) -> bool
 #[tactic(auto, unfolding(crate::specs::Hosts::host_behind))]
 fn host_behind(
     alloc: Global,
+    version: Version,
+    nets: &[NetTable],
     controllers: &[ControllerPlan],
     earlier: &[HostPlan],
     position: u32,
     table: &Table,
 ) -> Result<HostPlan, LoadEnd>
-    ensures { Gives (λ host. host) result
-        (host_behind controllers.now earlier.now (position, table_view table.now)) }
+    ensures { Gives (λ host. host) result (host_behind version nets.now controllers.now
+        earlier.now (position, table_view table.now)) }
 {
     let place = host_table_place(position);
-    table_passes(place, TableKind::Host, table)?;
+    table_passes(place, TableKind::Host(version), table)?;
     let node = address_at(place, table)?;
+    let named = network_at(version, nets, place, table)?;
     let texts = texts_at(alloc, place, REQUEST_LIMIT, "requests", table)?;
     if has_controller(controllers, node) || has_host(earlier, node) {
         return Err(LoadEnd::Refused(PlantFault::BadNode, place));
     }
-    let requests = requests_of(alloc, node, position, texts.as_slice())?;
+    let Some(network) = named else {
+        return Err(LoadEnd::Refused(PlantFault::BadNetwork, place));
+    };
+    let requests = requests_of(alloc, version, node, position, texts.as_slice())?;
     Ok(HostPlan {
         node,
-        network: 0,
+        network,
         requests,
     })
 }
 
-/// The hosts of a plant by their tables, in file order, beside its controllers.
+/// The hosts of a plant on these networks by their tables, in file order, beside its controllers.
 #[tactic(auto, unfolding(crate::specs::InOrder::each_behind))]
 pub fn hosts_of(
     alloc: Global,
+    version: Version,
+    nets: &[NetTable],
     controllers: &[ControllerPlan],
     tables: &[&Table],
 ) -> Result<Vec<HostPlan>, LoadEnd>
     requires { length tables.now ≤ HOST_LIMIT }
     ensures { Gives (λ hosts. hosts.items) result
-        (hosts_of controllers.now (tables_in tables.now)) }
+        (hosts_of version nets.now controllers.now (tables_in tables.now)) }
 {
     let mut hosts = Vec::new(alloc);
     let mut position = 0;
     for table in tables {
         position += 1;
-        let next = host_behind(alloc, controllers, hosts.as_slice(), position, table)?;
+        let earlier = hosts.as_slice();
+        let next = host_behind(alloc, version, nets, controllers, earlier, position, table)?;
         if hosts.push(next).is_err() {
             return Err(LoadEnd::NoMemory);
         }

@@ -1,5 +1,6 @@
 //! The values at the keys of a table.
-ghost use Rattle.std.specs.Prelude.{◌≡◌, ◌≤◌, length, map, option_map, string_bytes, IfOk, OnOk};
+ghost use Rattle.std.specs.Prelude.{◌≡◌, ◌≤◌, length, map, option_map, string_bytes};
+ghost use Rattle.std.specs.Prelude.{IfOk, OnOk, IfSome};
 ghost use Rattle.std.specs.BTreeMap as tree;
 ghost use Rattle.std.specs.Str.{bytes_eq};
 ghost use Rattle.std.specs.List.{list_any, list_all};
@@ -8,7 +9,7 @@ ghost use Rattle.toml.specs.View.{view, items_view, table_view};
 ghost use Rattle.plant_loader.specs.Given.{tables_in, texts_in};
 ghost use Rattle.plant_loader.specs.Refusals.{Gives, Sees};
 ghost use Rattle.plant_loader.specs.Keys.{has_only, has_each, keys_from, keys_pass, number_within};
-ghost use Rattle.plant_loader.specs.Keys.{InRange, number_at_key, address_at, number_at_or};
+ghost use Rattle.plant_loader.specs.Keys.{InRange, number_from, number_at_key, address_at, number_at_or};
 ghost use Rattle.plant_loader.specs.Keys.{size_at, discrete_size_at, array_at, are_few, items_as};
 ghost use Rattle.plant_loader.specs.Keys.{texts_at, tables_at, table_at};
 
@@ -74,6 +75,21 @@ pub fn keys_pass(
     }
 }
 
+/// A whole number, where it is from low to high.
+pub fn number_from(low: u32, high: u32, number: i64) -> Option<u32>
+    ensures read { result ≡ number_from low high number }
+    ensures within { IfSome result (InRange low high) }
+{
+    let Ok(number) = u32::try_from(number) else {
+        return None;
+    };
+    if low <= number && number <= high {
+        Some(number)
+    } else {
+        None
+    }
+}
+
 /// A whole number from low to high; `fault` is that of another one.
 fn number_within(
     place: Place,
@@ -88,13 +104,9 @@ fn number_within(
     let Some(number) = value.as_integer() else {
         return Err((PlantFault::BadValue, place));
     };
-    let Ok(number) = u32::try_from(number) else {
-        return Err((fault, place));
-    };
-    if low <= number && number <= high {
-        Ok(number)
-    } else {
-        Err((fault, place))
+    match number_from(low, high, number) {
+        Some(number) => Ok(number),
+        None => Err((fault, place)),
     }
 }
 

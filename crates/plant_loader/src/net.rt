@@ -1,35 +1,48 @@
-//! The rules of the network, its members, and the plant as a whole.
-ghost use Rattle.std.specs.Prelude.{◌≡◌, ◌++◌, ◌∷◌, [], codes, map, option_map};
-ghost use Rattle.std.specs.List.{AllByRecursion};
-ghost use Rattle.std.specs.Result.{IfOk};
+//! The networks of a plant: the rules that all share, and the number and the fates of each.
+ghost use Rattle.std.specs.Prelude.{◌≡◌, ◌≤◌, ◌∷◌, [], ◌==◌, codes, length, map, option_map, IfOk};
+ghost use Rattle.std.specs.List.{list_any};
 ghost use Rattle.toml.specs.Data.{get_member};
 ghost use Rattle.toml.specs.View.{view, table_view};
-ghost use Rattle.plant_types.specs.Plans.{IsNode};
+ghost use Rattle.plant_loader.specs.Given.{table_in, tables_in};
 ghost use Rattle.plant_loader.specs.Refusals.{Gives, Makes};
 ghost use Rattle.plant_loader.specs.InOrder.{each_of};
-ghost use Rattle.plant_loader.specs.Net.{fate_of, fates_in, fates_or, rules_in, rules_of};
-ghost use Rattle.plant_loader.specs.Net.{station_nodes, members_of, net_from, plant_from};
-ghost use Rattle.plant_loader.specs.Rising.{by_node};
+ghost use Rattle.plant_loader.specs.Net.{fate_of, fates_in, fates_or, fates_at, rules_at, has_net};
+ghost use Rattle.plant_loader.specs.Net.{net_table, net_behind, net_tables, read_nets, only_net};
+ghost use Rattle.plant_loader.specs.Net.{numbered_nets, nets_in, nets_of, one_of_nets};
+ghost use Rattle.plant_loader.specs.Net.{network_named, network_at};
 
-use crate::keys::{number_at_or, value_at};
-use crate::refusal::LoadEnd;
-use crate::tables::{TableKind, table_passes};
+use crate::keys::{number_at_key, number_at_or, number_from, value_at};
+use crate::refusal::{LoadEnd, Refusal, net_place, network_place};
+use crate::tables::{TableKind, Version, table_passes};
 use plant_types::{
-    ANSWER_LIMIT, ControllerPlan, FATE_LIMIT, Fate, HOLD_LIMIT, HostPlan, List, NetPlan, Place,
-    Plant, PlantFault, ROTATION_LIMIT, ROUND_LIMIT,
+    ANSWER_LIMIT, FATE_LIMIT, Fate, HOLD_LIMIT, List, NET_LIMIT, Place, PlantFault, ROTATION_LIMIT,
+    ROUND_LIMIT,
 };
-use std::alloc::{AllocError, Global};
+use std::alloc::Global;
 use std::collections::BTreeMap;
 use toml::{Table, Value};
 
-/// How the network treats its members.
-#[derive(Drop)]
+/// How every network treats its members.
+#[derive(Clone, Copy)]
 pub struct NetRules {
-    fates: List<Fate>,
-    answer: u32,
-    rotations: u32,
-    rounds: u32,
-    holds: u32,
+    pub answer: u32,
+    pub rotations: u32,
+    pub rounds: u32,
+    pub holds: u32,
+}
+
+/// A network by its number, which is 0 in version 1, and what becomes of its transmissions.
+#[derive(Drop)]
+pub struct NetTable {
+    pub number: u8,
+    pub fates: List<Fate>,
+}
+
+/// The rules of all networks of a plant, and its networks in file order.
+#[derive(Drop)]
+pub struct Nets {
+    pub rules: NetRules,
+    pub tables: Vec<NetTable>,
 }
 
 fn fate_of(letter: u8) -> Option<Fate>
@@ -85,18 +98,22 @@ fn fates_or(alloc: Global, place: Place, value: Option<&Value>) -> Result<List<F
     fates_in(alloc, place, letters)
 }
 
-#[tactic(auto, unfolding(crate::specs::Net::rules_in))]
-fn rules_in(alloc: Global, place: Place, table: &Table) -> Result<NetRules, LoadEnd>
-    ensures { Gives (λ rules. rules) result (rules_in place (table_view table.now)) }
+fn fates_at(alloc: Global, place: Place, table: &Table) -> Result<List<Fate>, LoadEnd>
+    ensures { Gives (λ fates. fates) result (fates_at place (table_view table.now)) }
 {
-    table_passes(place, TableKind::Net, table)?;
-    let fates = fates_or(alloc, place, value_at(table, "fates"))?;
+    fates_or(alloc, place, value_at(table, "fates"))
+}
+
+#[tactic(auto, unfolding(crate::specs::Net::rules_at))]
+fn rules_at(table: &Table) -> Result<NetRules, Refusal>
+    ensures { result ≡ rules_at (table_view table.now) }
+{
+    let place = net_place();
     let answer = number_at_or(place, "answer", 20, 2, ANSWER_LIMIT, table)?;
     let rotations = number_at_or(place, "rotations", 4, 1, ROTATION_LIMIT, table)?;
     let rounds = number_at_or(place, "rounds", 2, 1, ROUND_LIMIT, table)?;
     let holds = number_at_or(place, "holds", HOLD_LIMIT, 1, HOLD_LIMIT, table)?;
     Ok(NetRules {
-        fates,
         answer,
         rotations,
         rounds,
@@ -104,126 +121,161 @@ fn rules_in(alloc: Global, place: Place, table: &Table) -> Result<NetRules, Load
     })
 }
 
-/// The rules of a network by its table, or all defaults.
-pub fn rules_of(alloc: Global, place: Place, table: Option<&Table>) -> Result<NetRules, LoadEnd>
-    ensures { Gives (λ rules. rules) result
-        (rules_of place (option_map (λ t. table_view t.now) table.entry)) }
+/// Whether one of these networks has this number.
+fn has_net(nets: &[NetTable], number: u8) -> bool
+    ensures { result ≡ has_net nets.now number }
 {
-    match table {
-        Some(table) => rules_in(alloc, place, table),
-        None => rules_in(alloc, place, &BTreeMap::new(alloc)),
-    }
+    nets.iter().any(|net| net.number == number)
 }
 
-fn controller_nodes(alloc: Global, plans: &[ControllerPlan]) -> Result<Vec<u8>, LoadEnd>
-    ensures { Makes result (λ nodes. nodes.items ≡ map (λ plan. plan.node) plans.now) }
-{
-    let mut nodes = Vec::new(alloc);
-    for plan in plans {
-        if nodes.push(plan.node).is_err() {
-            return Err(LoadEnd::NoMemory);
-        }
-    }
-    Ok(nodes)
-}
-
-/// These nodes, and those of hosts behind them.
-fn with_hosts(mut nodes: Vec<u8>, hosts: &[HostPlan]) -> Result<Vec<u8>, LoadEnd>
-    ensures { Makes result (λ all. all.items ≡ nodes.items ++ map (λ host. host.node) hosts.now) }
-{
-    for host in hosts {
-        if nodes.push(host.node).is_err() {
-            return Err(LoadEnd::NoMemory);
-        }
-    }
-    Ok(nodes)
-}
-
-fn nodes_rising(mut nodes: Vec<u8>) -> Result<List<u8>, LoadEnd>
-    requires { AllByRecursion IsNode nodes.items }
-    ensures { Makes result (λ rising. rising ≡ by_node (λ node. node) nodes.items) }
-{
-    nodes.sort_by_key(|node| *node)?;
-    Ok(List::from_vec(nodes))
-}
-
-fn members_of(
+#[tactic(auto, unfolding(crate::specs::Net::net_behind))]
+fn net_behind(
     alloc: Global,
-    controllers: &[ControllerPlan],
-    hosts: &[HostPlan],
-) -> Result<List<u8>, LoadEnd>
-    requires { AllByRecursion IsNode (station_nodes controllers.now hosts.now) }
-    ensures { Makes result (λ members. members ≡ members_of controllers.now hosts.now) }
+    earlier: &[NetTable],
+    position: u32,
+    table: &Table,
+) -> Result<NetTable, LoadEnd>
+    ensures { Gives (λ net. net) result
+        (net_behind earlier.now (position, table_view table.now)) }
 {
-    let nodes = controller_nodes(alloc, controllers)?;
-    let nodes = with_hosts(nodes, hosts)?;
-    nodes_rising(nodes)
+    let place = network_place(position);
+    let most = u32::from(NET_LIMIT);
+    table_passes(place, TableKind::Network, table)?;
+    let number = number_at_key(place, PlantFault::BadValue, "number", 1, most, table)? as u8;
+    let fates = fates_at(alloc, place, table)?;
+    if has_net(earlier, number) {
+        return Err(LoadEnd::Refused(PlantFault::BadNetwork, place));
+    }
+    Ok(NetTable { number, fates })
 }
 
-fn controllers_by_node(mut plans: Vec<ControllerPlan>) -> Result<List<ControllerPlan>, LoadEnd>
-    requires { AllByRecursion (λ plan. IsNode plan.node) plans.items }
-    ensures { Makes result (λ rising. rising ≡ by_node (λ plan. plan.node) plans.items) }
+/// The networks of tables, in file order.
+#[tactic(auto, unfolding(crate::specs::InOrder::each_behind))]
+fn net_tables(alloc: Global, tables: &[&Table]) -> Result<Vec<NetTable>, LoadEnd>
+    requires { length tables.now ≤ NET_LIMIT }
+    ensures { Gives (λ nets. nets.items) result (net_tables (tables_in tables.now)) }
 {
-    plans.sort_by_key(|plan| plan.node)?;
-    Ok(List::from_vec(plans))
-}
-
-fn hosts_by_node(mut hosts: Vec<HostPlan>) -> Result<List<HostPlan>, LoadEnd>
-    requires { AllByRecursion (λ host. IsNode host.node) hosts.items }
-    ensures { Makes result (λ rising. rising ≡ by_node (λ host. host.node) hosts.items) }
-{
-    hosts.sort_by_key(|host| host.node)?;
-    Ok(List::from_vec(hosts))
-}
-
-/// The list of the one network, of these members and rules.
-fn nets_from(alloc: Global, members: List<u8>, rules: NetRules) -> Result<List<NetPlan>, AllocError>
-    ensures { IfOk result (λ nets. nets ≡ net_from rules members ∷ []) }
-{
-    let NetRules {
-        fates,
-        answer,
-        rotations,
-        rounds,
-        holds,
-    } = rules;
-    let mut nets = List::new(alloc);
-    nets.push(NetPlan {
-        number: 0,
-        members,
-        bridges: List::new(alloc),
-        fates,
-        answer,
-        rotations,
-        rounds,
-        holds,
-    })?;
+    let mut nets = Vec::new(alloc);
+    let mut position = 0;
+    for table in tables {
+        position += 1;
+        let next = net_behind(alloc, nets.as_slice(), position, table)?;
+        if nets.push(next).is_err() {
+            return Err(LoadEnd::NoMemory);
+        }
+    }
     Ok(nets)
 }
 
-/// The plant of controllers and hosts in file order.
-pub fn plant_from(
-    alloc: Global,
-    scan_time: u32,
-    watchdog: u32,
-    rules: NetRules,
-    controllers: Vec<ControllerPlan>,
-    hosts: Vec<HostPlan>,
-) -> Result<Plant, LoadEnd>
-    requires nodes { AllByRecursion IsNode (station_nodes controllers.items hosts.items) }
-    requires controllers { AllByRecursion (λ plan. IsNode plan.node) controllers.items }
-    requires hosts { AllByRecursion (λ host. IsNode host.node) hosts.items }
-    ensures { Makes result (λ plant. plant
-        ≡ plant_from scan_time watchdog rules controllers.items hosts.items) }
+/// The list of a network without a number.
+fn one_table(alloc: Global, fates: List<Fate>) -> Result<Vec<NetTable>, LoadEnd>
+    ensures { Makes result (λ tables. tables.items ≡ net_table 0 fates ∷ []) }
 {
-    let members = members_of(alloc, controllers.as_slice(), hosts.as_slice())?;
-    let nets = nets_from(alloc, members, rules)?;
-    Ok(Plant {
-        scan_time,
-        watchdog,
-        nets,
-        controllers: controllers_by_node(controllers)?,
-        hosts: hosts_by_node(hosts)?,
-        bridges: List::new(alloc),
-    })
+    let mut tables = Vec::new(alloc);
+    if tables.push(NetTable { number: 0, fates }).is_err() {
+        return Err(LoadEnd::NoMemory);
+    }
+    Ok(tables)
+}
+
+#[tactic(auto, unfolding(crate::specs::Net::only_net))]
+fn only_net(alloc: Global, shared: &Table) -> Result<Nets, LoadEnd>
+    ensures { Gives read_nets result (only_net (table_view shared.now)) }
+{
+    let place = net_place();
+    table_passes(place, TableKind::Net(Version::One), shared)?;
+    let fates = fates_at(alloc, place, shared)?;
+    let rules = rules_at(shared)?;
+    let tables = one_table(alloc, fates)?;
+    Ok(Nets { rules, tables })
+}
+
+#[tactic(auto, unfolding(crate::specs::Net::numbered_nets))]
+fn numbered_nets(alloc: Global, shared: &Table, tables: &[&Table]) -> Result<Nets, LoadEnd>
+    requires { length tables.now ≤ NET_LIMIT }
+    ensures { Gives read_nets result
+        (numbered_nets (table_view shared.now) (tables_in tables.now)) }
+{
+    table_passes(net_place(), TableKind::Net(Version::Two), shared)?;
+    let rules = rules_at(shared)?;
+    let tables = net_tables(alloc, tables)?;
+    Ok(Nets { rules, tables })
+}
+
+fn nets_in(
+    alloc: Global,
+    version: Version,
+    shared: &Table,
+    tables: &[&Table],
+) -> Result<Nets, LoadEnd>
+    requires { length tables.now ≤ NET_LIMIT }
+    ensures { Gives read_nets result
+        (nets_in version (table_view shared.now) (tables_in tables.now)) }
+{
+    match version {
+        Version::One => only_net(alloc, shared),
+        Version::Two => numbered_nets(alloc, shared, tables),
+    }
+}
+
+/// The networks of a plant by the table of what all share, or its defaults, and those of each.
+pub fn nets_of(
+    alloc: Global,
+    version: Version,
+    shared: Option<&Table>,
+    tables: &[&Table],
+) -> Result<Nets, LoadEnd>
+    requires { length tables.now ≤ NET_LIMIT }
+    ensures { Gives read_nets result
+        (nets_of version (table_in shared.entry) (tables_in tables.now)) }
+{
+    match shared {
+        Some(shared) => nets_in(alloc, version, shared, tables),
+        None => nets_in(alloc, version, &BTreeMap::new(alloc), tables),
+    }
+}
+
+/// This number, where it is that of one of these networks.
+pub fn one_of_nets(nets: &[NetTable], number: u32) -> Option<u8>
+    requires { number ≤ NET_LIMIT }
+    ensures { result ≡ one_of_nets nets.now number }
+{
+    let number = number as u8;
+    if has_net(nets, number) {
+        Some(number)
+    } else {
+        None
+    }
+}
+
+/// The network that the table of a station names, if there is one.
+#[tactic(auto, unfolding(crate::specs::Net::network_named))]
+fn network_named(nets: &[NetTable], place: Place, table: &Table) -> Result<Option<u8>, Refusal>
+    ensures { result ≡ network_named nets.now place (table_view table.now) }
+{
+    let Some(value) = value_at(table, "network") else {
+        return Err((PlantFault::BadKey, place));
+    };
+    let Some(number) = value.as_integer() else {
+        return Err((PlantFault::BadValue, place));
+    };
+    match number_from(1, u32::from(NET_LIMIT), number) {
+        Some(number) => Ok(one_of_nets(nets, number)),
+        None => Ok(None),
+    }
+}
+
+/// The network of a station: in version 1 the one that there is.
+pub fn network_at(
+    version: Version,
+    nets: &[NetTable],
+    place: Place,
+    table: &Table,
+) -> Result<Option<u8>, Refusal>
+    ensures { result ≡ network_at version nets.now place (table_view table.now) }
+{
+    match version {
+        Version::One => Ok(Some(0)),
+        Version::Two => network_named(nets, place, table),
+    }
 }

@@ -1,25 +1,26 @@
 //! The whole file.
-ghost use Rattle.std.specs.Prelude.{◌≡◌, ◌≤◌, length, IfOk};
+ghost use Rattle.std.specs.Prelude.{◌≡◌, IfOk};
 ghost use Rattle.std.specs.List.{All};
 ghost use Rattle.toml.specs.View.{table_view};
 ghost use Rattle.plant_types.specs.Plans.{IsPlant};
 ghost use Rattle.cell_text.specs.Steps.{or_fault};
-ghost use Rattle.plant_loader.specs.Given.{tables_in};
-ghost use Rattle.plant_loader.specs.Refusals.{Gives, bad_toml, plant_place};
-ghost use Rattle.plant_loader.specs.Plant.{controller_tables, document_of, version_of, plant_at};
-ghost use Rattle.plant_loader.specs.Plant.{plant_in, plant_of};
+ghost use Rattle.plant_loader.specs.Refusals.{Gives, bad_toml};
+ghost use Rattle.plant_loader.specs.Plant.{document_of, version_from, is_read, version_of, read_top};
+ghost use Rattle.plant_loader.specs.Plant.{HasFewTables, plant_with, plant_in, plant_at, plant_of};
 ghost use Rattle.traffic_cop.specs.Rows.{IsRunnablePlan};
-ghost use Rattle.plant_loader.specs.Accepted.{PassesDropTests};
+ghost use Rattle.plant_loader.specs.Accepted.{PassesDropTests, IsOfVersionOne};
 
+use crate::addresses::station_addresses;
+use crate::bridges::bridges_of;
 use crate::hosts::hosts_of;
-use crate::keys::{number_at_or, table_at, tables_at, value_at};
-use crate::net::{plant_from, rules_of};
-use crate::refusal::{LoadEnd, Refusal, bad_toml, net_place};
+use crate::keys::value_at;
+use crate::net::nets_of;
+use crate::refusal::{LoadEnd, Refusal, bad_toml};
 use crate::stations::controllers_of;
-use crate::tables::{TableKind, Version, table_passes};
-use plant_types::{
-    CONTROLLER_LIMIT, HOST_LIMIT, Place, Plant, PlantFault, SCAN_TIME_LIMIT, WATCHDOG_LIMIT,
-};
+use crate::tables::Version;
+use crate::top::{TopTable, top_at};
+use crate::whole::{have_stations, plant_from};
+use plant_types::{Place, Plant, PlantFault};
 use std::alloc::Global;
 use std::str;
 use toml::Table;
@@ -42,32 +43,73 @@ fn document(alloc: Global, bytes: &[u8]) -> Result<Table, LoadEnd>
     }
 }
 
+/// The version of a number, where it is one of a version.
+fn version_from(number: i64) -> Option<Version>
+    ensures { result ≡ version_from number }
+{
+    match number {
+        1 => Some(Version::One),
+        2 => Some(Version::Two),
+        _ => None,
+    }
+}
+
+/// Whether a version is read, where `newest` is the newest that is.
+fn is_read(newest: Version, version: Version) -> bool
+    ensures { result ≡ is_read newest version }
+{
+    match (newest, version) {
+        (Version::One, Version::Two) => false,
+        _ => true,
+    }
+}
+
 /// The version that a document names.
 #[tactic(auto, unfolding(crate::specs::Plant::version_of))]
-fn version_of(top: &Table) -> Result<Version, Refusal>
-    ensures { result ≡ version_of (table_view top.now) }
+fn version_of(newest: Version, top: &Table) -> Result<Version, Refusal>
+    ensures { result ≡ version_of newest (table_view top.now) }
 {
     let Some(value) = value_at(top, "version") else {
         return Err((PlantFault::BadKey, Place::PLANT));
     };
-    match value.as_integer() {
-        Some(1) => Ok(Version::One),
-        Some(_) => Err((PlantFault::BadVersion, Place::PLANT)),
-        None => Err((PlantFault::BadValue, Place::PLANT)),
+    let Some(number) = value.as_integer() else {
+        return Err((PlantFault::BadValue, Place::PLANT));
+    };
+    let bad_version = (PlantFault::BadVersion, Place::PLANT);
+    let Some(version) = version_from(number) else {
+        return Err(bad_version);
+    };
+    if is_read(newest, version) {
+        Ok(version)
+    } else {
+        Err(bad_version)
     }
 }
 
-/// The tables of the array at `controller`, which must have one at least.
-fn controller_tables(alloc: Global, top: &Table) -> Result<Vec<&Table>, LoadEnd>
-    ensures read { Gives (λ tables. tables_in tables.items) result
-        (controller_tables (table_view top.now)) }
-    ensures few { IfOk result (λ tables. length tables.items ≤ CONTROLLER_LIMIT) }
+/// The plant of the tables and the texts of a document's own table.
+#[tactic(auto, unfolding(crate::specs::Plant::plant_with))]
+fn plant_with(alloc: Global, version: Version, top: &TopTable) -> Result<Plant, LoadEnd>
+    requires { HasFewTables top.now }
+    ensures { Gives (λ plant. plant) result (plant_with version (read_top top.now)) }
 {
-    let tables = tables_at(alloc, Place::PLANT, CONTROLLER_LIMIT, "controller", top)?;
-    if tables.is_empty() {
-        return Err(LoadEnd::Refused(PlantFault::BadValue, Place::PLANT));
-    }
-    Ok(tables)
+    let nets = nets_of(alloc, version, top.shared, top.networks.as_slice())?;
+    let tables = nets.tables.as_slice();
+    let controllers = controllers_of(alloc, version, tables, top.controllers.as_slice())?;
+    let placed = controllers.as_slice();
+    let hosts = hosts_of(alloc, version, tables, placed, top.hosts.as_slice())?;
+    let stations = station_addresses(alloc, placed, hosts.as_slice())?;
+    let bridges = bridges_of(alloc, tables, stations.as_slice(), top.bridges.as_slice())?;
+    have_stations(stations.as_slice(), tables)?;
+    let (scan_time, watchdog) = (top.scan_time, top.watchdog);
+    plant_from(
+        alloc,
+        scan_time,
+        watchdog,
+        nets,
+        controllers,
+        hosts,
+        bridges,
+    )
 }
 
 /// The plant of a document of a version.
@@ -75,37 +117,31 @@ fn controller_tables(alloc: Global, top: &Table) -> Result<Vec<&Table>, LoadEnd>
 fn plant_in(alloc: Global, version: Version, top: &Table) -> Result<Plant, LoadEnd>
     ensures { Gives (λ plant. plant) result (plant_in version (table_view top.now)) }
 {
-    table_passes(Place::PLANT, TableKind::Plant(version), top)?;
-    let scan_time = number_at_or(Place::PLANT, "scan_time", 10, 1, SCAN_TIME_LIMIT, top)?;
-    let watchdog = number_at_or(Place::PLANT, "watchdog", 500, 1, WATCHDOG_LIMIT, top)?;
-    let net = table_at(Place::PLANT, "net", top)?;
-    let controllers = controller_tables(alloc, top)?;
-    let hosts = tables_at(alloc, Place::PLANT, HOST_LIMIT, "host", top)?;
-    let rules = rules_of(alloc, net_place(), net)?;
-    let controllers = controllers_of(alloc, controllers.as_slice())?;
-    let hosts = hosts_of(alloc, controllers.as_slice(), hosts.as_slice())?;
-    plant_from(alloc, scan_time, watchdog, rules, controllers, hosts)
+    let table = top_at(alloc, version, top)?;
+    plant_with(alloc, version, &table)
 }
 
 /// The plant of a document, whose version is tested before all else.
 #[tactic(auto, unfolding(crate::specs::Plant::plant_at))]
-fn plant_at(alloc: Global, top: &Table) -> Result<Plant, LoadEnd>
-    ensures { Gives (λ plant. plant) result (plant_at (table_view top.now)) }
+fn plant_at(alloc: Global, newest: Version, top: &Table) -> Result<Plant, LoadEnd>
+    ensures { Gives (λ plant. plant) result (plant_at newest (table_view top.now)) }
 {
-    let version = version_of(top)?;
+    let version = version_of(newest, top)?;
     plant_in(alloc, version, top)
 }
 
-/// Reads a plant. The answer is the plant of the file, or its first fault.
+/// Reads a plant of a version up to the newest that is read. The answer is the plant of the file, or
+/// its first fault.
 #[tactic(auto, unfolding(crate::specs::Plant::plant_of))]
-pub fn load(alloc: Global, bytes: &[u8]) -> Result<Plant, LoadEnd>
-    ensures plant { Gives (λ plant. plant) result (plant_of bytes.now) }
+pub fn load(alloc: Global, newest: Version, bytes: &[u8]) -> Result<Plant, LoadEnd>
+    ensures plant { Gives (λ plant. plant) result (plant_of newest bytes.now) }
 
     // What is loaded passes its tests, and can be run.
     ensures checked { IfOk result (λ plant. IsPlant plant) }
+    ensures first { newest ≡ Version.One → IfOk result (λ plant. IsOfVersionOne plant) }
     ensures drops { IfOk result (λ plant. All PassesDropTests plant.controllers) }
     ensures runnable { IfOk result (λ plant. All IsRunnablePlan plant.controllers) }
 {
     let top = document(alloc, bytes)?;
-    plant_at(alloc, &top)
+    plant_at(alloc, newest, &top)
 }

@@ -1,8 +1,8 @@
 //! How loading ends without a plant.
 ghost use Rattle.std.specs.Prelude.{◌≡◌};
 ghost use Rattle.plant_loader.specs.declared.refusal.LoadEnd.TheVariants.{Refused, NoMemory};
-ghost use Rattle.plant_loader.specs.Refusals.{Refusal, plant_place, net_place, host_table_place};
-ghost use Rattle.plant_loader.specs.Refusals.{request_place};
+ghost use Rattle.plant_loader.specs.Refusals.{Refusal, plant_place, net_place, network_place};
+ghost use Rattle.plant_loader.specs.Refusals.{host_table_place, request_place, bridge_place};
 
 use plant_types::{Part, Place, PlantFault};
 use std::alloc::AllocError;
@@ -42,13 +42,23 @@ pub fn bad_toml() -> LoadEnd
     LoadEnd::Refused(PlantFault::BadToml, Place::PLANT)
 }
 
-/// The table of the network.
+/// The table of what all networks share.
 pub fn net_place() -> Place
     ensures { result ≡ net_place }
 {
     Place {
         part: Part::Net,
         at: [0; 4],
+    }
+}
+
+/// The table of one network.
+pub fn network_place(network: u32) -> Place
+    ensures { result ≡ network_place network }
+{
+    Place {
+        part: Part::Network,
+        at: [network, 0, 0, 0],
     }
 }
 
@@ -69,5 +79,15 @@ pub fn request_place(host: u32, request: u32) -> Place
     Place {
         part: Part::HostRequest,
         at: [host, request, 0, 0],
+    }
+}
+
+/// The text of a bridge.
+pub fn bridge_place(bridge: u32) -> Place
+    ensures { result ≡ bridge_place bridge }
+{
+    Place {
+        part: Part::Bridge,
+        at: [bridge, 0, 0, 0],
     }
 }

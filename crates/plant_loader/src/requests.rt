@@ -6,23 +6,23 @@ ghost use Rattle.plant_types.specs.Words.{pdu_of};
 ghost use Rattle.plant_loader.specs.Given.{texts_in};
 ghost use Rattle.plant_loader.specs.Hex.{is_hex_digit, hex_pairs};
 ghost use Rattle.plant_loader.specs.Refusals.{Gives, Makes};
-ghost use Rattle.plant_loader.specs.Requests.{request_in, request_words, pdu_in, target_in};
+ghost use Rattle.plant_loader.specs.Requests.{request_in, request_words, pdu_in};
 ghost use Rattle.plant_loader.specs.Requests.{host_request, requests_of};
 
 use crate::hex::{are_hex_digits, hex_digit};
-use crate::numerals::{is_numeral, numeral_within};
+use crate::numerals::numeral_within;
 use crate::refusal::{LoadEnd, request_place};
+use crate::routes::{is_route, route_from};
+use crate::tables::Version;
 use cell_text::next_word;
-use plant_types::{
-    DUE_LIMIT, HostAsk, List, NODE_LIMIT, Pdu, Place, PlantFault, REQUEST_LIMIT, Route,
-};
+use plant_types::{DUE_LIMIT, HostAsk, List, Pdu, Place, PlantFault, REQUEST_LIMIT};
 use std::alloc::Global;
 
 /// The three words of a request.
 #[derive(Clone, Copy)]
 struct RequestWords<'a> {
     hold: &'a [u8],
-    to: &'a [u8],
+    route: &'a [u8],
     pdu: &'a [u8],
 }
 
@@ -30,12 +30,12 @@ fn request_words(text: &[u8]) -> Option<RequestWords<'_>>
     ensures { option_map request_in result ≡ request_words (text_words text.now) }
 {
     let (hold, rest) = next_word(text)?;
-    let (to, rest) = next_word(rest)?;
+    let (route, rest) = next_word(rest)?;
     let (pdu, rest) = next_word(rest)?;
     if next_word(rest).is_some() {
         return None;
     }
-    Some(RequestWords { hold, to, pdu })
+    Some(RequestWords { hold, route, pdu })
 }
 
 /// The bytes of hexadecimal digits, two for each.
@@ -69,21 +69,15 @@ fn pdu_in(alloc: Global, place: Place, word: &[u8]) -> Result<Pdu, LoadEnd>
     }
 }
 
-/// A node that is asked: another one than the host's own.
-fn target_in(node: u8, word: &[u8]) -> Option<u8>
-    ensures { result ≡ target_in node word.now }
-{
-    let to = numeral_within(1, u32::from(NODE_LIMIT), word)?;
-    if to == u32::from(node) {
-        None
-    } else {
-        Some(to as u8)
-    }
-}
-
 #[tactic(auto, unfolding(crate::specs::Requests::host_request))]
-fn host_request(alloc: Global, node: u8, place: Place, text: &str) -> Result<HostAsk, LoadEnd>
-    ensures { Gives (λ ask. ask) result (host_request node place text.now) }
+fn host_request(
+    alloc: Global,
+    version: Version,
+    node: u8,
+    place: Place,
+    text: &str,
+) -> Result<HostAsk, LoadEnd>
+    ensures { Gives (λ ask. ask) result (host_request version node place text.now) }
 {
     let bad_value = LoadEnd::Refused(PlantFault::BadValue, place);
     let Some(words) = request_words(text.as_bytes()) else {
@@ -92,32 +86,33 @@ fn host_request(alloc: Global, node: u8, place: Place, text: &str) -> Result<Hos
     let Some(hold) = numeral_within(1, DUE_LIMIT, words.hold) else {
         return Err(bad_value);
     };
-    if !is_numeral(words.to) {
+    if !is_route(version, words.route) {
         return Err(bad_value);
     }
     let pdu = pdu_in(alloc, place, words.pdu)?;
-    let Some(to) = target_in(node, words.to) else {
+    let Some(route) = route_from(node, words.route) else {
         return Err(LoadEnd::Refused(PlantFault::BadNode, place));
     };
-    let route = Route::of(&[to]);
     Ok(HostAsk { hold, route, pdu })
 }
 
 /// The requests of the host of a node at a position.
 pub fn requests_of(
     alloc: Global,
+    version: Version,
     node: u8,
     host: u32,
     texts: &[&str],
 ) -> Result<List<HostAsk>, LoadEnd>
     requires { length texts.now ≤ REQUEST_LIMIT }
-    ensures { Gives (λ asks. asks) result (requests_of node host (texts_in texts.now)) }
+    ensures { Gives (λ asks. asks) result (requests_of version node host (texts_in texts.now)) }
 {
     let mut asks = List::new(alloc);
     let mut number = 0;
     for text in texts {
         number += 1;
-        let ask = host_request(alloc, node, request_place(host, number), text)?;
+        let place = request_place(host, number);
+        let ask = host_request(alloc, version, node, place, text)?;
         asks.push(ask)?;
     }
     Ok(asks)

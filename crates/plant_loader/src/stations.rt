@@ -7,15 +7,16 @@ ghost use Rattle.plant_loader.specs.Refusals.{Gives};
 ghost use Rattle.plant_loader.specs.Stations.{read_arrays, HasFewItems, arrays_at, parts_of};
 ghost use Rattle.plant_loader.specs.Stations.{has_controller, controller_behind, controllers_of};
 
-use crate::controller::{owner_at, panel_of};
+use crate::controller::{panel_of, sizes_at};
 use crate::drops::drops_of;
 use crate::failures::power_rows_of;
-use crate::keys::{tables_at, texts_at};
+use crate::keys::{address_at, tables_at, texts_at};
+use crate::net::{NetTable, network_at};
 use crate::orders::orders_of;
 use crate::owner::Owner;
 use crate::pieces::segments_of;
 use crate::refusal::LoadEnd;
-use crate::tables::{TableKind, table_passes};
+use crate::tables::{TableKind, Version, table_passes};
 use plant_types::{
     CONTROLLER_LIMIT, ControllerPlan, DROP_LIMIT, ORDER_LIMIT, PANEL_LIMIT, POWER_LIMIT, Place,
     PlantFault, SEGMENT_LIMIT,
@@ -71,7 +72,7 @@ fn parts_of(alloc: Global, owner: Owner, arrays: &Arrays) -> Result<ControllerPl
     let panel = panel_of(alloc, owner, arrays.panel.as_slice())?;
     Ok(ControllerPlan {
         node: owner.node,
-        network: 0,
+        network: owner.network,
         coils: owner.sizes.coils,
         inputs: owner.sizes.inputs,
         input_registers: owner.sizes.input_registers,
@@ -94,35 +95,53 @@ pub fn has_controller(plans: &[ControllerPlan], node: u8) -> bool
 #[tactic(auto, unfolding(crate::specs::Stations::controller_behind))]
 fn controller_behind(
     alloc: Global,
+    version: Version,
+    nets: &[NetTable],
     earlier: &[ControllerPlan],
     position: u32,
     table: &Table,
 ) -> Result<ControllerPlan, LoadEnd>
     ensures { Gives (λ plan. plan) result
-        (controller_behind earlier.now (position, table_view table.now)) }
+        (controller_behind version nets.now earlier.now (position, table_view table.now)) }
 {
     let place = Place::controller(position);
-    table_passes(place, TableKind::Controller, table)?;
-    let owner = owner_at(position, table)?;
+    table_passes(place, TableKind::Controller(version), table)?;
+    let node = address_at(place, table)?;
+    let named = network_at(version, nets, place, table)?;
+    let sizes = sizes_at(place, table)?;
     let arrays = arrays_at(alloc, place, table)?;
-    if has_controller(earlier, owner.node) {
+    if has_controller(earlier, node) {
         return Err(LoadEnd::Refused(PlantFault::BadNode, place));
     }
+    let Some(network) = named else {
+        return Err(LoadEnd::Refused(PlantFault::BadNetwork, place));
+    };
+    let owner = Owner {
+        position,
+        node,
+        network,
+        sizes,
+    };
     parts_of(alloc, owner, &arrays)
 }
 
-/// The controllers of a plant by their tables, in file order.
+/// The controllers of a plant on these networks by their tables, in file order.
 #[tactic(auto, unfolding(crate::specs::InOrder::each_behind))]
-pub fn controllers_of(alloc: Global, tables: &[&Table]) -> Result<Vec<ControllerPlan>, LoadEnd>
+pub fn controllers_of(
+    alloc: Global,
+    version: Version,
+    nets: &[NetTable],
+    tables: &[&Table],
+) -> Result<Vec<ControllerPlan>, LoadEnd>
     requires { length tables.now ≤ CONTROLLER_LIMIT }
     ensures { Gives (λ plans. plans.items) result
-        (controllers_of (tables_in tables.now)) }
+        (controllers_of version nets.now (tables_in tables.now)) }
 {
     let mut plans = Vec::new(alloc);
     let mut position = 0;
     for table in tables {
         position += 1;
-        let next = controller_behind(alloc, plans.as_slice(), position, table)?;
+        let next = controller_behind(alloc, version, nets, plans.as_slice(), position, table)?;
         if plans.push(next).is_err() {
             return Err(LoadEnd::NoMemory);
         }

@@ -13,4 +13,4 @@ pub mod GridLemmas
 pub mod StandingLemmas
 pub mod PlanLemmas
 pub mod PassingLemmas
-pub mod OneNet
+pub mod Rising

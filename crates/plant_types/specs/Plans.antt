@@ -2,8 +2,8 @@
 -- Planning and Installation Guide; all else is this project's own.
 use Rattle.std.specs.Prelude.{◌≡◌, ◌≢◌, ◌≤◌, ◌==◌, ℕ, Bool, false, cond, nat_lt, nat_eq, List, []}
 use Rattle.std.specs.Prelude.{◌∷◌, ◌++◌, length, map, filter, flat_map, Some, Ok, slice_get}
-use Rattle.std.specs.Prelude.{slice_index_or, IsPermutation}
-use Rattle.std.specs.List.{All, Contains, IsDistinct}
+use Rattle.std.specs.Prelude.{slice_index_or, unwrap_or, IsPermutation}
+use Rattle.std.specs.List.{All, Contains, IsDistinct, find, list_any}
 use Rattle.std.specs.List.Sorted.{IsStrictlyIncreasing}
 use Rattle.plant_types.specs.declared.net.NetPlan.{NetPlan}
 use Rattle.plant_types.specs.declared.net.BridgePlan.{BridgePlan}
@@ -146,18 +146,12 @@ pub record IsBridgeOf (plant : Plant) (bridge : BridgePlan) : Type 0 where
   pub left_there : Contains (net_numbers plant) bridge.left_net
   pub right_there : Contains (net_numbers plant) bridge.right_net
 
--- A plant has one network, which has no number, and no bridge. As yet each has.
-pub record IsOfOneNet (plant : Plant) : Type 0 where
-  pub net : net_numbers plant ≡ 0 ∷ []
-  pub no_bridge : plant.bridges ≡ []
-
 -- A plant: its networks rise by number, its controllers and its hosts by node, and its bridges by
 -- left address; each controller and host is on one of its networks, each address stands once, and
 -- each number is in its range. The tests of drops are not among these.
 pub record IsPlant (plant : Plant) : Type 0 where
   pub scan_time : IsFromTo 1 scan_time_limit plant.scan_time
   pub watchdog : IsFromTo 1 watchdog_limit plant.watchdog
-  pub alone : IsOfOneNet plant
   pub nets : All (IsNetOf plant) plant.nets
   pub nets_rise : IsStrictlyIncreasing (net_numbers plant)
   pub count : IsFromTo 1 controller_limit (length plant.controllers)
@@ -174,9 +168,9 @@ pub record IsPlant (plant : Plant) : Type 0 where
   pub bridges_rise : IsStrictlyIncreasing (map (λ bridge. bridge.left) plant.bridges)
   pub once : IsDistinct nat_eq (controller_nodes plant ++ host_nodes plant ++ end_nodes plant)
 
--- The network with the least number; without one, none is there.
-abbrev pub first_net : Plant → NetPlan
-first_net plant = slice_index_or plant.nets 0 (record {
+-- No network.
+abbrev pub no_net : NetPlan
+no_net = record {
   number = 0;
   members = [];
   bridges = [];
@@ -185,4 +179,17 @@ first_net plant = slice_index_or plant.nets 0 (record {
   rotations = 0;
   rounds = 0;
   holds = 0;
-})
+}
+
+-- The network with the least number; without one, none is there.
+abbrev pub first_net : Plant → NetPlan
+first_net plant = slice_index_or plant.nets 0 no_net
+
+-- A node is a member of a network.
+abbrev pub has_member : ℕ → NetPlan → Bool
+has_member node net = list_any (λ member. member == node) net.members
+
+-- The network of which a node is a member; each node of a plant is one of just one. Another node has
+-- none.
+abbrev pub net_of : Plant → ℕ → NetPlan
+net_of plant node = unwrap_or (find (has_member node) plant.nets) no_net

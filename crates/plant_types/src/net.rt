@@ -1,4 +1,4 @@
-//! The Modbus Plus network of a plant, and its hosts.
+//! The Modbus Plus networks of a plant, its bridges and its hosts.
 ghost use Rattle.std.specs.Prelude.{◌≡◌, true, All, Contains};
 ghost use Rattle.std.specs.List.Sorted.{IsStrictlyIncreasing};
 ghost use Rattle.plant_types.specs.Plans.{IsNode, IsRouteFrom, is_routed, AreMembers, AreBridges};
@@ -19,7 +19,7 @@ pub enum Fate {
     A,
 }
 
-/// The ring: its members, and how it treats them. All but the members is this project's own.
+/// A network: its members, and how its ring treats them. All but the members is this project's own.
 #[derive(Drop)]
 pub struct NetPlan {
     /// 1 to 8; 0 in a plant file of version 1.

@@ -1,6 +1,7 @@
 //! The plan of a plant.
-ghost use Rattle.std.specs.Prelude.{◌≡◌, ◌≤◌, length};
-ghost use Rattle.plant_types.specs.Plans.{first_net};
+ghost use Rattle.std.specs.Prelude.{◌≡◌, ◌≤◌, length, option_map};
+ghost use Rattle.std.specs.List.{find};
+ghost use Rattle.plant_types.specs.Plans.{first_net, has_member};
 
 use crate::drops::IoDrop;
 use crate::list::List;
@@ -91,6 +92,13 @@ pub struct Plant {
     pub bridges: List<BridgePlan>,
 }
 
+/// Whether a node is a member of a network.
+fn has_member(net: &NetPlan, node: u8) -> bool
+    ensures { result ≡ has_member node net.now }
+{
+    net.members.as_slice().iter().any(|member| *member == node)
+}
+
 impl Plant {
     /// The network with the least number.
     pub fn first_net(&self) -> &NetPlan
@@ -98,5 +106,15 @@ impl Plant {
         ensures { result.now ≡ first_net self.now }
     {
         &self.nets.as_slice()[0]
+    }
+
+    /// The network of which a node is a member, if there is one.
+    pub fn net_of(&self, node: u8) -> Option<&NetPlan>
+        ensures { option_map (λ net. net.now) result ≡ find (has_member node) self.now.nets }
+    {
+        self.nets
+            .as_slice()
+            .iter()
+            .find(|net| has_member(net, node))
     }
 }

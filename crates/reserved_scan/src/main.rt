@@ -8,7 +8,7 @@ ghost use Rattle.joint_history.specs.Runnable.{CanRunPlant};
 
 use anyhow::{Context, Result, anyhow, ensure};
 use controller_core::Controller;
-use plant_loader::{LoadEnd, load};
+use plant_loader::{LoadEnd, Version, load};
 use plant_types::{MOST_SCANS, Plant};
 use std::alloc::{AllocError, Global};
 use std::io::Print;
@@ -90,7 +90,7 @@ fn main(rt: HostRuntime) -> Result<()> {
     let number = u32::from(word.as_str().parse::<u16>()?);
     ensure!(number <= MOST_SCANS, "a plant has 2000 scans");
     let file = io::read_to_string(alloc, rt.reader())?;
-    match load(alloc, file.as_bytes()) {
+    match load(alloc, Version::One, file.as_bytes()) {
         Ok(plant) => print_scans(&rt, alloc, &plant, number),
         Err(LoadEnd::Refused(..)) => Err(anyhow!("the plant is refused")),
         Err(LoadEnd::NoMemory) => Err(AllocError.into()),

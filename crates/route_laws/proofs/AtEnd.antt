@@ -1,7 +1,7 @@
 -- Effects stand at the end of the route of their call.
-use Rattle.std.proofs.Common.{◌≡◌, ◌≢◌, ℕ, zero, suc, ◌≤◌, ◌++◌, Bool, true}
-use Rattle.std.proofs.Common.{List, [], ◌∷◌, length, Option, Some, None, map, refl, sym, ap, get_or}
-use Rattle.std.proofs.Common.{◌∙◌, subst, inl, inr, ⊎_elim, arith}
+use Rattle.std.proofs.Common.{◌≡◌, ◌≢◌, ℕ, zero, suc, ◌≤◌, ◌++◌, Bool, true, List, [], ◌∷◌, length}
+use Rattle.std.proofs.Common.{Option, Some, None, map, refl, sym, ap, get_or, ◌∙◌, subst, inl, inr}
+use Rattle.std.proofs.Common.{⊎_elim, arith}
 use Rattle.std.specs.Prelude.{Contains, filter, if◌then◌else◌, option_map, slice_get, unwrap_or}
 use Rattle.std.specs.Prelude.{◌==◌}
 use Rattle.std.specs.Option.{option_map as map_option}
@@ -40,9 +40,8 @@ use Rattle.host_port.specs.declared.entry.HostEntry.{HostEntry}
 use Rattle.host_port.specs.declared.entry.HostEntry.TheVariants as host_entries
 use Rattle.tied_lists.specs.Own.{own}
 use Rattle.tied_lists.specs.Items.{AController, AHost, Answered, Asked, AtHome, CallSort, Called}
-use Rattle.tied_lists.specs.Items.{Items}
-use Rattle.tied_lists.specs.Items.{OverNet, Station, answered_of, asked_in, asked_of, net_ask}
-use Rattle.tied_lists.specs.Items.{no_items, reply_of, request_of}
+use Rattle.tied_lists.specs.Items.{Items, OverNet, Station, answered_of, asked_in, asked_of}
+use Rattle.tied_lists.specs.Items.{net_ask, no_items, reply_of, request_of}
 use Rattle.tied_lists.specs.Tied.{AsksAreCalls, Tied}
 use Rattle.joint_history.specs.declared.joint.Joint.{Joint}
 use Rattle.joint_history.specs.Effects.{answers_to, effects}
@@ -52,26 +51,29 @@ use Rattle.joint_history.specs.Nets.{noted_on_rings}
 use Rattle.joint_history.specs.Reading.{called_of, host_item_next, host_items_after, host_items_of}
 use Rattle.joint_history.specs.Reading.{item_next, items_after, items_of, sort_of}
 use Rattle.joint_history.proofs.Collected.{CallLaws, history-follows}
-use Rattle.effect_laws.specs.Targets.{TakesEffectAt}
+use Rattle.effect_laws.specs.Places.{TakesEffectAt}
 use Rattle.effect_laws.proofs.Calls.{by-entries, call-facts, is_called}
 use Rattle.effect_laws.proofs.Homes.{acts_at_home}
-use Rattle.effect_laws.proofs.Once.{asks-this, taken-as}
+use Rattle.effect_laws.proofs.Entries.{asks-this, taken-as}
 use Rattle.effect_laws.proofs.Served.{answers_are_taken}
 use Rattle.effect_laws.proofs.Sources.{first-or-behind, in-map, in-none, in-own, of-map, of-own}
+use Rattle.effect_laws.proofs.Sources.{in-mapped}
 use Rattle.route_laws.specs.Ends.{AsksBy, AsksOwnPort, EndsAt}
 use Rattle.route_laws.specs.Laws.{AllEffectsAreAtTheirEnd, SuccessIsOneEffectOnWay}
-use Rattle.route_laws.specs.Networks.{IsNetworked}
+use Rattle.plant_types.specs.Plans.{IsPlant}
 use Rattle.route_laws.specs.Ways.{SentOn, names_from, names_on_way, sent_on_in}
-use Rattle.route_laws.proofs.Found.{found-effect, part-of}
+use Rattle.effect_laws.proofs.Found.{found-effect, part-of}
 use Rattle.route_laws.proofs.Homes.{node-alone}
 use Rattle.route_laws.proofs.Hops.{first-is, hop, partner, reached}
-use Rattle.route_laws.proofs.Members.{all_nodes, times}
+use Rattle.net_laws.proofs.Members.{all_nodes, times}
+use Rattle.route_laws.proofs.Made.{IsMadeAs, home-was-made, requested-made}
 use Rattle.route_laws.proofs.Once.{is_old}
 use Rattle.route_laws.proofs.Requests.{IsLast, Requested, controller-last, host-last, noted-by}
 use Rattle.route_laws.proofs.Requests.{port-taken, port-took, same-request, take-requested}
 use Rattle.route_laws.proofs.Requests.{requested-as, taken-last}
-use Rattle.route_laws.proofs.Rings.{makers-stand, posts-own}
-use Rattle.route_laws.proofs.Sides.{in-mapped, of-filter, post-of}
+use Rattle.route_laws.proofs.Posts.{makers-stand, posts-own}
+use Rattle.effect_laws.proofs.Words.{post-of}
+use Rattle.route_laws.proofs.Sides.{of-filter}
 
 -- ---- calls of a list
 
@@ -202,7 +204,7 @@ calls-own laws fixed h legal =
 
 -- ---- what a call asks
 
-module _ (laws : CallLaws) (plant : Plant) (scans : ℕ) (joint : Joint) (is : IsNetworked plant)
+module _ (laws : CallLaws) (plant : Plant) (scans : ℕ) (joint : Joint) (is : IsPlant plant)
     (legal : IsLegalJoint plant scans joint) (tied : IsJoint joint) where
   called-requested : (n : ℕ) (a : Items) (id : CallId) (route request : List ℕ)
       → AsksAreCalls a (own n (noted_on_rings joint))
@@ -265,7 +267,7 @@ module _ (laws : CallLaws) (plant : Plant) (scans : ℕ) (joint : Joint) (is : I
       (calls-own laws (fixed_of plant scans plan.0) log.entries plan.1.1) made in
       let mine = eqb-true r.node id.node
       (each-contains (λ e. posts id e ≡ true → (maker e == id.node) ≡ true) ring
-      (Post r.node r.frame) (posts-own plant scans joint id is legal) r.there
+      (Post r.node r.frame) (posts-own plant scans joint id legal) r.there
       (asks-this id r.frame r.kind r.name)) in
       let node = mine ∙ home ∙ sym plan.1.0 in
       let posted = in-own log.node ring (Post r.node r.frame) (eq-eqb r.node log.node node) r.there
@@ -368,7 +370,7 @@ module _ (laws : CallLaws) (plant : Plant) (scans : ℕ) (joint : Joint) (is : I
       → Requested (noted_on_rings joint) name route request → ⊥
   home-unasked name route request some r =
       let ring = noted_on_rings joint in
-      let owns = posts-own plant scans joint name is legal in
+      let owns = posts-own plant scans joint name legal in
       let mine = eqb-true r.node name.node
       (each-contains (λ e. posts name e ≡ true → (maker e == name.node) ≡ true) ring
       (Post r.node r.frame) owns r.there (asks-this name r.frame r.kind r.name)) in
@@ -441,6 +443,16 @@ module _ (laws : CallLaws) (plant : Plant) (scans : ℕ) (joint : Joint) (is : I
       at (was_asked request r) = absurd (port-unasked id (n ∷ []) request asks r)
       at (at_home node some) = node
 
+  -- each effect is that of a call that was made
+  effect-made : (name : CallId) (n : ℕ) → TakesEffectAt joint name n → IsMadeAs joint name
+  effect-made name n effect = at (effect-at name n effect)
+    where
+      at : EffectAt name n → IsMadeAs joint name
+      at (was_asked request r) =
+          requested-made laws plant scans joint is legal tied (length (sent_on_in joint)) name
+          (n ∷ []) request (omega arith) r
+      at (at_home node some) = home-was-made laws plant scans joint is legal tied name some
+
 pub effects-at-end : CallLaws → SuccessIsOneEffectOnWay → AllEffectsAreAtTheirEnd
 effects-at-end laws success plant scans joint is legal tied = record {
   ends = effect-ends laws plant scans joint is legal tied;
@@ -450,4 +462,5 @@ effects-at-end laws success plant scans joint is legal tied = record {
       let found = part-of (effects joint) (names_on_way joint id) (omega (arith, one)) in
       let at = found-effect joint found.0 found.2 in
       (found.0, found.1, at.0, at.1));
+  made = effect-made laws plant scans joint is legal tied;
 }

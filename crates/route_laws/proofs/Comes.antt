@@ -1,24 +1,18 @@
 -- Where a reply comes from: the node at the end of the route, or a bridge on the way.
-use Rattle.std.proofs.Common.{◌≡◌, ◌⊎◌, ℕ, zero, suc, ◌<◌, ◌≤◌, not}
-use Rattle.std.proofs.Common.{List, [], ◌∷◌, Option, Some, None, refl, sym, ap}
-use Rattle.std.proofs.Common.{◌∙◌, subst, inl, inr, ⊎_elim, arith}
+use Rattle.std.proofs.Common.{◌≡◌, ◌⊎◌, ℕ, zero, suc, ◌<◌, ◌≤◌, not, List, [], ◌∷◌, Option, Some}
+use Rattle.std.proofs.Common.{None, refl, sym, ap, ◌∙◌, subst, inl, inr, ⊎_elim, arith}
 use Rattle.std.specs.Prelude.{Contains, filter, filter_map, map, option_map, slice_get, unwrap_or}
-use Rattle.std.specs.Prelude.{◌++◌}
 use Rattle.std.specs.List.{AllByRecursion as Each}
 use Rattle.std.proofs.lemmas.Bool.{cases_Bool, eq-eqb}
 use Rattle.std.proofs.lemmas.List.Elements.{All-contains}
 use Rattle.plant_types.specs.declared.net.BridgePlan.{BridgePlan}
-use Rattle.plant_types.specs.declared.net.NetPlan.{NetPlan}
 use Rattle.plant_types.specs.declared.plan.Plant.{Plant}
 use Rattle.mstr_block.specs.declared.call.CallId.{CallId}
 use Rattle.ring_core.specs.declared.entry.RingEntry.{RingEntry}
-use Rattle.ring_core.specs.declared.entry.RingEntry.TheVariants.{Post, Send, Take, Local, GiveUp}
-use Rattle.ring_core.specs.declared.entry.RingEntry.TheVariants.{Pass, Leave, Join}
+use Rattle.ring_core.specs.declared.entry.RingEntry.TheVariants.{Post, Take, Local}
 use Rattle.ring_core.specs.declared.frame.Frame.{Frame}
 use Rattle.ring_core.specs.declared.frame.FrameKind.{FrameKind}
 use Rattle.ring_core.specs.declared.frame.FrameKind.TheVariants as kinds
-use Rattle.ring_core.specs.Legal.{IsRun}
-use Rattle.ring_core.specs.Scratch.{local_result}
 use Rattle.ring_laws.proofs.Lists.{each-contains, same-refl}
 use Rattle.bridge_relay.specs.declared.entry.BridgeEntry.TheVariants.{Accept, Back}
 use Rattle.bridge_relay.specs.declared.entry.RelayResult.TheVariants.{Reply}
@@ -39,53 +33,30 @@ use Rattle.joint_history.specs.JointLaws.{IsLegalLog, IsTiedController, IsTiedHo
 use Rattle.joint_history.specs.Nets.{noted_on_rings}
 use Rattle.joint_history.specs.Reading.{host_items_of, items_of}
 use Rattle.joint_history.proofs.Collected.{CallLaws}
-use Rattle.effect_laws.specs.HostReplies.{ControllerAnswers, HostAnswers, NodeAnswers}
-use Rattle.effect_laws.specs.HostReplies.{PortAnswers}
+use Rattle.effect_laws.specs.Answers.{ControllerAnswers, HostAnswers, NodeAnswers, PortAnswers}
 use Rattle.effect_laws.proofs.Asks.{IsFitAnswer, controller-fits, host-fits}
 use Rattle.effect_laws.proofs.Fits.{Fitting, NetAsk, exception-fits, port-fits}
-use Rattle.effect_laws.proofs.Reports.{Origin, origin-in}
+use Rattle.effect_laws.proofs.Reports.{Origin, origin-in, port-served}
 use Rattle.effect_laws.proofs.Sources.{EndedBy, behind, by_port, by_reply, by_word, here, in-map}
-use Rattle.effect_laws.proofs.Sources.{in-own}
+use Rattle.effect_laws.proofs.Sources.{in-own, of-mapped}
 use Rattle.route_laws.specs.Ends.{AnsweredAtEnd, IsBridgeCode, RefusedOnWay}
-use Rattle.route_laws.specs.Networks.{IsNetworked}
+use Rattle.plant_types.specs.Plans.{IsPlant}
 use Rattle.route_laws.specs.Ways.{SentOn, names_from, next_name, sent_of, sent_on_in}
 use Rattle.route_laws.proofs.Effects.{one-effect}
 use Rattle.route_laws.proofs.Given.{GoneOn, Refused, back-given, sent-accepts}
-use Rattle.route_laws.proofs.Gave.{controller-gave, host-gave, port-gave}
+use Rattle.effect_laws.proofs.Gave.{controller-gave, host-gave, port-gave}
+use Rattle.effect_laws.proofs.Words.{TellsTruly, truly}
 use Rattle.route_laws.proofs.Hops.{accepted-requested, partner, sent-requested}
 use Rattle.route_laws.proofs.Once.{forwards-accepts, is_old, taken-on-once}
 use Rattle.route_laws.proofs.Places.{on-its-ring, reply-posted, ring-of-node, size_of}
 use Rattle.route_laws.proofs.Requests.{IsLast, Requested, StandsAt, a_controller, a_host, an_end}
-use Rattle.route_laws.proofs.Requests.{of-mapped}
 use Rattle.route_laws.proofs.Requests.{controller-last, host-last, noted-by, port-taken, port-took}
 use Rattle.route_laws.proofs.Requests.{requested-as, same-request, take-requested, taken-last}
 use Rattle.route_laws.proofs.Sides.{back-there, finish-told, in-filter}
 use Rattle.route_laws.proofs.Success.{next-is, rank, rank-falls}
-use Rattle.route_laws.proofs.Traces.{EndedAt, controller-effect, ended-at, entry-end}
-use Rattle.route_laws.proofs.Traces.{host-effect, in-flat}
-use Rattle.route_laws.proofs.Traces.{port-answer, side-tied, size-accepted, size-sent}
+use Rattle.route_laws.proofs.Traces.{EndedAt, controller-effect, ended-at, entry-end, host-effect}
+use Rattle.route_laws.proofs.Traces.{in-flat, side-tied, size-accepted, size-sent}
 use Rattle.route_laws.proofs.Ways.{found-counts}
-
--- ---- ports tell what their ring's history says
-
-abbrev pub TellsTruly : NetPlan → RingEntry → Type 0
-TellsTruly net (Local n id op result) =
-    (past : List RingEntry) × (result ≡ local_result net past n op)
-TellsTruly net _ = Unit {0}
-
-pub truly : (net : NetPlan) (past es : List RingEntry) → IsRun net past es
-    → Each (TellsTruly net) es
-truly net past [] run = tt
-truly net past (Post n f ∷ es) run = (tt, truly net (past ++ Post n f ∷ []) es run.1)
-truly net past (Send n heard ∷ es) run = (tt, truly net (past ++ Send n heard ∷ []) es run.1)
-truly net past (Take n f ∷ es) run = (tt, truly net (past ++ Take n f ∷ []) es run.1)
-truly net past (Local n id op result ∷ es) run =
-    ((past, run.0.1.1), truly net (past ++ Local n id op result ∷ []) es run.1)
-truly net past (GiveUp id word ∷ es) run = (tt, truly net (past ++ GiveUp id word ∷ []) es run.1)
-truly net past (Pass n done words ∷ es) run =
-    (tt, truly net (past ++ Pass n done words ∷ []) es run.1)
-truly net past (Leave n cause ∷ es) run = (tt, truly net (past ++ Leave n cause ∷ []) es run.1)
-truly net past (Join n ∷ es) run = (tt, truly net (past ++ Join n ∷ []) es run.1)
 
 -- ---- a Reply that was taken
 
@@ -175,7 +146,7 @@ pub record EndReply (joint : Joint) (names : List CallId) (route request reply :
       ⊎ RefusedOnWay joint names route request reply
   pub fits : NetAsk request → Fitting request reply
 
-module _ (laws : CallLaws) (plant : Plant) (scans : ℕ) (joint : Joint) (is : IsNetworked plant)
+module _ (laws : CallLaws) (plant : Plant) (scans : ℕ) (joint : Joint) (is : IsPlant plant)
     (legal : IsLegalJoint plant scans joint) (tied : IsJoint joint) where
   -- ---- nodes
 
@@ -206,7 +177,7 @@ module _ (laws : CallLaws) (plant : Plant) (scans : ℕ) (joint : Joint) (is : I
             t.request_is;
         given = inr (inr gave);
         fits = λ net. port-fitting n id t.request reply gave;
-        effect = port-answer plant scans joint is legal tied n answer id there named;
+        effect = port-served joint n answer id there named;
       }
 
   -- the Request of an answer's name, where a station took it

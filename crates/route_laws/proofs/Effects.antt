@@ -1,14 +1,12 @@
 -- A call takes effect at most once under one name, and not at all where a bridge accepted it.
-use Rattle.std.proofs.Common.{◌≡◌, ℕ, suc, ◌+◌, ◌<◌, ◌≤◌, ◌++◌, Bool, List, []}
-use Rattle.std.proofs.Common.{◌∷◌, map, ◌∙◌, subst, ⊎_elim, arith}
-use Rattle.std.specs.List.{All, count_by, sum_by}
+use Rattle.std.proofs.Common.{◌≡◌, ℕ, ◌+◌, ◌<◌, ◌≤◌, ◌++◌, List, ◌∙◌, subst, ⊎_elim, arith}
+use Rattle.std.specs.List.{count_by, sum_by}
 use Rattle.std.proofs.lemmas.Bool.{cases_lt, eqb-true}
 use Rattle.std.proofs.lemmas.List.Elements.{All-from_recursion}
-use Rattle.std.proofs.lemmas.List.Sums.{sum_by-append, sum_by-cons}
+use Rattle.std.proofs.lemmas.List.Sums.{sum_by-append}
 use Rattle.plant_types.specs.declared.plan.Plant.{Plant}
-use Rattle.plant_types.specs.Plans.{controller_nodes, end_nodes, host_nodes}
+use Rattle.plant_types.specs.Plans.{controller_nodes, end_nodes, host_nodes, IsPlant}
 use Rattle.mstr_block.specs.declared.call.CallId.{CallId}
-use Rattle.ring_core.specs.declared.entry.RingEntry.{RingEntry}
 use Rattle.ring_core.specs.Words.{maker}
 use Rattle.ring_laws.specs.Once.{posts, takes}
 use Rattle.ring_laws.proofs.Lists.{count-contains, each-contains}
@@ -24,32 +22,14 @@ use Rattle.joint_history.specs.Reading.{host_items_of, items_of}
 use Rattle.joint_history.proofs.Collected.{CallLaws}
 use Rattle.effect_laws.specs.Served.{serves_another, services}
 use Rattle.effect_laws.proofs.Counts.{all_at_most, at_most_all}
-use Rattle.effect_laws.proofs.Homes.{acts_at_home, at-home-own, counted-own, homes-own}
-use Rattle.effect_laws.proofs.Once.{effects-are}
-use Rattle.effect_laws.proofs.Served.{answers_are_taken, controller-nodes, host-nodes}
-use Rattle.route_laws.specs.Networks.{IsNetworked}
-use Rattle.route_laws.specs.Laws.{accepts_of}
-use Rattle.route_laws.proofs.Members.{all_nodes, nodes-once, times}
-use Rattle.route_laws.proofs.Rings.{makers-stand, posts-own, taken-on-rings, taken-posted}
+use Rattle.effect_laws.proofs.Homes.{acts_at_home, at-home-own, counted-own, effects-are}
+use Rattle.effect_laws.proofs.Homes.{homes-own}
+use Rattle.effect_laws.proofs.Served.{answers_are_taken, controller-nodes, host-nodes, sums}
+use Rattle.route_laws.specs.Effects.{accepts_of}
+use Rattle.net_laws.proofs.Members.{all_nodes, nodes-once, times}
+use Rattle.route_laws.proofs.Posts.{makers-stand, posts-own, taken-on-rings, taken-posted}
 use Rattle.route_laws.proofs.Ends.{bridges-take}
 use Rattle.route_laws.proofs.Homes.{node-alone}
-
--- ---- what was served or accepted was taken
-
--- over some stations
-sums : {L : Type 0} (p q : RingEntry → Bool) (ring : List RingEntry) (node answers : L → ℕ)
-    (ls : List L)
-    → All (λ l. answers l + count_by q (own (node l) ring) ≤ count_by p (own (node l) ring)) ls
-    → sum_by answers ls + sum_by (λ n. count_by q (own n ring)) (map node ls)
-    ≤ sum_by (λ n. count_by p (own n ring)) (map node ls)
-sums p q ring node answers [] all = omega arith
-sums p q ring node answers (l ∷ ls) all =
-    let here = all 0 l (omega arith) in
-    let rest = sums p q ring node answers ls (λ k d within. all (suc k) d (omega arith)) in
-    let one = sum_by-cons answers l ls in
-    let two = sum_by-cons (λ n. count_by q (own n ring)) (node l) (map node ls) in
-    let three = sum_by-cons (λ n. count_by p (own n ring)) (node l) (map node ls) in
-    omega arith
 
 controllers-take : (plant : Plant) (scans : ℕ) (joint : Joint) (id : CallId)
     → IsLegalJoint plant scans joint → IsJoint joint
@@ -93,7 +73,7 @@ by-sorts f plant =
     omega arith
 
 pub served-accepted : (plant : Plant) (scans : ℕ) (joint : Joint) (id : CallId)
-    → IsNetworked plant → IsLegalJoint plant scans joint → IsJoint joint
+    → IsPlant plant → IsLegalJoint plant scans joint → IsJoint joint
     → services joint id + accepts_of joint id ≤ count_by (takes id) (noted_on_rings joint)
 served-accepted plant scans joint id is legal tied =
     let ring = noted_on_rings joint in
@@ -114,7 +94,7 @@ served-accepted plant scans joint id is legal tied =
 
 -- where a call was done at home it was served nowhere, and no bridge accepted it
 done-at-home : CallLaws → (plant : Plant) (scans : ℕ) (joint : Joint) (id : CallId)
-    → IsNetworked plant → IsLegalJoint plant scans joint → IsJoint joint
+    → IsPlant plant → IsLegalJoint plant scans joint → IsJoint joint
     → 1 ≤ count_by (acts_at_home id) (noted_on_rings joint)
     → effects joint id + accepts_of joint id ≤ 1
 done-at-home laws plant scans joint id is legal tied some =
@@ -130,7 +110,7 @@ done-at-home laws plant scans joint id is legal tied some =
     let alone = node-alone laws plant scans joint id id.node legal tied there
     (omega (arith, some, homes)) in
     let once = alone.once in
-    let unposted = counted-own (posts id) id.node ring (posts-own plant scans joint id is legal)
+    let unposted = counted-own (posts id) id.node ring (posts-own plant scans joint id legal)
     ∙ alone.none in
     let untaken = taken-posted plant scans joint id is legal in
     let served = served-accepted plant scans joint id is legal tied in
@@ -139,7 +119,7 @@ done-at-home laws plant scans joint id is legal tied some =
 
 -- a call that took effect was accepted by no bridge, and took effect once
 pub one-effect : CallLaws → (plant : Plant) (scans : ℕ) (joint : Joint) (id : CallId)
-    → IsNetworked plant → IsLegalJoint plant scans joint → IsJoint joint
+    → IsPlant plant → IsLegalJoint plant scans joint → IsJoint joint
     → effects joint id + accepts_of joint id ≤ 1
 one-effect laws plant scans joint id is legal tied =
     let served = served-accepted plant scans joint id is legal tied in

@@ -1,21 +1,14 @@
 -- The ends of bridges accept what their nodes took.
-use Rattle.std.proofs.Common.{◌≡◌, ℕ, ◌+◌, ◌≤◌, Bool, true, false, cond, List, [], ◌∷◌}
-use Rattle.std.proofs.Common.{Some, None, refl, sym, ap, ◌∙◌, subst, inl, inr, ◌⊎◌, arith}
-use Rattle.std.specs.Prelude.{flat_map, if◌then◌else◌}
-use Rattle.std.specs.List.{All, AllZip, count_by, sum_by}
-use Rattle.std.proofs.lemmas.Bool.{eq-eqb}
+use Rattle.std.proofs.Common.{◌≡◌, ℕ, ◌+◌, ◌≤◌, true, cond, List, [], ◌∷◌, Some, None, ap, ◌∙◌}
+use Rattle.std.proofs.Common.{subst, inl, inr, ◌⊎◌, arith, false, Bool}
+use Rattle.std.specs.Prelude.{flat_map, filter}
+use Rattle.std.specs.List.{All, AllZip, count_by, sum_by, AllByRecursion as Each}
+use Rattle.std.proofs.lemmas.Bool.{eq-eqb, false≢true}
 use Rattle.std.proofs.lemmas.List.Elements.{All-head, All-tail}
 use Rattle.std.proofs.lemmas.List.Sums.{sum_by-append, sum_by-cons}
 use Rattle.plant_types.specs.declared.net.BridgePlan.{BridgePlan}
 use Rattle.mstr_block.specs.declared.call.CallId.{CallId}
-use Rattle.mstr_block.specs.Call.{is_same_call}
-use Rattle.ring_core.specs.declared.frame.Frame.{Frame}
-use Rattle.ring_core.specs.declared.frame.FrameKind.{FrameKind}
-use Rattle.ring_core.specs.declared.frame.FrameKind.TheVariants.{Request, Reply}
 use Rattle.ring_core.specs.declared.entry.RingEntry.{RingEntry}
-use Rattle.ring_core.specs.declared.entry.RingEntry.TheVariants.{Post, Send, Take, Local, GiveUp}
-use Rattle.ring_core.specs.declared.entry.RingEntry.TheVariants.{Pass, Leave, Join}
-use Rattle.ring_core.specs.Statistics.{is_for_stats}
 use Rattle.ring_laws.specs.Once.{takes}
 use Rattle.ring_laws.proofs.Lists.{count-cons, count-push}
 use Rattle.bridge_relay.specs.declared.entry.BridgeEntry.{BridgeEntry}
@@ -26,73 +19,13 @@ use Rattle.bridge_relay.specs.Machine.{side_of}
 use Rattle.bridge_relay.specs.Legal.{IsEnd, IsBridgeHistory}
 use Rattle.bridge_relay.proofs.Parts.{all_steps}
 use Rattle.tied_lists.specs.Own.{own}
-use Rattle.tied_lists.specs.Items.{Items, RequestItem, Taken, Plain, ForStats, item_of}
-use Rattle.tied_lists.specs.Items.{no_items, plain_items, port_answers, stats_items, taken_by}
+use Rattle.tied_lists.specs.Items.{Items, no_items, port_answers}
 use Rattle.joint_history.specs.declared.joint.BridgeLog.{BridgeLog}
 use Rattle.joint_history.specs.JointLaws.{IsLegalBridgeLog, IsTiedBridge, IsTiedSide}
 use Rattle.joint_history.specs.Bridges.{made_at_end, side_item_next, side_items, side_items_after}
 use Rattle.effect_laws.specs.Served.{serves_another}
-use Rattle.effect_laws.proofs.Served.{for_others, is_answer}
-use Rattle.route_laws.specs.Laws.{accepts_call}
-use Rattle.route_laws.proofs.Sums.{split-by, sum-mapped}
-
--- ---- the Requests that a node took, by their two sorts
-
-abbrev is_item : CallId → RequestItem → Bool
-is_item id item = is_same_call item.id id
-
-abbrev items_taken : CallId → List RingEntry → ℕ
-items_taken id b =
-    count_by (is_item id) (plain_items (taken_by b))
-    + count_by (is_item id) (stats_items (taken_by b))
-
-one-taken : (id name : CallId) (rest pdu : List ℕ) (stats : Bool) (ts : List Taken)
-    → count_by (is_item id)
-    (plain_items ((if stats then ForStats name pdu else Plain name rest pdu) ∷ ts))
-    + count_by (is_item id)
-    (stats_items ((if stats then ForStats name pdu else Plain name rest pdu) ∷ ts))
-    ≡ cond (is_same_call name id) 1 0
-    + (count_by (is_item id) (plain_items ts) + count_by (is_item id) (stats_items ts))
-one-taken id name rest pdu true ts =
-    let item : RequestItem = record { id = name; rest = []; request = Some pdu } in
-    let step = count-cons (is_item id) item (stats_items ts) in
-    omega arith
-one-taken id name rest pdu false ts =
-    let item : RequestItem = record { id = name; rest = rest; request = Some pdu } in
-    let step = count-cons (is_item id) item (plain_items ts) in
-    omega arith
-
-take-case : (id : CallId) (n : ℕ) (f : Frame) (kind : FrameKind) (b : List RingEntry)
-    → items_taken id b ≡ count_by (takes id) b
-    → items_taken id (Take n (record f { kind = kind }) ∷ b)
-    ≡ count_by (takes id) (Take n (record f { kind = kind }) ∷ b)
-take-case id n f Request b rest =
-    let step = count-cons (takes id) (Take n (record f { kind = Request })) b in
-    let here = one-taken id f.id f.rest f.pdu (is_for_stats f) (taken_by b) in
-    omega arith
-take-case id n f Reply b rest =
-    let step = count-cons (takes id) (Take n (record f { kind = Reply })) b in omega arith
-
-of-ring : (id : CallId) (b : List RingEntry) → items_taken id b ≡ count_by (takes id) b
-of-ring id [] = refl
-of-ring id (Post n f ∷ b) =
-    let rest = of-ring id b in let step = count-cons (takes id) (Post n f) b in omega arith
-of-ring id (Send n heard ∷ b) =
-    let rest = of-ring id b in let step = count-cons (takes id) (Send n heard) b in omega arith
-of-ring id (Take n f ∷ b) = take-case id n f f.kind b (of-ring id b)
-of-ring id (Local n name op result ∷ b) =
-    let rest = of-ring id b in
-    let step = count-cons (takes id) (Local n name op result) b in
-    omega arith
-of-ring id (GiveUp name word ∷ b) =
-    let rest = of-ring id b in let step = count-cons (takes id) (GiveUp name word) b in omega arith
-of-ring id (Pass n done words ∷ b) =
-    let rest = of-ring id b in let step = count-cons (takes id) (Pass n done words) b in
-    omega arith
-of-ring id (Leave n cause ∷ b) =
-    let rest = of-ring id b in let step = count-cons (takes id) (Leave n cause) b in omega arith
-of-ring id (Join n ∷ b) =
-    let rest = of-ring id b in let step = count-cons (takes id) (Join n) b in omega arith
+use Rattle.effect_laws.proofs.Served.{by_items, for_others, is_answer, is_item, of_ring}
+use Rattle.route_laws.specs.Effects.{accepts_call}
 
 -- ---- what an end accepted
 
@@ -126,12 +59,11 @@ end-takes : (id : CallId) (ring : List RingEntry) (log : BridgeLog) (side : ℕ)
 end-takes id ring log side tied =
     let b = own side ring in
     let a = side_items side log.entries in
-    let one = λ (item : RequestItem). cond {A = ℕ} (is_item id item) 1 0 in
     let got = accepted-items id no_items (made_at_end side log.entries) in
-    let peers = sym (sum-mapped one item_of a.answers) ∙ ap (count_by (is_item id)) tied.peers in
-    let port = for_others id b ∙ sym (sum-mapped one item_of (port_answers b))
+    let peers = by_items id a.answers ∙ ap (count_by (is_item id)) tied.peers in
+    let port = for_others id b ∙ by_items id (port_answers b)
     ∙ ap (count_by (is_item id)) tied.port in
-    let all = of-ring id b in
+    let all = of_ring id b in
     omega arith
 
 -- ---- a bridge
@@ -140,6 +72,35 @@ by-end : (plan : BridgePlan) (entry : BridgeEntry) → IsEnd plan (side_of entry
     → (is_by plan.left entry ≡ true) ⊎ (is_by plan.right entry ≡ true)
 by-end plan entry (inl is) = inl (eq-eqb (side_of entry) plan.left is)
 by-end plan entry (inr is) = inr (eq-eqb (side_of entry) plan.right is)
+
+-- counts of what two tests let through
+split-by : {X : Type 0} (p f g : X → Bool) (xs : List X)
+    → Each (λ x. (f x ≡ true) ⊎ (g x ≡ true)) xs
+    → count_by p xs ≤ count_by p (filter f xs) + count_by p (filter g xs)
+split-by p f g [] all = omega arith
+split-by p f g (x ∷ xs) all =
+    at (f x) (g x) all.0 (split-by p f g xs all.1)
+  where
+    at : (a b : Bool) → (a ≡ true) ⊎ (b ≡ true)
+        → count_by p xs ≤ count_by p (filter f xs) + count_by p (filter g xs)
+        → count_by p (x ∷ xs)
+        ≤ count_by p (cond a (x ∷ filter f xs) (filter f xs))
+        + count_by p (cond b (x ∷ filter g xs) (filter g xs))
+    at true true is rest =
+        let all = count-cons p x xs in
+        let one = count-cons p x (filter f xs) in
+        let two = count-cons p x (filter g xs) in
+        omega arith
+    at true false is rest =
+        let all = count-cons p x xs in
+        let one = count-cons p x (filter f xs) in
+        omega arith
+    at false true is rest =
+        let all = count-cons p x xs in
+        let two = count-cons p x (filter g xs) in
+        omega arith
+    at false false (inl is) rest = absurd (false≢true is)
+    at false false (inr is) rest = absurd (false≢true is)
 
 -- a bridge's entries are those of its two ends
 of-ends : (plan : BridgePlan) (id : CallId) (history : List BridgeEntry)

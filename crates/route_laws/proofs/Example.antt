@@ -12,8 +12,8 @@ use Rattle.plant_types.specs.declared.net.HostPlan.{HostPlan}
 use Rattle.plant_types.specs.declared.plan.ControllerPlan.{ControllerPlan}
 use Rattle.plant_types.specs.declared.plan.Plant.{Plant}
 use Rattle.plant_types.specs.Plans.{IsBridgeOf, IsHostPlan, IsNetOf, IsNetPlan, IsNode}
-use Rattle.plant_types.specs.Plans.{net_numbers}
-use Rattle.route_laws.specs.Networks.{IsNetworked}
+use Rattle.plant_types.specs.Plans.{net_numbers, IsPlant, PassesTests}
+use Rattle.plant_types.specs.FirstFault.{tests_behind}
 
 -- a controller, by its address and its network
 abbrev controller : ℕ → ℕ → ControllerPlan
@@ -57,10 +57,14 @@ plant = record {
   bridges = bridge ∷ [];
 }
 
-one-rises : (n : ℕ) → IsStrictlyIncreasing (n ∷ [])
+-- lists of no number, of one, and of two that rise
+pub none-rise : IsStrictlyIncreasing []
+none-rise k within = absurd (omega (arith, within))
+
+pub one-rises : (n : ℕ) → IsStrictlyIncreasing (n ∷ [])
 one-rises n k within = absurd (omega (arith, within))
 
-two-rise : (m n : ℕ) → m < n → IsStrictlyIncreasing (m ∷ n ∷ [])
+pub two-rise : (m n : ℕ) → m < n → IsStrictlyIncreasing (m ∷ n ∷ [])
 two-rise m n less zero within = less
 two-rise m n less (suc k) within = absurd (omega (arith, within))
 
@@ -87,7 +91,7 @@ is-net number node end' few one two less = record {
   };
 }
 
-node-from : (n : ℕ) → 1 ≤ n → n ≤ 64 → IsNode n
+pub node-from : (n : ℕ) → 1 ≤ n → n ≤ 64 → IsNode n
 node-from n low high = record { from = low; to = high }
 
 left-net : IsNetOf plant (net 1 2 9)
@@ -133,16 +137,34 @@ unfolding IsDistinct
 differ =
     ((refl, (refl, (refl, tt))), ((refl, (refl, tt)), ((refl, tt), (tt, tt))))
 
--- it is one of networks and bridges
-pub is-networked : IsNetworked plant
-is-networked = record {
+left-passes : PassesTests (controller 2 1)
+unfolding tests_behind
+left-passes = refl
+
+right-passes : PassesTests (controller 5 2)
+unfolding tests_behind
+right-passes = refl
+
+-- it is a plant
+is-plant : IsPlant plant
+is-plant = record {
+  scan_time = record { from = omega arith; to = omega arith };
+  watchdog = record { from = omega arith; to = omega arith };
   nets = All-from_recursion (IsNetOf plant) plant.nets (left-net, (right-net, tt));
   nets_rise = two-rise 1 2 (omega arith);
+  count = record { from = omega arith; to = omega arith };
+  controllers = All-from_recursion PassesTests plant.controllers (left-passes, (right-passes, tt));
   controllers_there = All-from_recursion
       (λ (p : ControllerPlan). Contains (net_numbers plant) p.network) plant.controllers
       (first-there, (second-there, tt));
+  controllers_rise = two-rise 2 5 (omega arith);
+  few = omega arith;
   hosts = All-from_recursion IsHostPlan [] tt;
-  hosts_there = All-from_recursion (λ (h : HostPlan). Contains (net_numbers plant) h.network) [] tt;
+  hosts_there = All-from_recursion (λ (h : HostPlan). Contains (net_numbers plant) h.network)
+      [] tt;
+  hosts_rise = none-rise;
+  few_bridges = omega arith;
   bridges = All-from_recursion (IsBridgeOf plant) plant.bridges (is-bridge, tt);
+  bridges_rise = one-rises 9;
   once = differ;
 }

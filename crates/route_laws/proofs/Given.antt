@@ -1,8 +1,7 @@
 -- What a bridge gives back, and what it sends on: where they come from, by its list.
-use Rattle.std.proofs.Common.{◌≡◌, ◌⊎◌, ℕ, zero, suc, ◌+◌, ◌-◌, ◌<◌, ◌≤◌, Bool, true, false}
-use Rattle.std.proofs.Common.{cond, List, []}
-use Rattle.std.proofs.Common.{◌∷◌, ◌++◌, Option, Some, None, map, refl, sym, ap, ◌∙◌, subst}
-use Rattle.std.proofs.Common.{inl, inr, ⊎_elim, arith, append_assoc, append-nil, get_or}
+use Rattle.std.proofs.Common.{◌≡◌, ◌⊎◌, ℕ, zero, suc, ◌+◌, ◌-◌, ◌<◌, ◌≤◌, Bool, true, false, cond}
+use Rattle.std.proofs.Common.{List, [], ◌∷◌, ◌++◌, Option, Some, None, map, refl, sym, ap, ◌∙◌}
+use Rattle.std.proofs.Common.{subst, inl, inr, ⊎_elim, arith, append_assoc, append-nil, get_or}
 use Rattle.std.specs.Prelude.{Contains, slice_get, nat_le, nat_lt, slice_index, length, ◌==◌, ◌||◌}
 use Rattle.std.specs.Prelude.{if◌then◌else◌, option_map}
 use Rattle.std.specs.List.{AllByRecursion as Each}
@@ -217,12 +216,12 @@ far-accepted h side far item None got c = record {
 far-accepted h side far item (Some code) got c = c
 
 -- what the step of a Forward tells of it
-abbrev IsMade : List BridgeEntry → BridgeEntry → Type 0
-IsMade h (Forward side old id route request) =
+abbrev HasAccept : List BridgeEntry → BridgeEntry → Type 0
+HasAccept h (Forward side old id route request) =
     (id.node ≡ side) × IsPath id.path × AcceptIn h old route request
-IsMade h _ = Unit {0}
+HasAccept h _ = Unit {0}
 
-more-made : (h : List BridgeEntry) (x e : BridgeEntry) → IsMade h e → IsMade (h ++ x ∷ []) e
+more-made : (h : List BridgeEntry) (x e : BridgeEntry) → HasAccept h e → HasAccept (h ++ x ∷ []) e
 more-made h x (Accept side id route request) made = tt
 more-made h x (Forward side old id route request) made =
     (made.0, made.1, more-accepts h x old route request made.2)
@@ -231,7 +230,7 @@ more-made h x (Back side id reply) made = tt
 more-made h x (Gone side) made = tt
 
 near-comes : (h : List BridgeEntry) (across : ℕ) (near far : EndIs) (e : BridgeEntry)
-    → Contains h e → IsMade h e → Comes h (side_of e) near
+    → Contains h e → HasAccept h e → Comes h (side_of e) near
     → Comes h (side_of e) (near_after across near far e)
 near-comes h across near far (Accept side id route request) there made c =
     near-accepted h side near (record { id = id; route = route; request = request })
@@ -362,7 +361,7 @@ first-has P (y ∷ xs) x all is = let same : y ≡ x = cc in subst P same all.0
 
 -- what an entry says of the end that made it
 record Says (h : List BridgeEntry) (near : EndIs) (e : BridgeEntry) : Type 0 where
-  made : IsMade h e
+  made : HasAccept h e
   out : IsOutCall near e
   forward : (side : ℕ) (old id : CallId) (route request : List ℕ)
       → e ≡ Forward side old id route request → AcceptIn h old route request
@@ -458,7 +457,7 @@ new-comes side = record {
 
 -- both ends behind an entry, by whether the left one made it
 by-left : (plan : BridgePlan) (h : List BridgeEntry) (left right : EndIs) (e : BridgeEntry)
-    → Contains h e → side_of e ≡ plan.left → IsMade h e → IsOutCall left e
+    → Contains h e → side_of e ≡ plan.left → HasAccept h e → IsOutCall left e
     → Comes h plan.left left → Comes h plan.right right
     → Comes h plan.left (near_after plan.right left right e)
     × Comes h plan.right (far_after plan.right left right e)
@@ -470,7 +469,7 @@ by-left plan h left right e there is made out c d =
     )
 
 by-right : (plan : BridgePlan) (h : List BridgeEntry) (left right : EndIs) (e : BridgeEntry)
-    → Contains h e → side_of e ≡ plan.right → IsMade h e → IsOutCall right e
+    → Contains h e → side_of e ≡ plan.right → HasAccept h e → IsOutCall right e
     → Comes h plan.left left → Comes h plan.right right
     → Comes h plan.right (near_after plan.left right left e)
     × Comes h plan.left (far_after plan.left right left e)

@@ -1,11 +1,10 @@
 -- A call that its own node's port did is asked of no other node, and done once.
-use Rattle.std.proofs.Common.{◌≡◌, ℕ, ◌≤◌, ◌++◌, Bool, true, false, List, [], ◌∷◌}
-use Rattle.std.proofs.Common.{map, refl, sym, ap, ◌∙◌, subst, arith}
-use Rattle.std.specs.Prelude.{flat_map, ◌&&◌, ◌==◌}
+use Rattle.std.proofs.Common.{◌≡◌, ℕ, ◌≤◌, ◌++◌, List, [], ◌∷◌, map, sym, ap, ◌∙◌, subst, arith}
+use Rattle.std.specs.Prelude.{flat_map, ◌==◌}
 use Rattle.std.specs.List.{All, AllZip, AllByRecursion as Each, count_by}
-use Rattle.std.proofs.lemmas.Bool.{eqb-true, true≢false}
+use Rattle.std.proofs.lemmas.Bool.{eqb-true}
 use Rattle.std.proofs.lemmas.List.Elements.{All-head, All-tail}
-use Rattle.host_port.proofs.Lists.{all_append}
+use Rattle.host_port.proofs.Lists.{all_append, and_false}
 use Rattle.plant_types.specs.declared.net.BridgePlan.{BridgePlan}
 use Rattle.plant_types.specs.declared.net.HostPlan.{HostPlan}
 use Rattle.plant_types.specs.declared.plan.ControllerPlan.{ControllerPlan}
@@ -21,7 +20,7 @@ use Rattle.bridge_relay.specs.declared.entry.BridgeEntry.TheVariants.{Accept, Fo
 use Rattle.bridge_relay.specs.declared.entry.BridgeEntry.TheVariants.{Back, Gone}
 use Rattle.bridge_relay.specs.declared.entry.RelayResult.TheVariants as results
 use Rattle.tied_lists.specs.Own.{own}
-use Rattle.tied_lists.specs.Items.{ABridge, AController, AHost, Ended, Items, Station, no_items}
+use Rattle.tied_lists.specs.Items.{ABridge, AController, AHost, Items, Station, no_items}
 use Rattle.tied_lists.specs.Tied.{AsksAreCalls, EndsAreMet}
 use Rattle.joint_history.specs.declared.joint.BridgeLog.{BridgeLog}
 use Rattle.joint_history.specs.declared.joint.ControllerLog.{ControllerLog}
@@ -35,9 +34,9 @@ use Rattle.joint_history.specs.Nets.{noted_on_rings}
 use Rattle.joint_history.specs.Reading.{host_items_of, items_of}
 use Rattle.joint_history.proofs.Collected.{CallLaws}
 use Rattle.effect_laws.proofs.Calls.{call-facts}
-use Rattle.effect_laws.proofs.Homes.{HomesOnce, acts_at_home, controller-homes, homes-end}
-use Rattle.effect_laws.proofs.Homes.{host-homes, is_asked, is_home_end, posted-asked}
-use Rattle.route_laws.proofs.Members.{all_nodes, times}
+use Rattle.effect_laws.proofs.Homes.{HomesOnce, acts_at_home, controller-homes, home-ended}
+use Rattle.effect_laws.proofs.Homes.{none-away, host-homes, is_asked, is_away, posted-asked}
+use Rattle.net_laws.proofs.Members.{all_nodes, times}
 
 -- what a node's port did at home for a call it did once, and its node posted no Request of it
 pub record HomeAlone (id : CallId) (b : List RingEntry) : Type 0 where
@@ -52,32 +51,22 @@ home-alone : (id : CallId) (station : Station) (a : Items) (ring : List RingEntr
     → AsksAreCalls a (own n ring) → EndsAreMet station a (own n ring) → HomesOnce a
     → IsHomeAlone ring id n
 home-alone id station a ring n asks ends homes some =
-    let ended = homes-end station id [] (own n ring) in
-    let ends_are = ap (count_by (is_home_end id)) ends in
-    let facts = homes id (omega (arith, some, ended, ends_are)) in
+    let ended = home-ended station a id (own n ring) ends in
+    let facts = homes id (omega (arith, some, ended)) in
     let once = facts.once in
     record {
-      once = omega (arith, ended, ends_are, once);
+      once = omega (arith, ended, once);
       none = posted-asked id (own n ring) ∙ ap (count_by (is_asked id)) asks ∙ facts.none;
     }
-
--- ---- the end of a bridge does nothing for itself
-
-abbrev is_away : Ended → Type 0
-is_away end' = (id : CallId) → is_home_end id end' ≡ false
-
-and-off : (x : Bool) → (x && false) ≡ false
-and-off true = refl
-and-off false = refl
 
 away-next : (a : Items) (e : BridgeEntry) → Each is_away a.ends
     → Each is_away (side_item_next a e).ends
 away-next a (Accept side id route request) all = all
 away-next a (Forward side old id route request) all = all
 away-next a (Finish side id (results.Reply pdu)) all =
-    all_append is_away a.ends _ all ((λ other. and-off (is_same_call id other)), tt)
+    all_append is_away a.ends _ all ((λ other. and_false (is_same_call id other)), tt)
 away-next a (Finish side id (results.Bad word)) all =
-    all_append is_away a.ends _ all ((λ other. and-off (is_same_call id other)), tt)
+    all_append is_away a.ends _ all ((λ other. and_false (is_same_call id other)), tt)
 away-next a (Back side id reply) all = all
 away-next a (Gone side) all = all
 
@@ -86,13 +75,13 @@ aways : (a : Items) (h : List BridgeEntry) → Each is_away a.ends
 aways a [] all = all
 aways a (e ∷ h) all = aways (side_item_next a e) h (away-next a e all)
 
+-- the end of a bridge has no call that its port did at home
+pub end-away : (side : ℕ) (list : List BridgeEntry) → Each is_away (side_items side list).ends
+end-away side list = aways no_items (made_at_end side list) tt
+
 end-homes : (side : ℕ) (list : List BridgeEntry) → HomesOnce (side_items side list)
 end-homes side list id some =
-    let ends = (side_items side list).ends in
-    let found = count-contains (is_home_end id) ends some in
-    let away = each-contains is_away ends found.0 (aways no_items (made_at_end side list) tt)
-    found.1 in
-    absurd (true≢false (sym found.2 ∙ away id))
+    absurd (none-away id (side_items side list).ends (end-away side list) some)
 
 end-alone : (id : CallId) (ring : List RingEntry) (log : BridgeLog) (side : ℕ)
     → IsTiedSide ring log side → IsHomeAlone ring id side

@@ -1,7 +1,6 @@
 -- A call that a bridge sent on: what it asks under either name, and by which route.
-use Rattle.std.proofs.Common.{◌≡◌, ℕ, zero, suc, ◌++◌, true}
-use Rattle.std.proofs.Common.{List, [], ◌∷◌, Option, Some, None, refl, sym, ap}
-use Rattle.std.proofs.Common.{◌∙◌, subst, ⊎_elim}
+use Rattle.std.proofs.Common.{◌≡◌, ℕ, zero, suc, ◌++◌, true, List, [], ◌∷◌, Option, Some, None}
+use Rattle.std.proofs.Common.{refl, sym, ap, ◌∙◌, subst, ⊎_elim}
 use Rattle.std.specs.Prelude.{Contains, filter, filter_map, flat_map, option_map, slice_get}
 use Rattle.std.specs.Prelude.{unwrap_or}
 use Rattle.std.specs.List.{AllZip}
@@ -24,14 +23,15 @@ use Rattle.joint_history.specs.Bridges.{side_items}
 use Rattle.joint_history.specs.JointLaws.{IsJoint, IsLegalBridgeLog, IsLegalJoint}
 use Rattle.joint_history.specs.Nets.{noted_on_rings}
 use Rattle.effect_laws.proofs.Sources.{behind, first-or-behind, here, in-map, in-none, of-map}
-use Rattle.effect_laws.proofs.Sources.{of-own}
-use Rattle.route_laws.specs.Networks.{IsNetworked}
+use Rattle.effect_laws.proofs.Sources.{of-own, in-mapped}
+use Rattle.plant_types.specs.Plans.{IsPlant}
 use Rattle.route_laws.specs.Ways.{SentOn, names_from, sent_of, sent_on_in}
 use Rattle.route_laws.proofs.Given.{sent-accepts}
 use Rattle.route_laws.proofs.Once.{is_old}
 use Rattle.route_laws.proofs.Requests.{Requested, requested-as, same-request, take-requested}
-use Rattle.route_laws.proofs.Sides.{accept-answered, forward-called, in-mapped, of-filter}
-use Rattle.route_laws.proofs.Sides.{plain-there, post-of, take-plain}
+use Rattle.route_laws.proofs.Sides.{accept-answered, forward-called, of-filter, plain-there}
+use Rattle.route_laws.proofs.Sides.{take-plain}
+use Rattle.effect_laws.proofs.Words.{post-of}
 use Rattle.route_laws.proofs.Traces.{entry-end, side-tied}
 
 -- ---- lists
@@ -100,7 +100,7 @@ pub record Reached (ring : List RingEntry) (route request : List ℕ) (name : Ca
   pub route_is : route ≡ way ++ rest
   pub requested : Requested ring name rest request
 
-module _ (plant : Plant) (scans : ℕ) (joint : Joint) (is : IsNetworked plant)
+module _ (plant : Plant) (scans : ℕ) (joint : Joint) (is : IsPlant plant)
     (legal : IsLegalJoint plant scans joint) (tied : IsJoint joint) where
   -- what an end accepted was asked of it
   pub accepted-requested : (plan : BridgePlan) (log : BridgeLog) (side : ℕ) (id : CallId)

@@ -1,75 +1,38 @@
 -- A reply that a host got comes from the end of the route, or from a bridge on the way.
-use Rattle.std.proofs.Common.{◌≡◌, ℕ, List, [], ◌∷◌, ◌++◌, length, refl, sym, ap}
-use Rattle.std.proofs.Common.{◌∙◌, subst, inr, ⊎_elim}
+use Rattle.std.proofs.Common.{◌≡◌, ℕ, List, [], ◌∷◌, ◌++◌, length, refl, sym, ap, ◌∙◌, subst, inr}
 use Rattle.std.specs.Prelude.{Contains, nat_le}
-use Rattle.std.proofs.lemmas.Bool.{eq-eqb}
 use Rattle.std.proofs.lemmas.List.Elements.{All-contains, Contains-append_right}
 use Rattle.std.proofs.lemmas.List.Sums.{count_by-le-length}
 use Rattle.plant_types.specs.declared.plan.Plant.{Plant}
 use Rattle.mstr_block.specs.declared.call.CallId.{CallId}
-use Rattle.mstr_block.specs.declared.call.MstrResult.{MstrResult}
 use Rattle.ring_core.specs.declared.entry.RingEntry.{RingEntry}
 use Rattle.ring_core.specs.declared.entry.RingEntry.TheVariants.{Post, Take}
 use Rattle.ring_core.specs.declared.frame.Frame.{Frame}
-use Rattle.ring_core.specs.declared.frame.FrameKind.{FrameKind}
 use Rattle.ring_core.specs.declared.frame.FrameKind.TheVariants as kinds
 use Rattle.ring_core.specs.Words.{frame_route, maker}
 use Rattle.ring_laws.proofs.Law.{reply-to-its-caller}
 use Rattle.host_port.specs.declared.entry.HostEntry.TheVariants as host_entries
 use Rattle.host_port.specs.declared.entry.HostResult.TheVariants as results
 use Rattle.tied_lists.specs.Own.{own}
-use Rattle.tied_lists.specs.Items.{AHost, Asked, Called, Came, Ended, Replied, asked_by, asked_in}
-use Rattle.tied_lists.specs.Items.{asked_of, net_ask, no_items, outcome_of_word}
+use Rattle.tied_lists.specs.Items.{AHost, Asked, Ended, Replied, asked_by}
 use Rattle.joint_history.specs.declared.joint.HostLog.{HostLog}
 use Rattle.joint_history.specs.declared.joint.Joint.{Joint}
 use Rattle.joint_history.specs.JointLaws.{IsJoint, IsLegalJoint, IsTiedHost}
 use Rattle.joint_history.specs.Nets.{noted_on_rings}
-use Rattle.joint_history.specs.Reading.{host_items_of}
 use Rattle.joint_history.proofs.Collected.{CallLaws}
+use Rattle.effect_laws.proofs.Gave.{asked-own, came-no_reply, replied-same, word-no_reply}
 use Rattle.effect_laws.proofs.Reports.{answer-ends}
 use Rattle.effect_laws.proofs.Sources.{EndedBy, by_port, by_reply, by_word, end-at, ended-by, here}
-use Rattle.effect_laws.proofs.Sources.{in-map, in-none, in-own, of-map, of-own}
-use Rattle.effect_laws.proofs.Words.{asked_as}
+use Rattle.effect_laws.proofs.Sources.{of-own}
 use Rattle.route_laws.specs.Ends.{IsReplyOnWay}
 use Rattle.route_laws.specs.Laws.{HostsGetTheirReplies}
-use Rattle.route_laws.specs.Networks.{IsNetworked}
+use Rattle.plant_types.specs.Plans.{IsPlant}
 use Rattle.route_laws.specs.Ways.{SentOn, sent_on_in}
 use Rattle.route_laws.proofs.Comes.{TookReply, reply-end}
-use Rattle.route_laws.proofs.Gave.{AskIn, ask-in}
 use Rattle.route_laws.proofs.Places.{on-its-ring, ring-of-node, size_of}
 use Rattle.route_laws.proofs.Requests.{Requested}
 
-replied-same : (one other : List ℕ) → Replied one ≡ Replied other → one ≡ other
-replied-same one other is = cc
-
-word-no_reply : (word : ℕ) (pdu : List ℕ) → outcome_of_word AHost word ≡ Replied pdu → ⊥
-word-no_reply word pdu is = cc
-
-came-no_reply : (result : MstrResult) (pdu : List ℕ) → Came result ≡ Replied pdu → ⊥
-came-no_reply result pdu is = cc
-
--- what a host's node posted the host asked
-asked-own : (joint : Joint) (log : HostLog) (m : ℕ) (request : Frame)
-    → IsTiedHost (noted_on_rings joint) log
-    → m ≡ log.node → request.kind ≡ kinds.Request
-    → Contains (noted_on_rings joint) (Post m request)
-    → Contains log.entries (host_entries.Ask request.id (frame_route request) request.pdu)
-asked-own joint log m request tied node kind posted =
-    let n = log.node in
-    let b = own n (noted_on_rings joint) in
-    let a = host_items_of log.entries in
-    let asked : Asked = asked_as request in
-    let mine = in-own n (noted_on_rings joint) (Post m request) (eq-eqb m n node) posted in
-    let among = in-map asked_of b (Post m request) asked
-    (ap (λ (k : FrameKind). asked_in k request) kind) mine in
-    let called = of-map net_ask a.calls asked
-    (subst (λ (l : List Asked). Contains l asked) tied.asks among) in
-    ⊎_elim
-    (λ (none : Contains {X = Called} [] called.0). absurd (in-none called.0 none))
-    (λ (p : AskIn log.entries asked). p.there)
-    (ask-in no_items log.entries called.0 asked called.2 called.1)
-
-module _ (laws : CallLaws) (plant : Plant) (scans : ℕ) (joint : Joint) (is : IsNetworked plant)
+module _ (laws : CallLaws) (plant : Plant) (scans : ℕ) (joint : Joint) (is : IsPlant plant)
     (legal : IsLegalJoint plant scans joint) (tied : IsJoint joint) where
   got-reply : (log : HostLog) (m : ℕ) (f : Frame) → Contains joint.hosts log → m ≡ log.node
       → Contains (noted_on_rings joint) (Take m f) → f.kind ≡ kinds.Reply

@@ -1,6 +1,4 @@
-pub mod Sums
-pub mod Members
-pub mod Rings
+pub mod Posts
 pub mod Sent
 pub mod Ends
 pub mod Once
@@ -15,12 +13,12 @@ pub mod Traces
 pub mod Success
 pub mod Requests
 pub mod Hops
-pub mod Gave
 pub mod Comes
 pub mod Results
-pub mod Found
+pub mod Made
 pub mod AtEnd
 pub mod HostEnds
-pub mod Plants
+pub mod OneNetwork
 mod Example
 mod Journey
+mod Echo

@@ -1,17 +1,13 @@
 -- The ring of a node: all that it noted stands there.
-use Rattle.std.proofs.Common.{◌≡◌, ℕ, ◌<◌, ◌≤◌, ◌++◌, true, false, cond, List, [], ◌∷◌}
-use Rattle.std.proofs.Common.{length, refl, sym, ap, ◌∙◌, subst, ⊎_elim, inl, inr, arith}
-use Rattle.std.proofs.Common.{append-nil}
+use Rattle.std.proofs.Common.{◌≡◌, ℕ, ◌<◌, ◌≤◌, true, false, cond, List, [], ◌∷◌, length, refl}
+use Rattle.std.proofs.Common.{sym, ap, ◌∙◌, subst, ⊎_elim, inl, inr, arith}
 use Rattle.std.specs.Prelude.{Contains, ◌==◌}
-use Rattle.std.specs.List.{All, AllByRecursion as Each, AllZip, count_by, sum_by}
+use Rattle.std.specs.List.{count_by, sum_by}
 use Rattle.std.proofs.lemmas.Bool.{cases_Bool, cases_lt, eq-eqb, eqb-true}
-use Rattle.std.proofs.lemmas.List.Elements.{All-head, All-tail, All-weaker, recursion_from_All}
-use Rattle.std.proofs.lemmas.List.Elements.{Contains-append_left, Contains-append_right}
-use Rattle.std.proofs.lemmas.List.Elements.{filter-append}
 use Rattle.std.proofs.lemmas.List.Sums.{sum_by-cons}
 use Rattle.plant_types.specs.declared.net.NetPlan.{NetPlan}
 use Rattle.plant_types.specs.declared.plan.Plant.{Plant}
-use Rattle.plant_types.specs.Plans.{IsNetOf}
+use Rattle.plant_types.specs.Plans.{IsPlant}
 use Rattle.mstr_block.specs.declared.call.CallId.{CallId}
 use Rattle.ring_core.specs.declared.entry.RingEntry.{RingEntry}
 use Rattle.ring_core.specs.declared.entry.RingEntry.TheVariants.{Post, Send, Take, Local, GiveUp}
@@ -19,7 +15,7 @@ use Rattle.ring_core.specs.declared.entry.RingEntry.TheVariants.{Pass, Leave, Jo
 use Rattle.ring_core.specs.declared.frame.Frame.{Frame}
 use Rattle.ring_core.specs.declared.frame.FrameKind.TheVariants.{Request, Reply}
 use Rattle.ring_core.specs.Words.{asks_for, maker}
-use Rattle.ring_core.specs.Legal.{IsLegalRing, IsMember}
+use Rattle.ring_core.specs.Legal.{IsMember}
 use Rattle.ring_laws.specs.Once.{IsRingHistory, posts}
 use Rattle.ring_laws.proofs.Law.{only-its-target, posted-once, reply-to-its-caller}
 use Rattle.ring_laws.proofs.Lists.{contains-count, count-cons, count-contains, each-contains}
@@ -27,64 +23,12 @@ use Rattle.tied_lists.specs.Own.{is_of, own}
 use Rattle.tied_lists.proofs.Boxes.{count-filter}
 use Rattle.joint_history.specs.declared.joint.RingLog.{RingLog}
 use Rattle.joint_history.specs.declared.joint.Joint.{Joint}
-use Rattle.joint_history.specs.JointLaws.{IsLegalJoint, IsLegalRingLog}
-use Rattle.joint_history.specs.Nets.{entries_of_rings, noted_on_rings}
-use Rattle.effect_laws.proofs.Counts.{some_there}
+use Rattle.joint_history.specs.JointLaws.{IsLegalJoint}
+use Rattle.joint_history.specs.Nets.{noted_on_rings}
 use Rattle.effect_laws.proofs.Homes.{counted-own}
-use Rattle.effect_laws.proofs.Served.{members}
 use Rattle.effect_laws.proofs.Sources.{in-none, in-own, of-own, first-or-behind}
-use Rattle.route_laws.specs.Networks.{IsNetworked}
-use Rattle.route_laws.proofs.Members.{members-stand, nets-differ, nodes-once, times}
-use Rattle.route_laws.proofs.Rings.{posts-own, ring-of}
-
--- ---- a node's own entries
-
-makers-in : (net : NetPlan) (ring : List RingEntry) → IsLegalRing net ring
-    → Each (λ e. 1 ≤ times (maker e) net.members) ring
-makers-in net ring legal =
-    recursion_from_All (λ e. 1 ≤ times (maker e) net.members) ring
-    (All-weaker (λ e. IsMember net (maker e)) (λ e. 1 ≤ times (maker e) net.members)
-    (λ e member. some_there (maker e) net.members member.0 member.1 member.2)
-    ring (members net [] ring legal))
-
-none-own : (n : ℕ) (ns : List ℕ) (es : List RingEntry) → Each (λ e. 1 ≤ times (maker e) ns) es
-    → times n ns ≡ 0 → own n es ≡ []
-none-own n ns [] all none = refl
-none-own n ns (e ∷ es) all none = elim (cases_Bool (maker e == n)) [
-  | inl is ↦
-      let some = subst (λ (k : ℕ). 1 ≤ times k ns) (eqb-true (maker e) n is) all.0 in
-      absurd (omega (arith, some, none))
-  | inr is ↦
-      ap (λ b. cond b (e ∷ own n es) (own n es)) is ∙ none-own n ns es all.1 none
-]
-
-entries-cons : (ring : RingLog) (rings : List RingLog)
-    → entries_of_rings (ring ∷ rings) ≡ ring.entries ++ entries_of_rings rings
-entries-cons ring [] = sym (append-nil ring.entries)
-entries-cons ring (next ∷ rings) = refl
-
-own-cons : (n : ℕ) (ring : RingLog) (rings : List RingLog)
-    → own n (entries_of_rings (ring ∷ rings))
-    ≡ own n ring.entries ++ own n (entries_of_rings rings)
-own-cons n ring rings =
-    ap (own n) (entries-cons ring rings)
-    ∙ filter-append (is_of n) ring.entries (entries_of_rings rings)
-
-abbrev member_times : ℕ → List NetPlan → ℕ
-member_times n nets = sum_by (λ (net : NetPlan). times n net.members) nets
-
-none-owns : (n : ℕ) (nets : List NetPlan) (rings : List RingLog)
-    → AllZip IsLegalRingLog nets rings → member_times n nets ≡ 0
-    → own n (entries_of_rings rings) ≡ []
-none-owns n [] [] zip none = refl
-none-owns n [] (ring ∷ rings) zip none = absurd zip
-none-owns n (net ∷ nets) [] zip none = absurd zip
-none-owns n (net ∷ nets) (ring ∷ rings) zip none =
-    let step = sum_by-cons (λ (m : NetPlan). times n m.members) net nets in
-    let first = none-own n net.members ring.entries (makers-in net ring.entries zip.0.1)
-    (omega (arith, step, none)) in
-    let rest = none-owns n nets rings zip.1 (omega (arith, step, none)) in
-    own-cons n ring rings ∙ ap (λ l. l ++ own n (entries_of_rings rings)) first ∙ rest
+use Rattle.route_laws.proofs.Posts.{posts-own}
+use Rattle.net_laws.proofs.Rings.{entry-on, on-among, own-on, ring-history, ring-there}
 
 -- the ring of a node
 pub record RingOf (plant : Plant) (whole : List RingEntry) (n : ℕ) : Type 0 where
@@ -94,60 +38,25 @@ pub record RingOf (plant : Plant) (whole : List RingEntry) (n : ℕ) : Type 0 wh
   pub own_is : own n whole ≡ own n ring.entries
   pub among : (e : RingEntry) → Contains ring.entries e → Contains whole e
 
-ring-at : (plant : Plant) (n : ℕ) (nets : List NetPlan) (rings : List RingLog)
-    → All (IsNetOf plant) nets → AllZip IsLegalRingLog nets rings → member_times n nets ≤ 1
-    → 1 ≤ member_times n nets → RingOf plant (entries_of_rings rings) n
-ring-at plant n [] [] all zip few some = absurd (omega (arith, some))
-ring-at plant n [] (ring ∷ rings) all zip few some = absurd zip
-ring-at plant n (net ∷ nets) [] all zip few some = absurd zip
-ring-at plant n (net ∷ nets) (ring ∷ rings) all zip few some =
-    let step = sum_by-cons (λ (m : NetPlan). times n m.members) net nets in
-    let whole = entries_of_rings (ring ∷ rings) in
-    let is = entries-cons ring rings in
-    ⊎_elim
-    (λ (none : times n net.members < 1).
-    let zero_here : times n net.members ≡ 0 = omega (arith, none) in
-    let rest = ring-at plant n nets rings (All-tail (IsNetOf plant) net nets all) zip.1
-    (omega (arith, step, few)) (omega (arith, step, some, none)) in
-    let first = none-own n net.members ring.entries (makers-in net ring.entries zip.0.1)
-    zero_here in
-    record {
-      net = rest.net;
-      ring = rest.ring;
-      history = rest.history;
-      own_is = own-cons n ring rings ∙ ap (λ l. l ++ own n (entries_of_rings rings)) first
-          ∙ rest.own_is;
-      among = λ e there. subst (λ (l : List RingEntry). Contains l e) (sym is)
-          (Contains-append_right ring.entries (entries_of_rings rings) e (rest.among e there));
-    })
-    (λ (here : 1 ≤ times n net.members).
-    let rest = none-owns n nets rings zip.1 (omega (arith, step, few, here)) in
-    record {
-      net = net;
-      ring = ring;
-      history = ring-of plant net ring (All-head (IsNetOf plant) net nets all) zip.0;
-      own_is = own-cons n ring rings ∙ ap (λ l. own n ring.entries ++ l) rest
-          ∙ append-nil (own n ring.entries);
-      among = λ e there. subst (λ (l : List RingEntry). Contains l e) (sym is)
-          (Contains-append_left ring.entries (entries_of_rings rings) e there);
-    })
-    (cases_lt (times n net.members) 1)
-
 -- a node that noted something has a ring
 pub ring-of-node : (plant : Plant) (scans : ℕ) (joint : Joint) (n : ℕ) (e : RingEntry)
-    → IsNetworked plant → IsLegalJoint plant scans joint → Contains (noted_on_rings joint) e
+    → IsPlant plant → IsLegalJoint plant scans joint → Contains (noted_on_rings joint) e
     → maker e ≡ n → RingOf plant (noted_on_rings joint) n
 ring-of-node plant scans joint n e is legal there made =
-    let stand = members-stand plant n plant.nets is.nets (nets-differ plant is) in
-    let once = nodes-once plant n is in
-    ⊎_elim
-    (λ (none : member_times n plant.nets < 1).
-    let nothing = none-owns n plant.nets joint.rings legal.rings (omega (arith, none)) in
-    let mine = in-own n (noted_on_rings joint) e (eq-eqb (maker e) n made) there in
-    absurd (in-none e (subst (λ (l : List RingEntry). Contains l e) nothing mine)))
-    (λ (some : 1 ≤ member_times n plant.nets).
-    ring-at plant n plant.nets joint.rings is.nets legal.rings (omega (arith, stand, once)) some)
-    (cases_lt (member_times n plant.nets) 1)
+    let on = entry-on plant.nets joint.rings e legal.rings there in
+    let number = on.net.number in
+    let ring = ring-there plant joint.rings is legal.rings on.net on.there in
+    let member = subst (IsMember on.net) made on.member in
+    record {
+      net = on.net;
+      ring = ring.ring;
+      history = subst (IsRingHistory on.net) ring.entries
+          (ring-history plant joint.rings is legal.rings on.net on.there);
+      own_is = own-on plant joint.rings is legal.rings on.net n on.there member
+          ∙ ap (own n) ring.entries;
+      among = λ x mine. on-among number joint.rings x
+          (subst (λ (l : List RingEntry). Contains l x) (sym ring.entries) mine);
+    }
 
 -- what a node noted stands on its ring
 pub on-its-ring : (plant : Plant) (whole : List RingEntry) (n : ℕ) (e : RingEntry)
@@ -158,13 +67,13 @@ on-its-ring plant whole n e r there made =
 
 -- ---- what rings say
 
-module _ (plant : Plant) (scans : ℕ) (joint : Joint) (is : IsNetworked plant)
+module _ (plant : Plant) (scans : ℕ) (joint : Joint) (is : IsPlant plant)
     (legal : IsLegalJoint plant scans joint) where
   -- a call is asked for at most once
   pub posted-on-rings : (id : CallId) → count_by (posts id) (noted_on_rings joint) ≤ 1
   posted-on-rings id =
       let ring = noted_on_rings joint in
-      let owns = posts-own plant scans joint id is legal in
+      let owns = posts-own plant scans joint id legal in
       ⊎_elim
       (λ (none : count_by (posts id) ring < 1). omega (arith, none))
       (λ (some : 1 ≤ count_by (posts id) ring).

@@ -1,7 +1,6 @@
 -- The Requests of calls: who took one, and by what route and with what bytes it was posted.
-use Rattle.std.proofs.Common.{◌≡◌, ℕ, ◌<◌, ◌≤◌, Bool, true, false, not, cond}
-use Rattle.std.proofs.Common.{List, [], ◌∷◌, length, map, Some, refl, sym, ap}
-use Rattle.std.proofs.Common.{◌∙◌, subst, inl, inr, ⊎_elim, arith}
+use Rattle.std.proofs.Common.{◌≡◌, ℕ, ◌<◌, ◌≤◌, Bool, true, false, not, cond, List, [], ◌∷◌}
+use Rattle.std.proofs.Common.{length, Some, refl, sym, ap, ◌∙◌, subst, inl, inr, ⊎_elim, arith}
 use Rattle.std.specs.Prelude.{Contains, if◌then◌else◌, ◌==◌, ◌++◌}
 use Rattle.std.specs.List.{AllByRecursion as Each}
 use Rattle.std.proofs.lemmas.Bool.{and_parts, cases_lt, eq-eqb, ne_eqb, true≢false}
@@ -10,7 +9,7 @@ use Rattle.std.proofs.lemmas.List.Sums.{sum_by-append}
 use Rattle.host_port.proofs.Lists.{all_append}
 use Rattle.plant_types.specs.declared.net.BridgePlan.{BridgePlan}
 use Rattle.plant_types.specs.declared.plan.Plant.{Plant}
-use Rattle.plant_types.specs.Plans.{controller_nodes, end_nodes, host_nodes}
+use Rattle.plant_types.specs.Plans.{controller_nodes, end_nodes, host_nodes, IsPlant}
 use Rattle.mstr_block.specs.declared.call.CallId.{CallId}
 use Rattle.ring_core.specs.declared.entry.RingEntry.{RingEntry}
 use Rattle.ring_core.specs.declared.entry.RingEntry.TheVariants.{Post, Send, Take, Local, GiveUp}
@@ -29,9 +28,9 @@ use Rattle.host_port.specs.declared.entry.HostEntry.{HostEntry}
 use Rattle.host_port.specs.declared.entry.HostEntry.TheVariants as host_entries
 use Rattle.bridge_relay.specs.Legal.{IsEnd}
 use Rattle.tied_lists.specs.Own.{own}
-use Rattle.tied_lists.specs.Items.{Answered, ForStats, Items, Plain, RequestItem, Taken}
-use Rattle.tied_lists.specs.Items.{item_of, no_items, plain_items, port_answers, stats_items}
-use Rattle.tied_lists.specs.Items.{taken_by, taken_in, taken_of}
+use Rattle.tied_lists.specs.Items.{Answered, ForStats, Items, Plain, RequestItem, Taken, item_of}
+use Rattle.tied_lists.specs.Items.{no_items, plain_items, port_answers, stats_items, taken_by}
+use Rattle.tied_lists.specs.Items.{taken_in, taken_of}
 use Rattle.tied_lists.specs.Tied.{PeersAreTaken, PortIsTaken}
 use Rattle.joint_history.specs.declared.joint.BridgeLog.{BridgeLog}
 use Rattle.joint_history.specs.declared.joint.ControllerLog.{ControllerLog}
@@ -42,15 +41,14 @@ use Rattle.joint_history.specs.JointLaws.{IsTiedController, IsTiedHost}
 use Rattle.joint_history.specs.Nets.{noted_on_rings}
 use Rattle.joint_history.specs.Reading.{host_item_next, host_items_after, host_items_of, item_next}
 use Rattle.joint_history.specs.Reading.{items_after, items_of}
-use Rattle.effect_laws.proofs.Once.{asks-this}
-use Rattle.effect_laws.proofs.Served.{controller-nodes, host-nodes}
+use Rattle.effect_laws.proofs.Entries.{asks-this}
+use Rattle.effect_laws.proofs.Served.{controller-nodes, host-nodes, log-of}
 use Rattle.effect_laws.proofs.Sources.{behind, first-or-behind, here, in-map, in-none, in-own}
-use Rattle.effect_laws.proofs.Sources.{of-map, of-own}
-use Rattle.route_laws.specs.Networks.{IsNetworked}
-use Rattle.route_laws.proofs.Members.{all_nodes, times}
+use Rattle.effect_laws.proofs.Sources.{of-map, of-own, in-mapped, of-mapped}
+use Rattle.net_laws.proofs.Members.{all_nodes, times}
 use Rattle.route_laws.proofs.Places.{on-its-ring, posted-on-rings, ring-of-node}
-use Rattle.route_laws.proofs.Rings.{makers-stand}
-use Rattle.route_laws.proofs.Sides.{bridge-of, in-mapped, log-of}
+use Rattle.route_laws.proofs.Posts.{makers-stand}
+use Rattle.route_laws.proofs.Sides.{bridge-of}
 use Rattle.route_laws.proofs.Traces.{side-tied}
 
 -- ---- a call was asked for
@@ -119,16 +117,6 @@ host-from a (e ∷ h) all = host-from (host_item_next a e) h (host-next a e all)
 
 pub host-last : (h : List HostEntry) → Each IsLast (host_items_of h).answers
 host-last h = host-from no_items h tt
-
-pub of-mapped : {X Y : Type 0} (g : X → Y) (xs : List X) (y : Y) → Contains (map g xs) y
-    → (x : X) × Contains xs x × (g x ≡ y)
-of-mapped g [] y there = absurd (in-none y there)
-of-mapped g (x ∷ xs) y there =
-    ⊎_elim
-    (λ (same : g x ≡ y). (x, here x xs, same))
-    (λ (more : Contains (map g xs) y).
-    let found = of-mapped g xs y more in (found.0, behind x xs found.0 found.1, found.2))
-    (first-or-behind (g x) (map g xs) y there)
 
 in-plain : (ts : List Taken) (id : CallId) (rest pdu : List ℕ) → Contains ts (Plain id rest pdu)
     → Contains (plain_items ts) (record { id = id; rest = rest; request = Some pdu })
@@ -290,7 +278,7 @@ pub data StandsAt (joint : Joint) (n : ℕ) : Type 0 where
   an_end : (plan : BridgePlan) (log : BridgeLog) → Contains joint.bridges log
       → IsLegalBridgeLog plan log → IsEnd plan n → StandsAt joint n
 
-module _ (plant : Plant) (scans : ℕ) (joint : Joint) (is : IsNetworked plant)
+module _ (plant : Plant) (scans : ℕ) (joint : Joint) (is : IsPlant plant)
     (legal : IsLegalJoint plant scans joint) (tied : IsJoint joint) where
   at-node : (k : ℕ) → 1 ≤ times k (all_nodes plant) → StandsAt joint k
   at-node k some =

@@ -1,16 +1,10 @@
 -- No call of a controller ends with the word for a reply that doesn't fit its request.
-use Rattle.std.proofs.Common.{◌≡◌, ℕ, ◌++◌, Bool, true, false, Option, Some, None}
-use Rattle.std.proofs.Common.{List}
-use Rattle.std.proofs.Common.{[], ◌∷◌, refl, sym, ap, ◌∙◌, subst, inl, inr, ⊎_elim, arith}
-use Rattle.std.proofs.Common.{append_assoc}
-use Rattle.std.specs.Prelude.{Contains, if◌then◌else◌}
+use Rattle.std.proofs.Common.{◌≡◌, ℕ, ◌++◌, Some, List, [], ◌∷◌, refl, sym, ap, ◌∙◌, subst}
+use Rattle.std.specs.Prelude.{Contains, length, nat_le}
 use Rattle.std.proofs.lemmas.Bool.{eq-eqb}
 use Rattle.std.proofs.lemmas.List.Elements.{All-contains, Contains-append_left}
-use Rattle.std.proofs.lemmas.List.Elements.{Contains-append_right, Contains-push}
-use Rattle.std.proofs.lemmas.List.Elements.{Contains-push_cases}
-use Rattle.plant_types.specs.declared.net.NetPlan.{NetPlan}
+use Rattle.std.proofs.lemmas.List.Elements.{Contains-append_right}
 use Rattle.plant_types.specs.declared.plan.Plant.{Plant}
-use Rattle.mstr_block.specs.Call.{is_same_call}
 use Rattle.mstr_block.specs.declared.call.CallId.{CallId}
 use Rattle.mstr_block.specs.declared.call.MstrResult.{MstrResult}
 use Rattle.mstr_block.specs.declared.call.MstrResult.TheVariants.{Bad}
@@ -20,159 +14,37 @@ use Rattle.ring_core.specs.declared.entry.RingEntry.TheVariants.{Post, Take, Loc
 use Rattle.ring_core.specs.declared.frame.FrameKind.{FrameKind}
 use Rattle.ring_core.specs.declared.frame.FrameKind.TheVariants.{Reply}
 use Rattle.ring_core.specs.declared.frame.Frame.{Frame}
-use Rattle.ring_core.specs.Legal.{IsLegalRing}
-use Rattle.ring_laws.specs.Once.{HasAsked, IsFailWord, IsRingHistory}
+use Rattle.ring_laws.specs.Once.{IsFailWord}
 use Rattle.ring_laws.proofs.Law.{given-up-word}
-use Rattle.ring_laws.proofs.Law.{reply-to-its-caller}
-use Rattle.ring_laws.proofs.Lists.{each-contains, same-eq, same-refl}
+use Rattle.ring_laws.proofs.Lists.{each-contains}
 use Rattle.tied_lists.specs.Own.{own}
-use Rattle.tied_lists.specs.Items.{AController, Asked, Called, CallSort, OverNet}
-use Rattle.tied_lists.specs.Items.{AtHome, Came, Ended, asked_by}
-use Rattle.tied_lists.specs.Items.{asked_in}
-use Rattle.tied_lists.specs.Items.{asked_of, last_asked, net_ask, or_some}
-use Rattle.tied_lists.specs.Items.{result_for}
-use Rattle.tied_lists.proofs.Turns.{legal-parts}
+use Rattle.tied_lists.specs.Items.{AController, Asked, Came, Ended, asked_by, asked_in, asked_of}
+use Rattle.tied_lists.specs.Items.{net_ask, result_for}
 use Rattle.joint_history.specs.declared.joint.ControllerLog.{ControllerLog}
 use Rattle.joint_history.specs.declared.joint.Joint.{Joint}
-use Rattle.joint_history.specs.JointLaws.{IsTiedController, fixed_of}
+use Rattle.joint_history.specs.JointLaws.{IsTiedController, fixed_of, IsJoint, IsLegalJoint}
+use Rattle.joint_history.specs.JointLaws.{IsLegalLog}
 use Rattle.joint_history.specs.Reading.{items_of}
 use Rattle.joint_history.proofs.Collected.{CallLaws}
 use Rattle.joint_history.specs.Nets.{noted_on_rings}
 use Rattle.effect_laws.proofs.Asks.{IsAskOf, controller-fits}
-use Rattle.effect_laws.proofs.Fits.{Fitting, NetAsk, port-good}
+use Rattle.effect_laws.proofs.Fits.{NetAsk, port-good}
 use Rattle.effect_laws.proofs.Reports.{finish-ends}
-use Rattle.effect_laws.proofs.Sources.{EndedBy, behind, by_port, by_reply, by_word, end-at}
-use Rattle.effect_laws.proofs.Sources.{ended-by, first-or-behind, in-map, in-none, in-own, of-map}
-use Rattle.effect_laws.proofs.Sources.{of-own, placed}
-use Rattle.std.specs.Prelude.{length, nat_le}
+use Rattle.effect_laws.proofs.Sources.{EndedBy, by_port, by_reply, by_word, end-at, ended-by}
+use Rattle.effect_laws.proofs.Sources.{in-map, in-own, of-map, of-own, placed, here}
 use Rattle.std.proofs.lemmas.List.Sums.{count_by-le-length}
-use Rattle.joint_history.specs.JointLaws.{IsJoint, IsLegalJoint, IsLegalLog}
-use Rattle.effect_laws.proofs.Sources.{here}
-use Rattle.effect_laws.proofs.Words.{asked_as}
-use Rattle.route_laws.specs.Networks.{IsNetworked}
+use Rattle.effect_laws.proofs.Words.{FitsLast, TellsTruly, ask-of, asked-before, asked_as}
+use Rattle.effect_laws.proofs.Words.{bad-same, came-same, fail-word, last-of, last-some, post-of}
+use Rattle.effect_laws.proofs.Words.{truly}
+use Rattle.plant_types.specs.Plans.{IsPlant}
 use Rattle.route_laws.specs.Laws.{FinishesHaveResults}
 use Rattle.route_laws.specs.Ways.{SentOn, sent_on_in}
-use Rattle.route_laws.proofs.Comes.{TellsTruly, TookReply, reply-end, truly}
+use Rattle.route_laws.proofs.Comes.{TookReply, reply-end}
 use Rattle.route_laws.proofs.Hops.{partner}
 use Rattle.route_laws.proofs.Places.{on-its-ring, ring-of-node, size_of}
 use Rattle.route_laws.proofs.Requests.{Requested}
-use Rattle.route_laws.proofs.Sides.{post-of}
 
--- ---- the Request that a Reply came to
-
--- the last Request of a name is one of them
-record LastOf (id : CallId) (asked : List Asked) (pdu : List ℕ) : Type 0 where
-  last : Asked
-  there : Contains asked last
-  name : last.id ≡ id
-  pdu_is : last.pdu ≡ pdu
-
-later : (id : CallId) (x : Asked) (asked : List Asked) (pdu : List ℕ) → LastOf id asked pdu
-    → LastOf id (x ∷ asked) pdu
-later id x asked pdu w =
-    record {
-      last = w.last;
-      there = behind x asked w.last w.there;
-      name = w.name;
-      pdu_is = w.pdu_is;
-    }
-
-last-of : (id : CallId) (asked : List Asked) (pdu : List ℕ) → last_asked id asked ≡ Some pdu
-    → LastOf id asked pdu
-last-of id [] pdu is = absurd cc
-last-of id (x ∷ asked) pdu is = at (last_asked id asked) is (last-of id asked pdu)
-  where
-    one : (b : Bool) → is_same_call x.id id ≡ b → (if b then Some x.pdu else None) ≡ Some pdu
-        → LastOf id (x ∷ asked) pdu
-    one true same is' =
-        let bytes : x.pdu ≡ pdu = cc in
-        record {
-          last = x;
-          there = (0, omega arith, refl);
-          name = same-eq x.id id same;
-          pdu_is = bytes;
-        }
-    one false same is' = absurd cc
-
-    at : (o : Option (List ℕ)) → or_some o (if is_same_call x.id id then Some x.pdu else None)
-        ≡ Some pdu
-        → (o ≡ Some pdu → LastOf id asked pdu) → LastOf id (x ∷ asked) pdu
-    at (Some other) is' rest = later id x asked pdu (rest is')
-    at None is' rest = one (is_same_call x.id id) refl is'
-
-last-some : (id : CallId) (asked : List Asked) (a : Asked) → Contains asked a → a.id ≡ id
-    → (pdu : List ℕ) × (last_asked id asked ≡ Some pdu)
-last-some id [] a there name = absurd (in-none a there)
-last-some id (x ∷ asked) a there name =
-    ⊎_elim
-    (λ (same : x ≡ a). at (last_asked id asked)
-    (ap (λ (y : Asked). is_same_call y.id id) same
-    ∙ (ap (λ (i : CallId). is_same_call i id) name ∙ same-refl id)))
-    (λ (more : Contains asked a).
-    let rest = last-some id asked a more name in
-    (rest.0, ap (λ o. or_some o (if is_same_call x.id id then Some x.pdu else None)) rest.1))
-    (first-or-behind x asked a there)
-  where
-    at : (o : Option (List ℕ)) → is_same_call x.id id ≡ true
-        → (pdu : List ℕ) × (or_some o (if is_same_call x.id id then Some x.pdu else None)
-        ≡ Some pdu)
-    at (Some pdu) same = (pdu, refl)
-    at None same = (x.pdu, ap (λ b. if b then Some x.pdu else None) same)
-
--- a Reply is taken after its Request was posted
-asked-before : (net : NetPlan) (ring front rest : List RingEntry) (n : ℕ) (f : Frame)
-    → IsRingHistory net ring → ring ≡ front ++ Take n f ∷ rest
-    → f.kind ≡ Reply → HasAsked front n f.id
-asked-before net ring front rest n f is ring_is kind =
-    let whole : IsLegalRing net ((front ++ Take n f ∷ []) ++ rest) =
-    subst (IsLegalRing net) (ring_is ∙ sym (append_assoc front (Take n f ∷ []) rest)) is.legal in
-    let history : IsRingHistory net (front ++ Take n f ∷ []) = record {
-      members = is.members;
-      legal = (legal-parts net (front ++ Take n f ∷ []) rest whole).0;
-    } in
-    let asked = (reply-to-its-caller net (front ++ Take n f ∷ []) n f history
-    (inr (Contains-push front (Take n f))) kind).2 in
-    record {
-      request = asked.request;
-      posted = ⊎_elim
-          (λ (there : Contains front (Post n asked.request)). there)
-          (λ (same : Take n f ≡ Post n asked.request). absurd cc)
-          (Contains-push_cases front (Take n f) (Post n asked.request) asked.posted);
-      kind = asked.kind;
-      same = asked.same;
-    }
-
--- ---- a Reply fits
-
-ask-of : (c : Called) (a : Asked) → IsAskOf c → net_ask c ≡ Some a → NetAsk a.pdu
-ask-of c a is of = at c.sort refl of
-  where
-    at : (sort : CallSort) → c.sort ≡ sort → net_ask (record { id = c.id; sort = sort }) ≡ Some a
-        → NetAsk a.pdu
-    at (OverNet route pdu) same of' =
-        let this : Asked = record { id = c.id; route = route; pdu = pdu } in
-        let one : this ≡ a = cc in
-        subst NetAsk (ap (λ (x : Asked). x.pdu) one) (is route pdu same)
-    at (AtHome op) same of' = absurd cc
-
--- the Request that was posted last with the Reply's name, and the Reply fits it
-record FitsLast (id : CallId) (before : List RingEntry) (reply : List ℕ) : Type 0 where
-  ask : List ℕ
-  last : last_asked id (asked_by before) ≡ Some ask
-  fits : Fitting ask reply
-
-fail-word : IsFailWord 0x3000 → ⊥
-fail-word (inl is) = omega (arith, is)
-fail-word (inr (inl is)) = omega (arith, is)
-fail-word (inr (inr is)) = omega (arith, is)
-
-came-same : (one two : MstrResult) → Came one ≡ Came two → one ≡ two
-came-same one two is = cc
-
-bad-same : (word : ℕ) → Bad word ≡ Bad 0x3000 → word ≡ 0x3000
-bad-same word is = cc
-
-module _ (laws : CallLaws) (plant : Plant) (scans : ℕ) (joint : Joint) (is : IsNetworked plant)
+module _ (laws : CallLaws) (plant : Plant) (scans : ℕ) (joint : Joint) (is : IsPlant plant)
     (legal : IsLegalJoint plant scans joint) (tied : IsJoint joint) where
   -- what a controller asks another node for
   net-asked : (log : ControllerLog) → Contains joint.controllers log → (a : Asked)

@@ -1,8 +1,8 @@
 -- A bridge sends on only what it accepted, and each as often at most.
-use Rattle.std.proofs.Common.{◌≡◌, ℕ, ◌+◌, ◌≤◌, Bool, false, cond, List, [], ◌∷◌, ◌++◌}
-use Rattle.std.proofs.Common.{Option, Some, None, refl, sym, ap, subst, inl, inr, arith}
-use Rattle.std.proofs.Common.{append_assoc, append-nil}
-use Rattle.std.specs.Prelude.{slice_get}
+use Rattle.std.proofs.Common.{◌≡◌, ℕ, ◌+◌, ◌≤◌, Bool, false, cond, List, [], ◌∷◌, ◌++◌, Option}
+use Rattle.std.proofs.Common.{Some, None, refl, sym, ap, subst, inl, inr, arith, append_assoc}
+use Rattle.std.proofs.Common.{append-nil, ◌∙◌}
+use Rattle.std.specs.Prelude.{slice_get, drop}
 use Rattle.std.specs.List.{count_by}
 use Rattle.std.proofs.lemmas.Bool.{cases_eq, eq-eqb, ne_eqb}
 use Rattle.plant_types.specs.declared.net.BridgePlan.{BridgePlan}
@@ -11,16 +11,14 @@ use Rattle.mstr_block.specs.Call.{is_same_call}
 use Rattle.bridge_relay.specs.declared.entry.BridgeEntry.{BridgeEntry}
 use Rattle.bridge_relay.specs.declared.entry.BridgeEntry.TheVariants.{Accept, Forward, Finish}
 use Rattle.bridge_relay.specs.declared.entry.BridgeEntry.TheVariants.{Back, Gone}
-use Rattle.bridge_relay.specs.Machine.{EndIs, RelayIs, Waiting, near_end, relay_after}
-use Rattle.bridge_relay.specs.Machine.{side_of}
+use Rattle.bridge_relay.specs.Machine.{EndIs, RelayIs, Waiting, near_end, relay_after, side_of}
 use Rattle.bridge_relay.specs.Kept.{code_between, near_accepted, far_accepted, near_after}
 use Rattle.bridge_relay.specs.Kept.{far_after}
 use Rattle.bridge_relay.specs.Legal.{IsBridgeHistory, IsBridgeStep}
 use Rattle.bridge_relay.proofs.Legal.{forward_made}
 use Rattle.bridge_relay.proofs.Steps.{step_left, step_right, after_more}
-use Rattle.ring_laws.proofs.Lists.{count-push}
-use Rattle.route_laws.specs.Laws.{accepts_call}
-use Rattle.route_laws.proofs.Sums.{first-off}
+use Rattle.ring_laws.proofs.Lists.{count-push, count-cons}
+use Rattle.route_laws.specs.Effects.{accepts_call}
 
 -- a request that waits is that of a call
 abbrev pub is_waiting : CallId → Waiting → Bool
@@ -40,6 +38,14 @@ abbrev IsFirst : EndIs → BridgeEntry → Type 0
 IsFirst near (Forward side old id route request) =
     (item : Waiting) × (slice_get near.to_send 0 ≡ Some item) × (old ≡ item.id)
 IsFirst near _ = Unit {0}
+
+-- a count without its first
+first-off : {X : Type 0} (p : X → Bool) (xs : List X) (x : X) → slice_get xs 0 ≡ Some x
+    → count_by p xs ≡ cond (p x) 1 0 + count_by p (drop 1 xs)
+first-off p [] x is = absurd cc
+first-off p (y ∷ ys) x is =
+    let same : y ≡ x = cc in
+    count-cons p y ys ∙ ap (λ z. cond (p z) 1 0 + count_by p ys) same
 
 accepted-waits : (id : CallId) (near far : EndIs) (item : Waiting) (code : Option ℕ)
     → waits id (near_accepted near item code) + waits id (far_accepted far item code)

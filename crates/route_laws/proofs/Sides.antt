@@ -1,7 +1,6 @@
 -- What the items of a bridge's end tell of its list, and its node's own list of them.
-use Rattle.std.proofs.Common.{◌≡◌, ◌⊎◌, ℕ, ◌≤◌, Bool, true, false, cond, List, [], ◌∷◌}
-use Rattle.std.proofs.Common.{Some, None, map, refl, sym, ap, ◌∙◌, subst}
-use Rattle.std.proofs.Common.{inl, inr, ⊎_elim, arith}
+use Rattle.std.proofs.Common.{◌≡◌, ◌⊎◌, ℕ, ◌≤◌, Bool, true, false, cond, List, [], ◌∷◌, Some, None}
+use Rattle.std.proofs.Common.{refl, sym, ap, ◌∙◌, subst, inl, inr, ⊎_elim, arith}
 use Rattle.std.specs.Prelude.{Contains, filter, flat_map, if◌then◌else◌, ◌==◌}
 use Rattle.std.specs.List.{AllZip, count_by, list_any}
 use Rattle.std.proofs.lemmas.Bool.{cases_eq, eq-eqb, ne_eqb, or_cases}
@@ -14,23 +13,22 @@ use Rattle.ring_core.specs.declared.frame.Frame.{Frame}
 use Rattle.ring_core.specs.declared.frame.FrameKind.{FrameKind}
 use Rattle.ring_core.specs.declared.frame.FrameKind.TheVariants as kinds
 use Rattle.ring_core.specs.Statistics.{is_for_stats}
-use Rattle.ring_core.specs.Words.{frame_route}
 use Rattle.ring_laws.proofs.Lists.{count-cons}
 use Rattle.bridge_relay.specs.declared.entry.BridgeEntry.{BridgeEntry}
 use Rattle.bridge_relay.specs.declared.entry.BridgeEntry.TheVariants.{Accept, Forward, Finish}
 use Rattle.bridge_relay.specs.declared.entry.BridgeEntry.TheVariants.{Back, Gone}
 use Rattle.bridge_relay.specs.declared.entry.RelayResult.{RelayResult}
 use Rattle.bridge_relay.specs.Laws.{is_by}
-use Rattle.tied_lists.specs.Items.{Answered, Asked, Called, Item, Items, Outcome, OverNet}
-use Rattle.tied_lists.specs.Items.{Plain, ForStats, RequestItem, Taken, asked_in, asked_of}
-use Rattle.tied_lists.specs.Items.{no_items, plain_items, taken_in, taken_of}
+use Rattle.tied_lists.specs.Items.{Answered, Called, Item, Items, Outcome, OverNet, Plain}
+use Rattle.tied_lists.specs.Items.{ForStats, RequestItem, Taken, no_items, plain_items, taken_in}
+use Rattle.tied_lists.specs.Items.{taken_of}
 use Rattle.joint_history.specs.declared.joint.BridgeLog.{BridgeLog}
 use Rattle.joint_history.specs.JointLaws.{IsLegalBridgeLog}
 use Rattle.joint_history.specs.Bridges.{back_of, backs_of, made_at_end, relay_outcome}
 use Rattle.joint_history.specs.Bridges.{side_item_next, side_items, side_items_after}
 use Rattle.effect_laws.proofs.Reports.{Told}
 use Rattle.effect_laws.proofs.Sources.{behind, first-or-behind, here, in-none, of-map}
-use Rattle.route_laws.proofs.Members.{times}
+use Rattle.net_laws.proofs.Members.{times}
 
 -- ---- lists
 
@@ -64,16 +62,6 @@ of-filter p (y ∷ xs) x there = at (p y) there (of-filter p xs x)
         (λ (more : Contains (filter p xs) x). behind y xs x (rest more))
         (first-or-behind y (filter p xs) x in')
     at false in' rest = behind y xs x (rest in')
-
-pub in-mapped : {X Y : Type 0} (g : X → Y) (xs : List X) (x : X) → Contains xs x
-    → Contains (map g xs) (g x)
-in-mapped g [] x there = absurd (in-none x there)
-in-mapped g (y ∷ xs) x there =
-    ⊎_elim
-    (λ (same : y ≡ x). subst (λ z. Contains (z ∷ map g xs) (g x)) (ap g (sym same))
-    (here (g x) (map g xs)))
-    (λ (more : Contains xs x). behind (g y) (map g xs) (g x) (in-mapped g xs x more))
-    (first-or-behind y xs x there)
 
 pub any-counts : {X : Type 0} (p : X → Bool) (xs : List X) → list_any p xs ≡ true
     → 1 ≤ count_by p xs
@@ -211,44 +199,6 @@ back-there list side id pdu there =
           (of-filter (is_by side) list found.0 found.1),
     )
 
--- ---- entries of the ring
-
--- a Request that was posted
-pub record PostOf (x : RingEntry) (asked : Asked) : Type 0 where
-  pub node : ℕ
-  pub frame : Frame
-  pub is : x ≡ ring_entries.Post node frame
-  pub kind : frame.kind ≡ kinds.Request
-  pub id : frame.id ≡ asked.id
-  pub route : frame_route frame ≡ asked.route
-  pub pdu : frame.pdu ≡ asked.pdu
-
-post-kind : (n : ℕ) (f : Frame) (kind : FrameKind) → f.kind ≡ kind → (asked : Asked)
-    → asked_in kind f ≡ Some asked → PostOf (ring_entries.Post n f) asked
-post-kind n f kinds.Reply k asked is = absurd cc
-post-kind n f kinds.Request k asked is =
-    let this : Asked = record { id = f.id; route = frame_route f; pdu = f.pdu } in
-    let same : this ≡ asked = cc in
-    record {
-      node = n;
-      frame = f;
-      is = refl;
-      kind = k;
-      id = ap (λ (a : Asked). a.id) same;
-      route = ap (λ (a : Asked). a.route) same;
-      pdu = ap (λ (a : Asked). a.pdu) same;
-    }
-
-pub post-of : (x : RingEntry) (asked : Asked) → asked_of x ≡ Some asked → PostOf x asked
-post-of (ring_entries.Post n f) asked is = post-kind n f f.kind refl asked is
-post-of (ring_entries.Send n heard) asked is = absurd cc
-post-of (ring_entries.Take n f) asked is = absurd cc
-post-of (ring_entries.Local n id op result) asked is = absurd cc
-post-of (ring_entries.GiveUp id word) asked is = absurd cc
-post-of (ring_entries.Pass n done words) asked is = absurd cc
-post-of (ring_entries.Leave n cause) asked is = absurd cc
-post-of (ring_entries.Join n) asked is = absurd cc
-
 -- a Request that was taken, for what stands behind the node
 pub record TakePlain (x : RingEntry) (id : CallId) (rest pdu : List ℕ) : Type 0 where
   pub node : ℕ
@@ -316,21 +266,6 @@ plain-there (Plain name route bytes ∷ ts) id rest pdu there =
   where
     some-list : (x y : List ℕ) → Some x ≡ Some y → x ≡ y
     some-list x y e = cc
-
--- ---- logs by their nodes
-
-pub log-of : {L : Type 0} (node : L → ℕ) (n : ℕ) (ls : List L) → 1 ≤ times n (map node ls)
-    → (l : L) × Contains ls l × (node l ≡ n)
-log-of node n [] some = absurd (omega (arith, some))
-log-of node n (l ∷ ls) some = elim (cases_eq n (node l)) [
-  | inl same ↦ (l, here l ls, sym same)
-  | inr other ↦
-      let step = count-cons (λ k. n == k) (node l) (map node ls) in
-      let none : cond {A = ℕ} (n == node l) 1 0 ≡ 0 =
-      ap (λ b. cond b 1 0) (ne_eqb n (node l) other) in
-      let rest = log-of node n ls (omega (arith, some, step, none)) in
-      (rest.0, behind l ls rest.0 rest.1, rest.2)
-]
 
 pub record BridgeOf (logs : List BridgeLog) (n : ℕ) : Type 0 where
   pub plan : BridgePlan

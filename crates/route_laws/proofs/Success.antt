@@ -1,7 +1,7 @@
 -- A call that reports success took effect, under one of its names.
-use Rattle.std.proofs.Common.{◌≡◌, ◌⊎◌, ℕ, zero, suc, ◌+◌, ◌<◌, ◌≤◌, true, cond}
-use Rattle.std.proofs.Common.{List, [], ◌∷◌, length, Option, Some, None, refl, sym, ap, ◌∙◌, subst}
-use Rattle.std.proofs.Common.{inl, inr, ⊎_elim, arith}
+use Rattle.std.proofs.Common.{◌≡◌, ◌⊎◌, ℕ, zero, suc, ◌+◌, ◌<◌, ◌≤◌, true, cond, List, [], ◌∷◌}
+use Rattle.std.proofs.Common.{length, Option, Some, None, refl, sym, ap, ◌∙◌, subst, inl, inr}
+use Rattle.std.proofs.Common.{⊎_elim, arith}
 use Rattle.std.specs.Prelude.{Contains, filter, nat_le, option_map, slice_get, unwrap_or}
 use Rattle.std.specs.List.{count_by, sum_by}
 use Rattle.std.proofs.lemmas.Bool.{and_from, cases_Bool, le-leb, leb-true, true≢false}
@@ -11,10 +11,9 @@ use Rattle.plant_types.specs.declared.plan.Plant.{Plant}
 use Rattle.mstr_block.specs.declared.call.CallId.{CallId}
 use Rattle.mstr_block.specs.declared.call.MstrResult.{MstrResult}
 use Rattle.mstr_block.specs.declared.call.MstrResult.TheVariants.{Bad, Good}
-use Rattle.ring_core.specs.declared.entry.LocalOp.{LocalOp}
 use Rattle.ring_core.specs.declared.entry.RingEntry.{RingEntry}
 use Rattle.ring_core.specs.declared.entry.RingEntry.TheVariants.{Local}
-use Rattle.ring_laws.proofs.Lists.{contains-count, count-cons, only-one, same-refl}
+use Rattle.ring_laws.proofs.Lists.{count-cons, only-one, same-refl}
 use Rattle.host_port.specs.declared.entry.HostResult.TheVariants as results
 use Rattle.reply_laws.specs.Result.{no_result, result_of}
 use Rattle.tied_lists.specs.Items.{AController, AHost, Asked, Came, Ended, last_asked, result_for}
@@ -23,12 +22,11 @@ use Rattle.joint_history.specs.Effects.{effects}
 use Rattle.joint_history.specs.JointLaws.{IsJoint, IsLegalJoint, IsTiedController, IsTiedHost}
 use Rattle.joint_history.specs.Nets.{noted_on_rings}
 use Rattle.effect_laws.specs.Success.{ReportsSuccess, is_exception_reply}
-use Rattle.effect_laws.proofs.Homes.{acts_at_home}
-use Rattle.effect_laws.proofs.Once.{effects-are}
+use Rattle.effect_laws.proofs.Homes.{home-effect}
 use Rattle.effect_laws.proofs.Reports.{answer-ends, finish-ends}
-use Rattle.effect_laws.proofs.Sources.{EndedBy, by_port, by_reply, by_word, first-or-behind}
-use Rattle.effect_laws.proofs.Sources.{here, in-none}
-use Rattle.route_laws.specs.Networks.{IsNetworked}
+use Rattle.effect_laws.proofs.Sources.{EndedBy, by_port, by_reply, by_word, first-or-behind, here}
+use Rattle.effect_laws.proofs.Sources.{in-none}
+use Rattle.plant_types.specs.Plans.{IsPlant}
 use Rattle.route_laws.specs.Laws.{SuccessIsOneEffectOnWay, WaysHaveOneEffect}
 use Rattle.route_laws.specs.Ways.{SentOn, names_from, next_name, sent_on_in}
 use Rattle.route_laws.proofs.Once.{is_old, taken-on-once}
@@ -122,7 +120,7 @@ own-name f sent (suc more) id =
     let step = sum_by-cons f id rest in
     omega (arith, step)
 
-module _ (plant : Plant) (scans : ℕ) (joint : Joint) (is : IsNetworked plant)
+module _ (plant : Plant) (scans : ℕ) (joint : Joint) (is : IsPlant plant)
     (legal : IsLegalJoint plant scans joint) (tied : IsJoint joint) where
   -- a Reply that is no exception has an effect behind it, under one of the names that follow
   reaches : (more : ℕ) (id : CallId)
@@ -174,15 +172,6 @@ module _ (plant : Plant) (scans : ℕ) (joint : Joint) (is : IsNetworked plant)
       came : (x y : MstrResult) → Came x ≡ Came y → x ≡ y
       came x y e = cc
 
-  home-effect : (n : ℕ) (id : CallId) (op : LocalOp) (result : MstrResult)
-      → Contains (noted_on_rings joint) (Local n id op result) → acts_at_home id
-      (Local n id op result) ≡ true → 1 ≤ effects joint id
-  home-effect n id op result there acts =
-      let some = contains-count (acts_at_home id) (noted_on_rings joint) (Local n id op result) acts
-      there in
-      let all = effects-are joint id in
-      omega (arith, some, all)
-
   -- what ended a controller's call with a good result
   ended-good : (asked : List Asked) (e : RingEntry) (end' : Ended) (words : List ℕ)
       → Contains (noted_on_rings joint) e → EndedBy AController asked e end'
@@ -200,7 +189,7 @@ module _ (plant : Plant) (scans : ℕ) (joint : Joint) (is : IsNetworked plant)
   ended-good asked e end' words there (by_word word e_is outcome) good =
       absurd (let no' : Came (Bad word) ≡ Came (Good words) = outcome ∙ good in cc)
   ended-good asked e end' words there (by_port n op result e_is mine outcome) good =
-      inl (home-effect n end'.id op result
+      inl (home-effect joint end'.id (Local n end'.id op result)
       (subst (λ (x : RingEntry). Contains (noted_on_rings joint) x) e_is there)
       (and_from _ _ (same-refl end'.id) mine))
 

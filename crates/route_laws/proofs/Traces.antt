@@ -1,16 +1,15 @@
 -- Where a reply comes from: an effect of its call, or a call under which a bridge sent it on.
-use Rattle.std.proofs.Common.{◌≡◌, ◌⊎◌, ℕ, suc, ◌<◌, ◌≤◌, true, cond, not}
-use Rattle.std.proofs.Common.{List, [], ◌∷◌, ◌++◌, length, Option, Some, refl, sym, ap}
-use Rattle.std.proofs.Common.{◌∙◌, subst, inl, inr, ⊎_elim, arith}
+use Rattle.std.proofs.Common.{◌≡◌, ◌⊎◌, ℕ, suc, ◌<◌, ◌≤◌, true, cond, not, List, [], ◌∷◌, ◌++◌}
+use Rattle.std.proofs.Common.{length, Option, Some, refl, sym, ap, ◌∙◌, subst, inl, inr, ⊎_elim}
+use Rattle.std.proofs.Common.{arith}
 use Rattle.std.specs.Prelude.{Contains, filter_map, flat_map, ◌==◌}
-use Rattle.std.specs.List.{count_by, sum_by}
-use Rattle.std.proofs.lemmas.Bool.{and_from, cases_Bool, cases_lt, eq-eqb}
+use Rattle.std.proofs.lemmas.Bool.{cases_Bool, cases_lt, eq-eqb}
 use Rattle.std.proofs.lemmas.List.Elements.{All-contains, Contains-append_left}
 use Rattle.std.proofs.lemmas.List.Elements.{Contains-append_right}
-use Rattle.std.proofs.lemmas.List.Sums.{sum_by-append, sum_by-cons}
+use Rattle.std.proofs.lemmas.List.Sums.{sum_by-append}
 use Rattle.plant_types.specs.declared.net.BridgePlan.{BridgePlan}
 use Rattle.plant_types.specs.declared.plan.Plant.{Plant}
-use Rattle.plant_types.specs.Plans.{controller_nodes, end_nodes, host_nodes}
+use Rattle.plant_types.specs.Plans.{controller_nodes, end_nodes, host_nodes, IsPlant}
 use Rattle.mstr_block.specs.declared.call.CallId.{CallId}
 use Rattle.mstr_block.specs.Call.{is_same_call}
 use Rattle.ring_core.specs.declared.entry.RingEntry.{RingEntry}
@@ -19,51 +18,48 @@ use Rattle.ring_core.specs.declared.frame.Frame.{Frame}
 use Rattle.ring_core.specs.declared.frame.FrameKind.{FrameKind}
 use Rattle.ring_core.specs.declared.frame.FrameKind.TheVariants as kinds
 use Rattle.ring_core.specs.Words.{maker}
-use Rattle.ring_laws.proofs.Lists.{contains-count, each-contains, same-refl}
+use Rattle.ring_laws.proofs.Lists.{each-contains}
 use Rattle.bridge_relay.specs.declared.entry.BridgeEntry.{BridgeEntry}
 use Rattle.bridge_relay.specs.declared.entry.BridgeEntry.TheVariants.{Accept, Forward}
 use Rattle.bridge_relay.specs.declared.entry.RelayResult.TheVariants.{Reply}
 use Rattle.bridge_relay.specs.Machine.{side_of}
 use Rattle.bridge_relay.specs.Legal.{IsBridgeHistory, IsEnd}
 use Rattle.bridge_relay.proofs.Parts.{all_steps}
-use Rattle.tied_lists.specs.Own.{is_of, own}
+use Rattle.tied_lists.specs.Own.{own}
 use Rattle.tied_lists.specs.Items.{ABridge, AController, AHost, Answered, Asked, Called, Came}
-use Rattle.tied_lists.specs.Items.{Ended}
-use Rattle.tied_lists.specs.Items.{Item, Items, Lacked, OverNet, Plain, Replied}
-use Rattle.tied_lists.specs.Items.{RequestItem, Station, asked_by, asked_of, ended_by}
-use Rattle.tied_lists.specs.Items.{item_of, net_ask, outcome_of_reply, outcome_of_word}
-use Rattle.tied_lists.specs.Items.{port_answers, replied_by, replied_in, replied_of}
-use Rattle.tied_lists.specs.Items.{taken_by, taken_of}
+use Rattle.tied_lists.specs.Items.{Ended, Item, Lacked, OverNet, Plain, Replied, RequestItem}
+use Rattle.tied_lists.specs.Items.{Station, asked_by, asked_of, ended_by, item_of, net_ask}
+use Rattle.tied_lists.specs.Items.{outcome_of_reply, outcome_of_word, port_answers, replied_by}
+use Rattle.tied_lists.specs.Items.{replied_in, replied_of, taken_by, taken_of}
 use Rattle.tied_lists.specs.Tied.{is_port_reply}
-use Rattle.tied_lists.proofs.Boxes.{count-filter}
 use Rattle.joint_history.specs.declared.joint.BridgeLog.{BridgeLog}
 use Rattle.joint_history.specs.declared.joint.ControllerLog.{ControllerLog}
 use Rattle.joint_history.specs.declared.joint.HostLog.{HostLog}
 use Rattle.joint_history.specs.declared.joint.Joint.{Joint}
 use Rattle.joint_history.specs.Bridges.{side_items}
-use Rattle.joint_history.specs.Effects.{answers, answers_to, effects, has_reply}
+use Rattle.joint_history.specs.Effects.{answers_to, effects}
 use Rattle.joint_history.specs.JointLaws.{IsJoint, IsLegalBridgeLog, IsLegalJoint, IsTiedBridge}
 use Rattle.joint_history.specs.JointLaws.{IsTiedController, IsTiedHost, IsTiedSide}
 use Rattle.joint_history.specs.Nets.{noted_on_rings}
 use Rattle.joint_history.specs.Reading.{host_items_of, items_of}
-use Rattle.effect_laws.specs.Served.{serves_another}
 use Rattle.effect_laws.specs.Success.{is_exception_reply}
-use Rattle.effect_laws.proofs.Once.{asks-this, effects-are}
-use Rattle.effect_laws.proofs.Reports.{origin-in}
-use Rattle.effect_laws.proofs.Served.{controller-nodes, for_others, host-nodes, is_answer}
+use Rattle.effect_laws.proofs.Entries.{asks-this}
+use Rattle.effect_laws.proofs.Found.{part-most}
+use Rattle.effect_laws.proofs.Reports.{origin-in, port-effect, port-served, station-served}
+use Rattle.effect_laws.proofs.Words.{post-of}
+use Rattle.effect_laws.proofs.Served.{controller-nodes, host-nodes, log-of}
 use Rattle.effect_laws.proofs.Sources.{EndedBy, by_port, by_reply, by_word, end-at, ended-by}
 use Rattle.effect_laws.proofs.Sources.{first-or-behind, in-map, in-none, in-own, of-map, of-own}
-use Rattle.route_laws.specs.Networks.{IsNetworked}
+use Rattle.effect_laws.proofs.Sources.{in-mapped}
 use Rattle.route_laws.specs.Ways.{SentOn, sent_of, sent_on_in}
-use Rattle.route_laws.proofs.Given.{GoneOn, Refused, back-given, exceptions-are}
-use Rattle.route_laws.proofs.Given.{sent-accepts}
-use Rattle.route_laws.proofs.Members.{all_nodes, times}
+use Rattle.route_laws.proofs.Given.{GoneOn, Refused, back-given, exceptions-are, sent-accepts}
+use Rattle.net_laws.proofs.Members.{all_nodes, times}
 use Rattle.route_laws.proofs.Places.{posted-on-rings, reply-posted, request-posted, size-is}
 use Rattle.route_laws.proofs.Places.{size_of}
-use Rattle.route_laws.proofs.Rings.{makers-stand}
+use Rattle.route_laws.proofs.Posts.{makers-stand}
 use Rattle.route_laws.proofs.Sides.{accept-answered, any-counts, back-there, bridge-of}
-use Rattle.route_laws.proofs.Sides.{finish-told, forward-called, in-filter, in-mapped, log-of}
-use Rattle.route_laws.proofs.Sides.{plain-there, post-of, take-plain}
+use Rattle.route_laws.proofs.Sides.{finish-told, forward-called, in-filter, plain-there}
+use Rattle.route_laws.proofs.Sides.{take-plain}
 
 -- a node took a Reply to a call, which is no exception
 pub record TookPlain (joint : Joint) (id : CallId) : Type 0 where
@@ -83,17 +79,6 @@ pub record Onward (joint : Joint) (id : CallId) : Type 0 where
 
 abbrev pub Traced : Joint → CallId → Type 0
 Traced joint id = (1 ≤ effects joint id) ⊎ Onward joint id
-
--- ---- lists
-
-part-most : {X : Type 0} (f : X → ℕ) (xs : List X) (x : X) → Contains xs x → f x ≤ sum_by f xs
-part-most f [] x there = absurd (in-none x there)
-part-most f (y ∷ xs) x there =
-    let step = sum_by-cons f y xs in
-    ⊎_elim
-    (λ (same : y ≡ x). let here = ap f same in omega (arith, step, here))
-    (λ (more : Contains xs x). let rest = part-most f xs x more in omega (arith, step, rest))
-    (first-or-behind y xs x there)
 
 pub in-flat : {X Y : Type 0} (parts : X → List Y) (xs : List X) (x : X) (y : Y) → Contains xs x
     → Contains (parts x) y → Contains (flat_map parts xs) y
@@ -164,35 +149,9 @@ took-replied joint station end' id pdu replies words at same is plain =
     by e there (by_port n op result e_is mine outcome) =
         absurd (let no' : Came result ≡ Replied pdu = outcome ∙ is in cc)
 
-module _ (plant : Plant) (scans : ℕ) (joint : Joint) (is : IsNetworked plant)
+module _ (plant : Plant) (scans : ℕ) (joint : Joint) (is : IsPlant plant)
     (legal : IsLegalJoint plant scans joint) (tied : IsJoint joint) where
   -- ---- effects
-
-  -- what a port answered took effect
-  pub port-effect : (n : ℕ) (id : CallId)
-      → 1 ≤ count_by (is_answer id) (port_answers (own n (noted_on_rings joint)))
-      → 1 ≤ effects joint id
-  port-effect n id some =
-      let own_served = for_others id (own n (noted_on_rings joint)) in
-      let most = count-filter (serves_another id) (is_of n) (noted_on_rings joint) in
-      let all = effects-are joint id in
-      omega (arith, some, own_served, most, all)
-
-  pub port-answer : (n : ℕ) (answer : Answered) (id : CallId)
-      → Contains (port_answers (own n (noted_on_rings joint))) answer → answer.id ≡ id
-      → 1 ≤ effects joint id
-  port-answer n answer id there named =
-      port-effect n id (contains-count (is_answer id) (port_answers (own n (noted_on_rings joint)))
-      answer (ap (λ (i : CallId). is_same_call i id) named ∙ same-refl id) there)
-
-  -- so did what a station answered
-  station-served : (items : Items) (answer : Answered) (id : CallId) (pdu : List ℕ)
-      → Contains items.answers answer
-      → answer.id ≡ id → answer.reply ≡ Some pdu → 1 ≤ answers_to id items
-  station-served items answer id pdu there named told =
-      contains-count (answers id) items.answers answer
-      (and_from _ _ (ap (λ (i : CallId). is_same_call i id) named ∙ same-refl id)
-      (ap has_reply told)) there
 
   pub controller-effect : (log : ControllerLog) (f : Frame) → Contains joint.controllers log
       → Contains (noted_on_rings joint) (Post log.node f) → f.kind ≡ kinds.Reply
@@ -208,7 +167,7 @@ module _ (plant : Plant) (scans : ℕ) (joint : Joint) (is : IsNetworked plant)
       let most = part-most served joint.controllers log log_there in
       omega (arith, some, most))
       (λ (port : Contains (port_answers (own log.node (noted_on_rings joint))) o.answer).
-      port-answer log.node o.answer f.id port o.named)
+      port-served joint log.node o.answer f.id port o.named)
       o.among
 
   pub host-effect : (log : HostLog) (f : Frame) → Contains joint.hosts log
@@ -226,7 +185,7 @@ module _ (plant : Plant) (scans : ℕ) (joint : Joint) (is : IsNetworked plant)
       let most = part-most served joint.hosts log log_there in
       omega (arith, some, most))
       (λ (port : Contains (port_answers (own log.node (noted_on_rings joint))) o.answer).
-      port-answer log.node o.answer f.id port o.named)
+      port-served joint log.node o.answer f.id port o.named)
       o.among
 
   -- ---- bridges
@@ -333,7 +292,7 @@ module _ (plant : Plant) (scans : ℕ) (joint : Joint) (is : IsNetworked plant)
       let replied = in-map replied_of b (Post side f) item
       (ap (λ (k : FrameKind). replied_in k f) kind) mine in
       elim (cases_Bool (is_port_reply (port_answers b) item)) [
-        | inl port ↦ inl (port-effect side f.id
+        | inl port ↦ inl (port-effect joint side f.id
             (any-counts (λ (a : Answered). is_same_call a.id f.id) (port_answers b) port))
         | inr back ↦
             let given = in-filter (λ (i : Item). not (is_port_reply (port_answers b) i))

@@ -14,9 +14,9 @@ use Rattle.joint_history.specs.declared.joint.BridgeLog.{BridgeLog}
 use Rattle.joint_history.specs.declared.joint.ControllerLog.{ControllerLog}
 use Rattle.joint_history.specs.declared.joint.HostLog.{HostLog}
 use Rattle.joint_history.specs.declared.joint.Joint.{Joint}
-use Rattle.effect_laws.specs.HostReplies.{NodeAnswers}
+use Rattle.effect_laws.specs.Answers.{NodeAnswers}
 use Rattle.effect_laws.specs.Success.{ReportsSuccess}
-use Rattle.effect_laws.specs.Targets.{TakesEffectAt}
+use Rattle.effect_laws.specs.Places.{TakesEffectAt}
 use Rattle.route_laws.specs.Ways.{names_on_way, next_name, sent_on_in}
 
 -- A route ends at a node.
@@ -84,8 +84,13 @@ AsksOwnPort joint id =
     × (call : Call) × Contains calls call × (call.id ≡ id)
     × (op : LocalOp) × (call.kind ≡ Local op)
 
+-- A controller or a host made a call.
+abbrev pub WasMade : Joint → CallId → Type 0
+WasMade joint id = ((route : List ℕ) × AsksBy joint id route) ⊎ AsksOwnPort joint id
+
 -- All effects of a call, under whatever of its names, are at the node at which its route ends;
--- those of a call to the own port are at the own node; one that reports success has an effect.
+-- those of a call to the own port are at the own node; one that reports success has an effect; and
+-- each effect is that of a call that was made, under one of its names.
 pub record EffectsAreAtEnd (joint : Joint) : Type 0 where
   pub ends : (id : CallId) (route : List ℕ) → AsksBy joint id route
       → (name : CallId) → Contains (names_on_way joint id) name
@@ -96,6 +101,8 @@ pub record EffectsAreAtEnd (joint : Joint) : Type 0 where
   pub success : (id : CallId) → ReportsSuccess joint id
       → (name : CallId) × Contains (names_on_way joint id) name
       × (n : ℕ) × TakesEffectAt joint name n
+  pub made : (name : CallId) (n : ℕ) → TakesEffectAt joint name n
+      → (id : CallId) × WasMade joint id × Contains (names_on_way joint id) name
 
 -- A host asked for a reply: the node at the end of the route gave it, to the very request that the
 -- host made, or it is an exception that a bridge on the way made of that request.

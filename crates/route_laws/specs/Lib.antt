@@ -1,4 +1,4 @@
-pub mod Networks
 pub mod Ways
 pub mod Ends
+pub mod Effects
 pub mod Laws

@@ -1,20 +1,16 @@
-//! Laws of the effects of calls that go over bridges. This project's own.
-ghost use Rattle.route_laws.specs.Networks.{PlantsAreNetworked};
-ghost use Rattle.route_laws.specs.Laws.{AreTakenOnOnce, WaysHaveOneEffect};
+//! Laws of the effects of calls, in plants of any number of networks and bridges. This project's
+//! own.
+ghost use Rattle.route_laws.specs.Laws.{RequestsAreTakenOnOnce, WaysHaveOneEffect};
 ghost use Rattle.route_laws.specs.Laws.{FinishesHaveResults, SuccessIsOneEffectOnWay};
 ghost use Rattle.route_laws.specs.Laws.{AllEffectsAreAtTheirEnd, HostsGetTheirReplies};
+ghost use Rattle.route_laws.specs.Laws.{AllEffectsAreRight, WaysOfOneNetwork};
 
 use ladder_solver::segments_keep_calls;
 use mstr_block::{calls_are_taken_in_order, finishes_end_one_call, stays_table};
 
-/// Each plant is one of networks and bridges.
-pub fn plants_are_networked()
-    ensures { PlantsAreNetworked }
-{}
-
 /// Bridges accept each request at most once, and send it on at most once.
 pub fn requests_are_taken_on_once()
-    ensures { AreTakenOnOnce }
+    ensures { RequestsAreTakenOnOnce }
 {}
 
 /// No call takes effect twice, under whatever names it goes.
@@ -34,8 +30,8 @@ pub fn success_is_one_effect_on_way()
     ways_have_one_effect();
 }
 
-/// No call of a controller ends with 3000: each reply that it takes is one to the very request that
-/// it posted, or an exception that a bridge made of it.
+/// No call of a controller ends with 3000: each reply that it takes is one to the very request
+/// that it posted, or an exception that a bridge made of it.
 pub fn finishes_have_results()
     ensures { FinishesHaveResults }
 {
@@ -45,9 +41,9 @@ pub fn finishes_have_results()
     stays_table();
 }
 
-/// Each effect of a call, under whatever names it goes, is at the node at which its route ends, and
-/// that of a call to the own port at the own node. So is the one effect of a call that reports
-/// success.
+/// Each effect of a call, under whatever names it goes, is at the node at which its route ends,
+/// and that of a call to the own port at the own node. So is the one effect of a call that reports
+/// success. And each effect is that of a call that a controller or a host made.
 pub fn effects_are_at_their_end()
     ensures { AllEffectsAreAtTheirEnd }
 {
@@ -58,8 +54,8 @@ pub fn effects_are_at_their_end()
     success_is_one_effect_on_way();
 }
 
-/// Each reply that a host got is the answer of the node at which the route ends, to the very request
-/// that it made, or an exception that a bridge on the way made of it.
+/// Each reply that a host got is the answer of the node at which the route ends, to the very
+/// request that it made, or an exception that a bridge on the way made of it.
 pub fn hosts_get_their_replies()
     ensures { HostsGetTheirReplies }
 {
@@ -68,3 +64,23 @@ pub fn hosts_get_their_replies()
     finishes_end_one_call();
     stays_table();
 }
+
+/// All of these, for whoever promises them of a joint history: the effects of a plant's calls are
+/// right, over any number of networks and bridges. What this says of a plant of one network, where
+/// each call has its own name alone, `ways_of_one_network` tells.
+pub fn effects_are_right()
+    ensures { AllEffectsAreRight }
+{
+    requests_are_taken_on_once();
+    ways_have_one_effect();
+    success_is_one_effect_on_way();
+    effects_are_at_their_end();
+    finishes_have_results();
+    hosts_get_their_replies();
+}
+
+/// In a plant of one network there is no bridge, and each call has its own name alone: what takes
+/// effect on its way takes effect under that name, and no bridge refuses it.
+pub fn ways_of_one_network()
+    ensures { WaysOfOneNetwork }
+{}

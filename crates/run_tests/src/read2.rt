@@ -4,6 +4,7 @@ ghost use Rattle.std.specs.List.{AllByRecursion};
 ghost use Rattle.traffic_cop.specs.Rows.{IsRunnablePlan};
 ghost use Rattle.plant_types.specs.Plans.{IsNetPlan, PassesTests};
 ghost use Rattle.joint_history.specs.Runnable.{CanRunPlant};
+ghost use Rattle.one_net.specs.OneNet.{IsOfOneNet};
 
 use plant_types::{
     Cell, ControllerPlan, Element, Fate, List, MathOp, NetPlan, Network, Operand, OrderRow, Plant,
@@ -269,7 +270,8 @@ fn plant_of(
     requires passes { All PassesTests controllers }
     requires nodes { map (λ plan. plan.node) controllers ≡ 2 ∷ 5 ∷ [] }
     requires there { All (λ plan. plan.network ≡ 0) controllers }
-    ensures { IfOk result CanRunPlant }
+    ensures runs { IfOk result CanRunPlant }
+    ensures one { IfOk result IsOfOneNet }
 {
     let mut nets = List::new(alloc);
     nets.push(net)?;
@@ -284,7 +286,8 @@ fn plant_of(
 }
 
 pub fn read2(alloc: Global, change: Change) -> Result<Plant, AllocError>
-    ensures { IfOk result CanRunPlant }
+    ensures runs { IfOk result CanRunPlant }
+    ensures one { IfOk result IsOfOneNet }
 {
     let net = net(alloc, change)?;
     let controllers = controllers(alloc, change)?;

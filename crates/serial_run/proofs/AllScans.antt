@@ -10,22 +10,21 @@ use Rattle.std.proofs.lemmas.List.Sums.{sum_by-cons}
 use Rattle.std.proofs.lemmas.List.Elements.{All-cons, All-nil}
 use Rattle.plant_types.specs.declared.plan.ControllerPlan.{ControllerPlan}
 use Rattle.plant_types.specs.declared.plan.Plant.{Plant}
-use Rattle.ring_core.specs.declared.entry.RingEntry.{RingEntry}
-use Rattle.ring_core.specs.Legal.{IsLegalRing}
 use Rattle.controller_core.specs.declared.fixed.Fixed.{Fixed}
 use Rattle.controller_core.specs.Controller.{has_ended, left_of}
 use Rattle.joint_history.specs.JointLaws.{fixed_of}
 use Rattle.joint_history.specs.Reading.{controller_at}
 use Rattle.whole_scan.specs.Scans.{IsBetweenScans, LessensScan, MadeEvents, with_scan}
 use Rattle.serial_run.specs.declared.stations.ControllerStation.{ControllerStation}
+use Rattle.serial_run.specs.declared.stations.RingStation.{RingStation}
 use Rattle.serial_run.specs.declared.stations.Stations.{Stations}
 use Rattle.serial_run.specs.Serial.{log_with_scan, scanned}
-use Rattle.serial_run.specs.Stations.{Did, StandAll, StandsController, StandsHost}
-use Rattle.serial_run.specs.Stations.{host_log_of, log_of}
+use Rattle.serial_run.specs.Stations.{Did, HostStandsOn, StandAll, StandsOn, StandsRing}
+use Rattle.serial_run.specs.Stations.{StandsSite, host_log_of, log_of, log_of_ring, log_of_site}
+use Rattle.serial_run.specs.Stations.{ring_in}
 use Rattle.serial_run.specs.Scans.{have_ended, steps_left, AreBetweenScans}
 use Rattle.serial_run.proofs.Lists.{zip-both}
 use Rattle.serial_run.proofs.Standings.{stands-scans}
-use Rattle.plant_types.specs.Plans.{first_net}
 
 -- a station whose controller made a scan
 pub record Scanned (s t : ControllerStation) : Type 0 where
@@ -131,64 +130,65 @@ everyone-scanned first now at is some =
 -- ---- what that makes of all stations
 
 module _ (old new : Stations) (hosts : new.hosts.items ≡ old.hosts.items)
-    (network : new.network ≡ old.network) (ring : new.ring ≡ old.ring)
+    (bridges : new.bridges.items ≡ old.bridges.items)
+    (rings : new.rings.items ≡ old.rings.items)
     (each : AllZip Scanned old.controllers.items new.controllers.items) where
   scanned-stands : (plant : Plant) (scans : ℕ) (plan : ControllerPlan) (s t : ControllerStation)
-      → StandsController plant scans old.ring.history plan s → Scanned s t
-      → StandsController plant scans old.ring.history plan t
+      → StandsOn plant scans old.rings.items plan s → Scanned s t
+      → StandsOn plant scans old.rings.items plan t
   scanned-stands plant scans plan s t st it =
-      subst (StandsController plant scans old.ring.history plan) (sym it.same)
-      (stands-scans plant scans old.ring.history plan s t.controller
+      subst (StandsOn plant scans old.rings.items plan) (sym it.same)
+      (stands-scans plant scans (ring_in old plan.network).history plan s t.controller
       (with_scan s.controller) it.made st)
 
   all-stand : (plant : Plant) (scans : ℕ) → StandAll plant scans old → StandAll plant scans new
-  all-stand plant scans all =
-      let history : new.ring.history ≡ old.ring.history = ap (λ r. r.history) ring in
-      record {
-        sound = all.sound;
-        network = network ∙ all.network;
-        net = ap (λ r. r.net) ring ∙ all.net;
-        legal = subst (IsLegalRing (first_net plant)) (sym history) all.legal;
-        controllers = subst (λ (l : List RingEntry). AllZip (StandsController plant scans l)
-            plant.controllers new.controllers.items) (sym history)
-            (zip-both (StandsController plant scans old.ring.history) Scanned
-            (StandsController plant scans old.ring.history) plant.controllers
-            old.controllers.items new.controllers.items all.controllers each
-            (scanned-stands plant scans));
-        hosts = subst (λ (l : List RingEntry). AllZip (StandsHost plant l) plant.hosts
-            new.hosts.items) (sym history)
-            (subst (AllZip (StandsHost plant old.ring.history) plant.hosts) (sym hosts) all.hosts);
-      }
+  all-stand plant scans all = record {
+    sound = all.sound;
+    rings = subst (AllZip StandsRing plant.nets) (sym rings) all.rings;
+    controllers = subst (λ (l : List RingStation). AllZip (StandsOn plant scans l)
+        plant.controllers new.controllers.items) (sym rings)
+        (zip-both (StandsOn plant scans old.rings.items) Scanned
+        (StandsOn plant scans old.rings.items) plant.controllers
+        old.controllers.items new.controllers.items all.controllers each
+        (scanned-stands plant scans));
+    hosts = subst (λ (l : List RingStation). AllZip (HostStandsOn plant l) plant.hosts
+        new.hosts.items) (sym rings)
+        (subst (AllZip (HostStandsOn plant old.rings.items) plant.hosts) (sym hosts) all.hosts);
+    bridges = subst (λ (l : List RingStation). AllZip (StandsSite plant l) plant.bridges
+        new.bridges.items) (sym rings)
+        (subst (AllZip (StandsSite plant old.rings.items) plant.bridges) (sym bridges)
+        all.bridges);
+  }
 
-  logs-by : (plant : Plant) (scans : ℕ) (ring : List RingEntry) (plans : List ControllerPlan)
+  logs-by : (plant : Plant) (scans : ℕ) (rings : List RingStation) (plans : List ControllerPlan)
       (xs ys : List ControllerStation)
-      → AllZip (StandsController plant scans ring) plans xs → AllZip Scanned xs ys
+      → AllZip (StandsOn plant scans rings) plans xs → AllZip Scanned xs ys
       → map log_of ys ≡ map (log_with_scan plant scans) (zip plans (map log_of xs))
-  logs-by plant scans ring [] [] [] a b = refl
-  logs-by plant scans ring [] [] (y ∷ ys) a b = absurd b
-  logs-by plant scans ring [] (x ∷ xs) ys a b = absurd a
-  logs-by plant scans ring (p ∷ plans) [] ys a b = absurd a
-  logs-by plant scans ring (p ∷ plans) (x ∷ xs) [] a b = absurd b
-  logs-by plant scans ring (p ∷ plans) (x ∷ xs) (y ∷ ys) a b =
+  logs-by plant scans rings [] [] [] a b = refl
+  logs-by plant scans rings [] [] (y ∷ ys) a b = absurd b
+  logs-by plant scans rings [] (x ∷ xs) ys a b = absurd a
+  logs-by plant scans rings (p ∷ plans) [] ys a b = absurd a
+  logs-by plant scans rings (p ∷ plans) (x ∷ xs) [] a b = absurd b
+  logs-by plant scans rings (p ∷ plans) (x ∷ xs) (y ∷ ys) a b =
       let node : y.node ≡ x.node = ap (λ (s : ControllerStation). s.node) b.0.same in
       let history : y.controller.history
       ≡ with_scan (controller_at (fixed_of plant scans p) x.controller.history) =
       b.0.made.history_is
       ∙ ap (λ (f : Fixed). with_scan (controller_at f x.controller.history)) a.0.fixed in
-      λ i. record { node = node i; entries = history i } ∷ logs-by plant scans ring plans xs ys a.1
+      λ i. record { node = node i; entries = history i } ∷ logs-by plant scans rings plans xs ys a.1
       b.1 i
 
   pub scan-all-did : Did (λ plant scans before behind. behind ≡ scanned plant scans before) old new
   scan-all-did = record {
     stand = all-stand;
     made = λ plant scans all.
-        let logs = logs-by plant scans old.ring.history plant.controllers old.controllers.items
+        let logs = logs-by plant scans old.rings.items plant.controllers old.controllers.items
         new.controllers.items all.controllers each in
         λ i. record {
           controllers = logs i;
           hosts = map host_log_of (hosts i);
-          bridges = [];
-          rings = record { network = network i; entries = (ring i).history } ∷ [];
+          bridges = map log_of_site (bridges i);
+          rings = map log_of_ring (rings i);
         };
   }
 

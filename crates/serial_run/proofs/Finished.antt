@@ -1,39 +1,56 @@
 -- A run at whose end all stations have finished.
 use Rattle.std.proofs.Common.{◌≡◌, ℕ, zero, suc, ◌==◌, Bool, true, false, List, [], ◌∷◌}
-use Rattle.std.proofs.Common.{map, Some, None, refl, sym, ap, subst, ◌∙◌, arith}
+use Rattle.std.proofs.Common.{map, Some, None, refl, sym, ap, subst, ◌∙◌, arith, ⊎_elim, inl, inr}
 use Rattle.std.specs.Prelude.{◌&&◌, if◌then◌else◌}
 use Rattle.std.specs.List.{AllZip, list_all, slice_get}
+use Rattle.std.proofs.lemmas.List.Elements.{All-contains}
+use Rattle.plant_types.specs.declared.net.BridgePlan.{BridgePlan}
 use Rattle.plant_types.specs.declared.net.HostPlan.{HostPlan}
-use Rattle.plant_types.specs.declared.plan.ControllerPlan.{ControllerPlan}
+use Rattle.plant_types.specs.declared.net.NetPlan.{NetPlan}
 use Rattle.plant_types.specs.declared.plan.Plant.{Plant}
-use Rattle.plant_types.specs.Plans.{first_net}
-use Rattle.plant_types.proofs.OneNet.{on-net}
+use Rattle.plant_types.specs.Plans.{IsBridgeOf, IsBridgePlan, net_of}
 use Rattle.ring_core.specs.declared.entry.RingEntry.{RingEntry}
+use Rattle.ring_core.specs.declared.status.NodeStatus.TheVariants.{Away, Gone}
 use Rattle.scan_order.specs.declared.due.ScanStep.{ScanStep}
 use Rattle.controller_core.specs.declared.fixed.Fixed.{Fixed}
 use Rattle.controller_core.specs.Controller.{ControllerIs, first_step, has_ended, has_started}
 use Rattle.controller_core.specs.Controller.{is_none, is_off, left_of}
 use Rattle.controller_core.specs.Controller.{state_of}
+use Rattle.bridge_station.specs.Station.{end_has_left}
+use Rattle.bridge_station.specs.Stands.{StandsEnd}
+use Rattle.end_laws.specs.EndKeeps.{EndKeepsOn}
+use Rattle.end_laws.proofs.Complete.{end-complete}
+use Rattle.joint_history.specs.Complete.{ControllerIsComplete, ControllerIsOut, EndIsComplete}
+use Rattle.joint_history.specs.Complete.{HostIsComplete, IsComplete, IsCompleteBridgeLog}
+use Rattle.joint_history.specs.Complete.{IsCompleteHostLog, IsCompleteLog, LeavesQuietly}
+use Rattle.joint_history.specs.Complete.{NodeIsComplete, StaysOff}
 use Rattle.joint_history.specs.JointLaws.{fixed_of}
-use Rattle.joint_history.specs.Reading.{has_ended_at, has_started_at, is_off_at}
+use Rattle.joint_history.specs.Nets.{noted_on_rings}
+use Rattle.joint_history.specs.Reading.{has_ended_at, has_started_at, host_items_of, is_off_at}
+use Rattle.joint_history.specs.Reading.{items_of}
 use Rattle.comm_port.specs.Worker.{IsMemberWorker}
 use Rattle.comm_port.specs.HostStands.{own_side}
-use Rattle.tied_lists.specs.Waits.{status_at}
-use Rattle.turn_laws.specs.KeepsOn.{HasFinished, HostHasFinished, HostKeepsOn, HostStandsTied}
+use Rattle.net_laws.proofs.Rings.{away-from, gone-from}
+use Rattle.tied_lists.specs.Own.{own}
+use Rattle.tied_lists.specs.Waits.{has_left, status_at}
+use Rattle.turn_laws.specs.KeepsOn.{HostKeepsOn, HostStandsTied}
 use Rattle.turn_laws.specs.KeepsOn.{KeepsOn, is_out_of_ring}
 use Rattle.turn_laws.specs.KeepsOn.{StandsTied}
+use Rattle.turn_laws.specs.Laws.{ControllersComplete, HostsComplete}
 use Rattle.turn_laws.proofs.Stands.{host-stands-of, stands-of}
 use Rattle.whole_scan.specs.Scans.{KeepsStepsLeft}
+use Rattle.serial_run.specs.declared.stations.BridgeSite.{BridgeSite}
 use Rattle.serial_run.specs.declared.stations.ControllerStation.{ControllerStation}
+use Rattle.serial_run.specs.declared.stations.HostStation.{HostStation}
 use Rattle.serial_run.specs.declared.stations.Stations.{Stations}
 use Rattle.serial_run.specs.Scans.{have_ended, KeepScans}
-use Rattle.serial_run.specs.Stations.{StandAll, StandsController, StandsHost, host_log_of, log_of}
-use Rattle.serial_run.specs.Stations.{plain_ram_side}
+use Rattle.serial_run.specs.Stations.{StandAll, host_log_of, joint_of, log_of, log_of_ring}
+use Rattle.serial_run.specs.Stations.{log_of_site, plain_ram_side, ring_in}
 use Rattle.serial_run.specs.Held.{AllHave, IsOffAway, IsVisited, stations_here, status_in}
-use Rattle.serial_run.specs.Turns.{node_has_left}
-use Rattle.serial_run.proofs.Distinct.{controller-member, low-members}
-use Rattle.serial_run.proofs.Lists.{zip-other}
-use Rattle.serial_run.proofs.Rounds.{all-at, controller-left, host-left, left-out}
+use Rattle.serial_run.proofs.Laws.{controllers-each, hosts-each, own-noted, sites-each}
+use Rattle.serial_run.proofs.Networks.{NodeOn, contains-at, low-members, noted-is, rings-legal}
+use Rattle.serial_run.proofs.Rounds.{all-at, controller-left, host-left, left-out, site-left}
+use Rattle.serial_run.proofs.TurnsMade.{at-place, host-at-place, site-at-place}
 
 -- ---- who has ended has
 
@@ -77,93 +94,174 @@ zip-map-at S g [] (y ∷ ys) all = absurd all
 zip-map-at S g (x ∷ xs) [] all = absurd all
 zip-map-at S g (x ∷ xs) (y ∷ ys) all = (all.0, zip-map-at S g xs ys all.1)
 
-module _ (plant : Plant) (scans : ℕ) (run : Stations) (all : StandAll plant scans run)
-    (here : stations_here run ≡ 0) where
-  abbrev ring : List RingEntry
-  ring = run.ring.history
+module _ (law : ControllersComplete) (host_law : HostsComplete) (plant : Plant) (scans : ℕ)
+    (run : Stations) (all : StandAll plant scans run) (here : stations_here run ≡ 0) where
+  abbrev noted : List RingEntry
+  noted = noted_on_rings (joint_of run)
 
-  -- a node that has left is out of the ring, where it has no power while it is away
-  out-at : (plan : ControllerPlan) (s : ControllerStation)
-      → StandsController plant scans ring plan s → s.left ≡ true → IsOffAway run.ring s
-      → is_out_of_ring (is_off s.controller) (status_in run.ring s.node) ≡ true
-  out-at plan s st left off =
-      left-out (is_off s.controller) (status_in run.ring s.node)
-      ((λ i. node_has_left (all.net i) ring (st.node i)) ∙ (sym st.left ∙ left)) off
+  -- a node that is gone from its ring, or away, is so behind the entries of all rings
+  gone-noted : (network node : ℕ) → NodeOn plant run.rings.items network node
+      → status_at (net_of plant node) (ring_in run network).history node ≡ Gone
+      → status_at (net_of plant node) noted node ≡ Gone
+  gone-noted network node on gone =
+      subst (λ (net : NetPlan). status_at net noted node ≡ Gone) (sym on.on.is)
+      (gone-from plant (map log_of_ring run.rings.items) all.sound
+      (rings-legal plant.nets run.rings.items all.rings) on.on.net node on.on.there on.on.member
+      (ap (λ (l : List RingEntry). status_at on.on.net l node)
+      (noted-is run.rings.items on.on.net.number)
+      ∙ ((λ i. status_at (sym on.on.is i) (ring_in run (on.on.number i)).history node) ∙ gone)))
+
+  away-noted : (network node : ℕ) → NodeOn plant run.rings.items network node
+      → status_at (net_of plant node) (ring_in run network).history node ≡ Away
+      → status_at (net_of plant node) noted node ≡ Away
+  away-noted network node on away =
+      subst (λ (net : NetPlan). status_at net noted node ≡ Away) (sym on.on.is)
+      (away-from plant (map log_of_ring run.rings.items) all.sound
+      (rings-legal plant.nets run.rings.items all.rings) on.on.net node on.on.there on.on.member
+      (ap (λ (l : List RingEntry). status_at on.on.net l node)
+      (noted-is run.rings.items on.on.net.number)
+      ∙ ((λ i. status_at (sym on.on.is i) (ring_in run (on.on.number i)).history node) ∙ away)))
 
   -- a visit that is not due has nothing to collect
   none-started : (s : ControllerStation) → has_ended s.controller ≡ true
-      → is_out_of_ring (is_off s.controller) (status_in run.ring s.node) ≡ true
-      → IsVisited run.ring s → has_started s.controller ≡ false
+      → is_out_of_ring (is_off s.controller) (status_in (ring_in run s.network) s.node) ≡ true
+      → IsVisited (ring_in run s.network) s → has_started s.controller ≡ false
   none-started s ended out' visited =
-      sym (ap (λ b. is_out_of_ring (b && is_off s.controller) (status_in run.ring s.node)
-      && has_started s.controller) ended
+      sym (ap (λ b. is_out_of_ring (b && is_off s.controller)
+      (status_in (ring_in run s.network) s.node) && has_started s.controller) ended
       ∙ ap (λ b. b && has_started s.controller) out') ∙ visited
 
-  finished-at : (k : ℕ) (plan : ControllerPlan) (s : ControllerStation)
-      → slice_get plant.controllers k ≡ Some plan → s.left ≡ true
-      → has_ended s.controller ≡ true → has_started s.controller ≡ false
-      → is_out_of_ring (is_off s.controller) (status_in run.ring s.node) ≡ true
-      → StandsController plant scans ring plan s
-      → HasFinished plant scans ring plan (log_of s)
-  finished-at k plan s at-plan left ended collected out' st =
-      let answer = (on-net plant all.sound).plan.numbers.answer.from in
-      let node : s.worker.node ≡ s.node = st.worker_node ∙ sym st.node in
-      let member : IsMemberWorker (first_net plant) s.worker.node = subst (IsMemberWorker
-      (first_net plant))
-      (sym st.worker_node) (record {
-        members = low-members plant all.sound;
-        member = controller-member plant all.sound k plan at-plan;
-        answer = omega arith;
+  complete-at : (k : ℕ) (s : ControllerStation) (is : slice_get run.controllers.items k ≡ Some s)
+      → s.left ≡ true → has_ended s.controller ≡ true → IsOffAway (ring_in run s.network) s
+      → IsVisited (ring_in run s.network) s
+      → IsCompleteLog plant scans noted (at-place plant scans run k s all is).plan (log_of s)
+  complete-at k s is left ended off visited =
+      let p = at-place plant scans run k s all is in
+      let st = p.stands in
+      let ring = ring_in run s.network in
+      let home = net_of plant p.plan.node in
+      let fixed = fixed_of plant scans p.plan in
+      let known = s.controller.history in
+      let answer = p.ring.sound.numbers.answer.from in
+      let member : IsMemberWorker home s.worker.node =
+      subst (IsMemberWorker home) (sym st.worker_node) (record {
+        members = low-members home p.ring.sound;
+        member = p.ring.member;
+        answer = omega (arith, answer);
       }) in
-      record {
-        stands = subst (λ (f : Fixed). StandsTied f (first_net plant) s.node s.controller.history
-            ring)
-            st.fixed
-            (subst (λ (n : ℕ). StandsTied s.controller.fixed (first_net plant) n
-            s.controller.history ring)
-            node
-            (stands-of s.worker (plain_ram_side s.controller) s.controller.history
-            (own_side (first_net plant)) ring member st.legal st.standing));
-        keeps = subst (λ (n : ℕ). KeepsOn (fixed_of plant scans plan) (first_net plant) n
-            s.controller.history ring true) (sym st.node)
-            (subst (λ (b : Bool). KeepsOn (fixed_of plant scans plan) (first_net plant) plan.node
-            s.controller.history ring b) left st.keeps);
-        ended = ap (λ (f : Fixed). has_ended_at f s.controller.history) (sym st.fixed) ∙ ended;
-        collected = ap (λ (f : Fixed). has_started_at f s.controller.history) (sym st.fixed)
-            ∙ collected;
-        out = sym (λ i. is_out_of_ring (is_off_at (st.fixed i) s.controller.history)
-            (status_at (all.net i) ring s.node)) ∙ out';
-      }
+      let tied : StandsTied fixed home p.plan.node known ring.history =
+      subst (λ (f : Fixed). StandsTied f home p.plan.node known ring.history) st.fixed
+      (subst (λ (n : ℕ). StandsTied s.controller.fixed home n known ring.history) st.worker_node
+      (stands-of s.worker (plain_ram_side s.controller) known (own_side home) ring.history member
+      st.legal st.standing)) in
+      let keeps : KeepsOn fixed home p.plan.node known ring.history true =
+      subst (KeepsOn fixed home p.plan.node known ring.history) left st.keeps in
+      let out' : is_out_of_ring (is_off s.controller) (status_in ring s.node) ≡ true =
+      left-out (is_off s.controller) (status_in ring s.node)
+      ((λ i. has_left (status_at (p.ring.net_is i) ring.history (st.node i)))
+      ∙ (sym st.left ∙ left)) off in
+      let status : status_in ring s.node ≡ status_at home ring.history p.plan.node =
+      λ i. status_at (p.ring.net_is i) ring.history (st.node i) in
+      let each = law fixed home p.plan.node known ring.history tied keeps
+      (ap (λ (f : Fixed). has_ended_at f known) (sym st.fixed) ∙ ended)
+      (ap (λ (f : Fixed). has_started_at f known) (sym st.fixed)
+      ∙ none-started s ended out' visited)
+      ((λ i. is_out_of_ring (is_off_at (sym st.fixed i) known) (sym status i)) ∙ out') in
+      subst (λ (n : ℕ). ControllerIsComplete fixed known
+      × ControllerIsOut (net_of plant n) noted n fixed known
+      × NodeIsComplete (items_of known) (own n noted)) (sym st.node) (
+        each.0,
+        ⊎_elim
+            (λ (gone : status_at home ring.history p.plan.node ≡ Gone).
+            inl (gone-noted s.network p.plan.node p.ring gone))
+            (λ (away : (status_at home ring.history p.plan.node ≡ Away) × StaysOff fixed known).
+            inr (away-noted s.network p.plan.node p.ring away.0, away.1))
+            each.1,
+        subst (NodeIsComplete (items_of known))
+            (sym (own-noted plant scans run all s.network p.plan.node p.ring)) each.2,
+      )
 
-  pub all-finished-there : have_ended run ≡ true → AllHave IsOffAway run → AllHave IsVisited run
-      → AllZip (HasFinished plant scans ring) plant.controllers (map log_of run.controllers.items)
-  all-finished-there ended off visited =
-      zip-map-at (HasFinished plant scans ring) log_of plant.controllers run.controllers.items
-      (zip-other (StandsController plant scans ring)
-      (λ plan s. HasFinished plant scans ring plan (log_of s)) plant.controllers
-      run.controllers.items
-      all.controllers (λ k plan s at-plan at-s st.
-      let left = controller-left run here k s at-s in
-      let over = list-all-at (λ (x : ControllerStation). has_ended x.controller)
-      run.controllers.items k s ended at-s in
-      let out' = out-at plan s st left
-      (all-at (IsOffAway run.ring) run.controllers.items k s off at-s) in
-      finished-at k plan s at-plan left over
-      (none-started s over out'
-      (all-at (IsVisited run.ring) run.controllers.items k s visited at-s))
-      out' st))
+  host-complete-at : (k : ℕ) (s : HostStation) (is : slice_get run.hosts.items k ≡ Some s)
+      → IsCompleteHostLog plant noted (host-at-place plant scans run k s all is).plan
+      (host_log_of s)
+  host-complete-at k s is =
+      let p = host-at-place plant scans run k s all is in
+      let st = p.stands in
+      let ring = ring_in run s.network in
+      let home = net_of plant p.plan.node in
+      let known = s.host.history in
+      let tied : HostStandsTied p.plan home known ring.history =
+      subst (λ (q : HostPlan). HostStandsTied q home known ring.history) st.plan_is
+      (host-stands-of p.plan.node s.host (own_side home) ring.history st.ties) in
+      let keeps : HostKeepsOn p.plan home known ring.history true =
+      subst (HostKeepsOn p.plan home known ring.history) (host-left run here k s is) st.keeps in
+      let each = host_law p.plan home known ring.history tied keeps in
+      let own_is = sym (own-noted plant scans run all s.network p.plan.node p.ring) in
+      subst (λ (n : ℕ). HostIsComplete p.plan (host_items_of known) (own n noted)
+      × (status_at (net_of plant n) noted n ≡ Gone)
+      × NodeIsComplete (host_items_of known) (own n noted)) (sym st.node) (
+        subst (HostIsComplete p.plan (host_items_of known)) own_is each.0,
+        gone-noted s.network p.plan.node p.ring each.1,
+        subst (NodeIsComplete (host_items_of known)) own_is each.2,
+      )
 
-  pub all-hosts-finished : AllZip (HostHasFinished plant ring) plant.hosts
-      (map host_log_of run.hosts.items)
-  all-hosts-finished =
-      zip-map-at (HostHasFinished plant ring) host_log_of plant.hosts run.hosts.items
-      (zip-other (StandsHost plant ring) (λ plan s. HostHasFinished plant ring plan (host_log_of s))
-      plant.hosts run.hosts.items
-      all.hosts (λ k plan s at-plan at-s st. record {
-        node = st.node;
-        stands = subst (λ (p : HostPlan). HostStandsTied p (first_net plant) s.host.history ring)
-            st.plan_is
-            (host-stands-of plan.node s.host (own_side (first_net plant)) ring st.ties);
-        keeps = subst (λ (b : Bool). HostKeepsOn plan (first_net plant) s.host.history ring b)
-            (host-left run here k s at-s) st.keeps;
-      }))
+  end-complete-at : (site : BridgeSite) (home side other : ℕ)
+      → IsBridgePlan site.station.bridge.plan → NodeOn plant run.rings.items home side
+      → side ≡ other → StandsEnd side site.station (net_of plant side) (ring_in run home).history
+      → end_has_left side site.station ≡ true
+      → EndIsComplete (net_of plant other) noted site.station.bridge.history other
+  end-complete-at site home side other sound on same st left =
+      let list = site.station.bridge.history in
+      let ring = (ring_in run home).history in
+      let plan = site.station.bridge.plan in
+      let net = net_of plant side in
+      let each = end-complete plan net side list ring sound st.ready.ties
+      (subst (EndKeepsOn plan net side list ring) left st.keeps) in
+      subst (λ (n : ℕ). EndIsComplete (net_of plant n) noted list n) same (record {
+        finished = each.finished;
+        gone = each.gone;
+        left = gone-noted home side on each.left;
+        quiet = subst LeavesQuietly (sym (own-noted plant scans run all home side on)) each.quiet;
+      })
+
+  site-complete-at : (k : ℕ) (s : BridgeSite) (is : slice_get run.bridges.items k ≡ Some s)
+      → IsCompleteBridgeLog plant noted (site-at-place plant scans run k s all is).plan
+      (log_of_site s)
+  site-complete-at k s is =
+      let p = site-at-place plant scans run k s all is in
+      let st = p.stands in
+      let both = both-true (end_has_left s.plan.left s.station)
+      (end_has_left s.plan.right s.station) (site-left run here k s is) in
+      let sound = subst IsBridgePlan (sym st.bridge_is)
+      (All-contains (IsBridgeOf plant) plant.bridges p.plan all.sound.bridges
+      (contains-at plant.bridges k p.plan p.plan_is)).plan in (
+        end-complete-at s p.plan.left_net p.plan.left s.station.bridge.plan.left sound p.left
+            (sym (ap (λ (q : BridgePlan). q.left) st.bridge_is)) st.left
+            (ap (λ (q : BridgePlan). end_has_left q.left s.station) (sym st.plan_is) ∙ both.0),
+        end-complete-at s p.plan.right_net p.plan.right s.station.bridge.plan.right sound p.right
+            (sym (ap (λ (q : BridgePlan). q.right) st.bridge_is)) st.right
+            (ap (λ (q : BridgePlan). end_has_left q.right s.station) (sym st.plan_is) ∙ both.1),
+      )
+
+  pub all-complete : have_ended run ≡ true → AllHave IsOffAway run → AllHave IsVisited run
+      → IsComplete plant scans (joint_of run)
+  all-complete ended off visited = record {
+    controllers = zip-map-at (IsCompleteLog plant scans noted) log_of plant.controllers
+        run.controllers.items
+        (controllers-each plant scans run all
+        (λ plan s. IsCompleteLog plant scans noted plan (log_of s))
+        (λ k s is. complete-at k s is (controller-left run here k s is)
+        (list-all-at (λ (x : ControllerStation). has_ended x.controller)
+        run.controllers.items k s ended is)
+        (all-at (λ (x : ControllerStation). IsOffAway (ring_in run x.network) x)
+        run.controllers.items k s off is)
+        (all-at (λ (x : ControllerStation). IsVisited (ring_in run x.network) x)
+        run.controllers.items k s visited is)));
+    hosts = zip-map-at (IsCompleteHostLog plant noted) host_log_of plant.hosts run.hosts.items
+        (hosts-each plant scans run all
+        (λ plan s. IsCompleteHostLog plant noted plan (host_log_of s)) host-complete-at);
+    bridges = zip-map-at (IsCompleteBridgeLog plant noted) log_of_site plant.bridges
+        run.bridges.items
+        (sites-each plant scans run all
+        (λ plan s. IsCompleteBridgeLog plant noted plan (log_of_site s)) site-complete-at);
+  }

@@ -12,7 +12,7 @@ use Rattle.controller_core.specs.declared.entry.Entry.TheVariants as entries
 use Rattle.controller_core.specs.declared.fixed.Fixed.{Fixed}
 use Rattle.controller_core.specs.Notes.{NotesAskNoScans, notes_of}
 use Rattle.controller_core.specs.Replay.{ControllerState, apply, replay, start}
-use Rattle.effect_laws.specs.Effects.{EffectsAreRight}
+use Rattle.route_laws.specs.Effects.{EffectsAreRight}
 use Rattle.entry_causes.specs.Joint.{IsInOneOrder}
 use Rattle.joint_history.specs.declared.joint.Joint.{Joint}
 use Rattle.joint_history.specs.declared.noted.Noted.{Noted}
@@ -24,7 +24,7 @@ use Rattle.serial_run.specs.declared.stations.ControllerStation.{ControllerStati
 use Rattle.serial_run.specs.declared.stations.Stations.{Stations}
 use Rattle.serial_run.specs.Over.{AreOver, IsNotedRun}
 use Rattle.serial_run.specs.Serial.{IsSerial}
-use Rattle.serial_run.specs.Stations.{StandAll, StandsController, joint_of, log_of}
+use Rattle.serial_run.specs.Stations.{StandAll, StandsOn, joint_of, log_of}
 use Rattle.serial_run.specs.Stations.{station_coils, station_notes}
 use Rattle.serial_run.proofs.Laws.{stand-joint, stand-legal}
 
@@ -38,23 +38,23 @@ notes-same law plant scans plan station fixed =
     let h = station.controller.history in
     ap (λ (f : Fixed). notes_of f h) fixed ∙ sym (law (fixed_of plant scans plan) most_scans h)
 
-notes-all : NotesAskNoScans → (plant : Plant) (scans : ℕ) (ring : List _)
+notes-all : NotesAskNoScans → (plant : Plant) (scans : ℕ) (rings : List _)
     (plans : List ControllerPlan) (stations : List ControllerStation)
-    → AllZip (StandsController plant scans ring) plans stations
+    → AllZip (StandsOn plant scans rings) plans stations
     → map station_notes stations ≡ map (notes_by_log plant) (zip plans (map log_of stations))
-notes-all law plant scans ring [] [] all = refl
-notes-all law plant scans ring [] (s ∷ stations) all = absurd all
-notes-all law plant scans ring (plan ∷ plans) [] all = absurd all
-notes-all law plant scans ring (plan ∷ plans) (s ∷ stations) all =
+notes-all law plant scans rings [] [] all = refl
+notes-all law plant scans rings [] (s ∷ stations) all = absurd all
+notes-all law plant scans rings (plan ∷ plans) [] all = absurd all
+notes-all law plant scans rings (plan ∷ plans) (s ∷ stations) all =
     λ i. notes-same law plant scans plan s all.0.fixed i
-    ∷ notes-all law plant scans ring plans stations all.1 i
+    ∷ notes-all law plant scans rings plans stations all.1 i
 
 -- the notes of stations that stand are those of their joint history
 pub stand-noted : NotesAskNoScans → (plant : Plant) (scans : ℕ) (run : Stations)
     → StandAll plant scans run → map station_notes run.controllers.items ≡ notes_in plant
     (joint_of run)
 stand-noted law plant scans run all =
-    notes-all law plant scans run.ring.history plant.controllers run.controllers.items
+    notes-all law plant scans run.rings.items plant.controllers run.controllers.items
     all.controllers
 
 -- ---- the coils
@@ -90,19 +90,19 @@ coils-same plant scans plan station fixed =
     ap (λ (f : Fixed). on (replay f h)) fixed
     ∙ sym (ap on (same-fold (fixed_of plant scans plan) most_scans (start plan) h))
 
-coils-all : (plant : Plant) (scans : ℕ) (ring : List _) (plans : List ControllerPlan)
-    (stations : List ControllerStation) → AllZip (StandsController plant scans ring) plans stations
+coils-all : (plant : Plant) (scans : ℕ) (rings : List _) (plans : List ControllerPlan)
+    (stations : List ControllerStation) → AllZip (StandsOn plant scans rings) plans stations
     → sum_by station_coils (zip plans stations)
     ≡ sum_by (coils_by_log plant) (zip plans (map log_of stations))
-coils-all plant scans ring [] [] all = refl
-coils-all plant scans ring [] (s ∷ stations) all = absurd all
-coils-all plant scans ring (plan ∷ plans) [] all = absurd all
-coils-all plant scans ring (plan ∷ plans) (s ∷ stations) all =
+coils-all plant scans rings [] [] all = refl
+coils-all plant scans rings [] (s ∷ stations) all = absurd all
+coils-all plant scans rings (plan ∷ plans) [] all = absurd all
+coils-all plant scans rings (plan ∷ plans) (s ∷ stations) all =
     sum_by-cons station_coils (plan, s) (zip plans stations)
     ∙ ap (λ n. n + sum_by station_coils (zip plans stations))
     (coils-same plant scans plan s all.0.fixed)
     ∙ ap (λ n. coils_by_log plant (plan, log_of s) + n)
-    (coils-all plant scans ring plans stations all.1)
+    (coils-all plant scans rings plans stations all.1)
     ∙ sym (sum_by-cons (coils_by_log plant) (plan, log_of s) (zip plans (map log_of stations)))
 
 -- the coils of stations that stand are those at the end of their joint history
@@ -110,13 +110,13 @@ pub stand-coils : (plant : Plant) (scans : ℕ) (run : Stations) → StandAll pl
     → sum_by station_coils (zip plant.controllers run.controllers.items)
     ≡ coils_at_end plant (joint_of run)
 stand-coils plant scans run all =
-    coils-all plant scans run.ring.history plant.controllers run.controllers.items all.controllers
+    coils-all plant scans run.rings.items plant.controllers run.controllers.items all.controllers
 
 -- ---- the whole
 
 -- what stations hand over whose serial run is over
 pub noted-run : (plant : Plant) (scans : ℕ) (run : Stations) (noted : Noted)
-    → AreOver plant scans run → EffectsAreRight (joint_of run) → IsInOneOrder (joint_of run)
+    → AreOver plant scans run → EffectsAreRight (joint_of run) → IsInOneOrder plant (joint_of run)
     → NotesAskNoScans → noted.joint ≡ joint_of run
     → noted.notes ≡ map station_notes run.controllers.items → IsNotedRun plant scans noted
 noted-run plant scans run noted over effects in_time law is notes = record {
@@ -124,7 +124,7 @@ noted-run plant scans run noted over effects in_time law is notes = record {
   legal = subst (IsLegalJoint plant scans) (sym is) (stand-legal plant scans run over.stand);
   joint = subst IsJoint (sym is) (stand-joint plant scans run over.stand);
   effects = subst EffectsAreRight (sym is) effects;
-  in_time = subst IsInOneOrder (sym is) in_time;
+  in_time = subst (IsInOneOrder plant) (sym is) in_time;
   complete = subst (IsComplete plant scans) (sym is) over.complete;
   notes = notes ∙ stand-noted law plant scans run over.stand
       ∙ ap (λ (j : Joint). notes_in plant j) (sym is);

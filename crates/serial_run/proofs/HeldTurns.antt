@@ -30,6 +30,11 @@ use Rattle.comm_port.specs.WholeTurn.{HoldsTurn, TurnsBy, failing_end, is_unnoti
 use Rattle.comm_port.specs.Parts.{InOrder}
 use Rattle.comm_port.proofs.Downs.{giving-downs, latest-adds, latest-back, latest-left}
 use Rattle.plant_types.specs.declared.net.HostPlan.{HostPlan}
+use Rattle.plant_types.specs.declared.net.BridgePlan.{BridgePlan}
+use Rattle.bridge_relay.specs.declared.entry.BridgeEntry.{BridgeEntry}
+use Rattle.bridge_relay.specs.Laws.{end_after}
+use Rattle.bridge_relay.specs.Machine.{is_idle_end}
+use Rattle.bridge_port.specs.EndParts.{AsksBridge, AsksRing, EndGivesUp, HoldsEndTurn, LeavesIf}
 use Rattle.host_port.specs.declared.entry.HostEntry.{HostEntry}
 use Rattle.comm_port.specs.Leaving.{cause_due, is_due, last_entry}
 use Rattle.comm_port.specs.Order.{IsGivingUp}
@@ -212,6 +217,66 @@ pub host-turn-ring : (net : NetPlan) (n : ℕ) (plan : HostPlan) (list new_list 
 host-turn-ring net n plan list new_list ring new_ring left t =
     ended-further net n ring new_ring left
     (host-turn-ended net n plan list new_list ring new_ring left t)
+
+-- ---- a turn of a bridge's end
+
+each-end-given : (n : ℕ) (ids : List CallId) (noted : List BridgeEntry) (done : List RingEntry)
+    → InOrder (EndGivesUp n) ids noted done → AllByRecursion IsGivingUp done
+each-end-given n [] noted done due = subst (AllByRecursion IsGivingUp) (sym due.1) tt
+each-end-given n (id ∷ ids) noted done due =
+    let it = due.6 in
+    let more = each-end-given n ids due.1 due.3 due.7 in
+    let all : done ≡ GiveUp id it.0 ∷ due.3 = due.5 ∙ ap (λ (l : List RingEntry). l ++ due.3) it.2
+    in
+    subst (AllByRecursion IsGivingUp) (sym all) (tt, more)
+
+asks-ring : (b : Bool) (net : NetPlan) (n : ℕ) (ring new_ring : List RingEntry) (answer : Bool)
+    → AsksRing b true net n ring new_ring answer → Further (is_of n) ring new_ring
+asks-ring true net n ring new_ring answer asks = further-went (is_of n) ring new_ring asks.0
+asks-ring false net n ring new_ring answer asks =
+    subst (Further (is_of n) ring) (sym asks.0) (further-none (is_of n) ring)
+
+asks-bridge : (b : Bool) (plan : BridgePlan) (net : NetPlan) (n : ℕ)
+    (list new_list : List BridgeEntry) (ring new_ring : List RingEntry) (answer : Bool)
+    → AsksBridge b true true plan net n list new_list ring new_ring answer
+    → Further (is_of n) ring new_ring
+asks-bridge true plan net n list new_list ring new_ring answer asks =
+    asks-ring (is_idle_end (end_after plan new_list n)) net n ring new_ring answer asks.1
+asks-bridge false plan net n list new_list ring new_ring answer asks =
+    subst (Further (is_of n) ring) (sym asks.1) (further-none (is_of n) ring)
+
+leaves-rest : (left : Bool) (n : ℕ) (list new_list : List BridgeEntry)
+    (ring new_ring : List RingEntry) → LeavesIf left true true n list new_list ring new_ring
+    → Adds true (is_of n) IsGivingUp ring new_ring
+leaves-rest true n list new_list ring new_ring t = record {
+  added = t.gives_up.done;
+  sort = each-end-given n _ t.gives_up.noted t.gives_up.done t.gives_up.due;
+  grew = t.gives_up.node;
+}
+leaves-rest false n list new_list ring new_ring t =
+    subst (Adds true (is_of n) IsGivingUp ring) (sym t.1) (adds_none true (is_of n) IsGivingUp ring)
+
+module _ (plan : BridgePlan) (net : NetPlan) (n : ℕ) (list new_list : List BridgeEntry)
+    (ring new_ring : List RingEntry) (left : Bool)
+    (t : HoldsEndTurn true true plan net n true list new_list ring new_ring left) where
+  pub end-turn-ended : TurnEnded net n ring new_ring left
+  end-turn-ended = record {
+    given = t.ends.asked_ring;
+    handed = t.ends.handed_ring;
+    done = t.ends.done;
+    words = _;
+    to_given = further-both (is_of n) _ _ _ (further-grew (is_of n) _ _ _ t.serves.node)
+        (further-both (is_of n) _ _ _ (further-grew (is_of n) _ _ _ t.backs.part.node)
+        (further-both (is_of n) _ _ _ (further-grew (is_of n) _ _ _ t.forwards.part.node)
+        (further-both (is_of n) _ _ _ (further-grew (is_of n) _ _ _ t.sends.frames.grew)
+        (further-both (is_of n) _ _ _ (further-grew (is_of n) _ _ _ t.gives_up.node)
+        (asks-bridge _ plan net n t.given_list t.ends.asked_list t.given_ring t.ends.asked_ring
+        t.ends.done t.ends.asked)))));
+    left_is = t.ends.left_is;
+    grew = t.ends.handed.grew;
+    rest = leaves-rest left n t.ends.asked_list new_list t.ends.handed_ring new_ring
+        t.ends.leaves;
+  }
 
 pub visit-ring : (fixed : Fixed) (net : NetPlan) (n : ℕ) (known new_known : List Entry)
     (ring new_ring : List RingEntry)

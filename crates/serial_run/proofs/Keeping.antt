@@ -6,8 +6,8 @@ use Rattle.std.specs.List.{slice_get}
 use Rattle.plant_types.specs.declared.net.NetPlan.{NetPlan}
 use Rattle.plant_types.specs.declared.net.HostPlan.{HostPlan}
 use Rattle.plant_types.specs.declared.plan.Plant.{Plant}
-use Rattle.plant_types.specs.Plans.{first_net}
-use Rattle.plant_types.proofs.OneNet.{on-net}
+use Rattle.plant_types.specs.Plans.{net_of}
+use Rattle.net_laws.proofs.On.{controller-no-bridge, host-no-bridge}
 use Rattle.ring_core.specs.declared.entry.RingEntry.{RingEntry}
 use Rattle.ring_core.specs.declared.status.NodeStatus.{NodeStatus}
 use Rattle.ring_core.specs.declared.status.NodeStatus.TheVariants.{In, Away, Asking, Gone}
@@ -22,7 +22,6 @@ use Rattle.comm_port.specs.HostTurns.{HostWorkerIs, after_turn}
 use Rattle.comm_port.specs.Leaving.{IsHere}
 use Rattle.comm_port.specs.HostStands.{own_side}
 use Rattle.comm_port.specs.Turns.{IsNoBridge}
-use Rattle.comm_port.proofs.Onward.{none-bridges}
 use Rattle.tied_lists.specs.Own.{is_of}
 use Rattle.tied_lists.specs.Waits.{HasLeft, has_left, status_at}
 use Rattle.turn_laws.specs.KeepsOn.{HostKeepsOn, KeepsOn, StandsTied, is_out_of_ring}
@@ -34,11 +33,11 @@ use Rattle.serial_run.specs.declared.stations.ControllerStation.{ControllerStati
 use Rattle.serial_run.specs.declared.stations.HostStation.{HostStation}
 use Rattle.serial_run.specs.declared.stations.Stations.{Stations}
 use Rattle.serial_run.specs.Turns.{node_has_left}
-use Rattle.serial_run.specs.Stations.{StandAll, plain_ram_side}
+use Rattle.serial_run.specs.Stations.{StandAll, plain_ram_side, ring_in}
 use Rattle.serial_run.specs.Held.{HasToken, HostKeepsBeside, IsOffAway, KeepsBeside, is_away_status}
-use Rattle.serial_run.proofs.Distinct.{controller-member, low-members}
 use Rattle.serial_run.proofs.Grown.{Further, others-away}
 use Rattle.serial_run.proofs.Holding.{in-left}
+use Rattle.serial_run.proofs.Networks.{contains-at, low-members}
 use Rattle.serial_run.proofs.TurnsMade.{at-place, host-at-place}
 
 pub stands-before : (w : WorkerIs) (v : ControllerIs) (ring : KeptRing)
@@ -65,53 +64,76 @@ stands-behind w u v x ring new_ring member legal worker fixed net s =
     s)))
 
 -- no station of a plant is the end of a bridge
-pub no-bridge-beside : (plant : Plant) (scans : ℕ) (run : Stations) (n : ℕ)
-    → StandAll plant scans run → IsNoBridge run.ring.net n
-no-bridge-beside plant scans run n all = subst (λ (net : NetPlan). IsNoBridge net n) (sym all.net)
-    (none-bridges (first_net plant) n (on-net plant all.sound).no_bridge)
+pub no-bridge-beside : (plant : Plant) (scans : ℕ) (run : Stations) (at : ℕ)
+    (s : ControllerStation) → StandAll plant scans run
+    → slice_get run.controllers.items at ≡ Some s
+    → IsNoBridge (ring_in run s.network).net s.worker.node
+no-bridge-beside plant scans run at s all is =
+    let p = at-place plant scans run at s all is in
+    let on = p.ring.on in
+    subst (λ (net : NetPlan). IsNoBridge net s.worker.node) (sym (p.ring.net_is ∙ on.is))
+    (subst (IsNoBridge on.net) (sym p.stands.worker_node)
+    (controller-no-bridge plant p.plan on.net all.sound
+    (contains-at plant.controllers at p.plan p.plan_is) on.there))
 
--- what a station keeps, beside the ring alone
+pub host-no-bridge-beside : (plant : Plant) (scans : ℕ) (run : Stations) (at : ℕ)
+    (s : HostStation) → StandAll plant scans run
+    → slice_get run.hosts.items at ≡ Some s
+    → IsNoBridge (ring_in run s.network).net s.worker.node
+host-no-bridge-beside plant scans run at s all is =
+    let p = host-at-place plant scans run at s all is in
+    let on = p.ring.on in
+    subst (λ (net : NetPlan). IsNoBridge net s.worker.node) (sym (p.ring.net_is ∙ on.is))
+    (subst (IsNoBridge on.net) (sym p.stands.worker_node)
+    (host-no-bridge plant p.plan on.net all.sound
+    (contains-at plant.hosts at p.plan p.plan_is) on.there))
+
+-- what a station keeps, beside its ring alone
 pub keeps-beside : (plant : Plant) (scans : ℕ) (run : Stations) (at : ℕ) (s : ControllerStation)
     → StandAll plant scans run
-    → slice_get run.controllers.items at ≡ Some s → KeepsBeside s run.ring
+    → slice_get run.controllers.items at ≡ Some s → KeepsBeside s (ring_in run s.network)
 keeps-beside plant scans run at s all is =
     let p = at-place plant scans run at s all is in
-    let answer = (on-net plant all.sound).plan.numbers.answer.from in
+    let home = net_of plant p.plan.node in
+    let history = (ring_in run s.network).history in
+    let answer = p.ring.sound.numbers.answer.from in
     record {
-      member = subst (λ (net : NetPlan). IsMemberWorker net s.worker.node) (sym all.net)
-          (subst (IsMemberWorker (first_net plant)) (sym p.stands.worker_node) (record {
-            members = low-members plant all.sound;
-            member = controller-member plant all.sound at p.plan p.plan_is;
-            answer = omega arith;
+      member = subst (λ (net : NetPlan). IsMemberWorker net s.worker.node) (sym p.ring.net_is)
+          (subst (IsMemberWorker home) (sym p.stands.worker_node) (record {
+            members = low-members home p.ring.sound;
+            member = p.ring.member;
+            answer = omega (arith, answer);
           }));
       legal = p.stands.legal;
-      keeps = subst (λ (f : Fixed). KeepsOn f run.ring.net s.worker.node s.controller.history
-          run.ring.history s.left) (sym p.stands.fixed)
+      keeps = subst (λ (f : Fixed). KeepsOn f (ring_in run s.network).net s.worker.node
+          s.controller.history history s.left) (sym p.stands.fixed)
           (subst (λ (net : NetPlan). KeepsOn (fixed_of plant scans p.plan) net s.worker.node
-          s.controller.history run.ring.history s.left) (sym all.net)
+          s.controller.history history s.left) (sym p.ring.net_is)
           (subst (λ (n : ℕ). KeepsOn (fixed_of plant scans p.plan)
-          (first_net plant) n s.controller.history
-          run.ring.history s.left) (sym p.stands.worker_node)
+          home n s.controller.history
+          history s.left) (sym p.stands.worker_node)
           p.stands.keeps));
     }
 
 pub host-keeps-beside : (plant : Plant) (scans : ℕ) (run : Stations) (at : ℕ) (s : HostStation)
     → StandAll plant scans run
-    → slice_get run.hosts.items at ≡ Some s → HostKeepsBeside s run.ring
+    → slice_get run.hosts.items at ≡ Some s → HostKeepsBeside s (ring_in run s.network)
 host-keeps-beside plant scans run at s all is =
     let p = host-at-place plant scans run at s all is in
-    subst (λ (plan : HostPlan). HostKeepsOn plan run.ring.net s.host.history run.ring.history
+    let ring = ring_in run s.network in
+    subst (λ (plan : HostPlan). HostKeepsOn plan ring.net s.host.history ring.history
     s.left) (sym p.stands.plan_is)
-    (subst (λ (net : NetPlan). HostKeepsOn p.plan net s.host.history run.ring.history s.left)
-    (sym all.net) p.stands.keeps)
+    (subst (λ (net : NetPlan). HostKeepsOn p.plan net s.host.history ring.history s.left)
+    (sym p.ring.net_is) p.stands.keeps)
 
 -- who holds the token has not left
 pub host-is-here : (plant : Plant) (scans : ℕ) (run : Stations) (at : ℕ) (s : HostStation)
     → StandAll plant scans run
-    → slice_get run.hosts.items at ≡ Some s → HasToken s.worker.node run.ring → s.left ≡ false
+    → slice_get run.hosts.items at ≡ Some s → HasToken s.worker.node (ring_in run s.network)
+    → s.left ≡ false
 host-is-here plant scans run at s all is token =
     let p = host-at-place plant scans run at s all is in
-    p.stands.left ∙ ((λ i. node_has_left (sym all.net i) run.ring.history
+    p.stands.left ∙ ((λ i. node_has_left (sym p.ring.net_is i) (ring_in run s.network).history
     (sym p.stands.worker_node i)) ∙ in-left _ token.here)
 
 -- ---- a host's worker behind a turn

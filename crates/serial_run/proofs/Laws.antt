@@ -1,36 +1,43 @@
 -- The joint history of stations that stand is legal, and its lists keep the laws.
-use Rattle.std.proofs.Common.{ℕ, List, [], ◌∷◌, ◌++◌, map, refl, sym, subst, ◌∙◌, All}
-use Rattle.std.specs.List.{AllZip}
+use Rattle.std.proofs.Common.{◌≡◌, ℕ, List, [], ◌∷◌, ◌++◌, map, Some, refl, sym, ap, subst, ◌∙◌}
+use Rattle.std.proofs.Common.{All}
+use Rattle.std.specs.List.{AllZip, slice_get}
 use Rattle.std.proofs.lemmas.List.Elements.{All-cons, All-nil}
+use Rattle.plant_types.specs.declared.net.BridgePlan.{BridgePlan}
 use Rattle.plant_types.specs.declared.net.HostPlan.{HostPlan}
+use Rattle.plant_types.specs.declared.plan.ControllerPlan.{ControllerPlan}
 use Rattle.plant_types.specs.declared.plan.Plant.{Plant}
+use Rattle.plant_types.specs.Plans.{net_of}
+use Rattle.ring_core.specs.declared.entry.RingEntry.{RingEntry}
 use Rattle.controller_core.specs.declared.fixed.Fixed.{Fixed}
 use Rattle.controller_core.specs.Controller.{IsLegal}
 use Rattle.host_port.specs.Legal.{IsHostHistory}
+use Rattle.bridge_relay.specs.Legal.{IsBridgeHistory}
+use Rattle.bridge_station.specs.Stands.{StandsEnd}
 use Rattle.tied_lists.specs.Own.{own}
 use Rattle.tied_lists.specs.Items.{AController, AHost}
-use Rattle.tied_lists.specs.Tied.{Tied}
+use Rattle.tied_lists.specs.Tied.{Tied, TiedEnd}
 use Rattle.joint_history.specs.declared.joint.Joint.{Joint}
+use Rattle.joint_history.specs.Bridges.{backs_of, side_items}
 use Rattle.joint_history.specs.JointLaws.{IsJoint, IsLegalBridgeLog, IsLegalHostLog, IsLegalJoint}
-use Rattle.joint_history.specs.JointLaws.{IsLegalLog, IsLegalRingLog, IsTiedBridge}
-use Rattle.joint_history.specs.JointLaws.{IsTiedController, IsTiedHost}
+use Rattle.joint_history.specs.JointLaws.{IsLegalLog, IsTiedBridge, IsTiedController, IsTiedHost}
+use Rattle.joint_history.specs.JointLaws.{IsTiedSide}
+use Rattle.joint_history.specs.Nets.{noted_on_rings}
 use Rattle.joint_history.specs.Reading.{items_of, host_items_of}
-use Rattle.joint_history.proofs.OneRing.{bridges-zip, rings-legal}
 use Rattle.entry_causes.specs.InTime.{InTime, HostInTime}
 use Rattle.entry_causes.specs.Joint.{IsControllerInTime, IsHostInTime, StationsAreInTime}
+use Rattle.net_laws.proofs.Rings.{own-on}
 use Rattle.serial_run.specs.declared.order.Turn.{Turn}
+use Rattle.serial_run.specs.declared.stations.BridgeSite.{BridgeSite}
+use Rattle.serial_run.specs.declared.stations.ControllerStation.{ControllerStation}
+use Rattle.serial_run.specs.declared.stations.HostStation.{HostStation}
 use Rattle.serial_run.specs.declared.stations.Stations.{Stations}
 use Rattle.serial_run.specs.Turns.{MakesTurn, MakesTurns}
-use Rattle.serial_run.specs.Stations.{StandAll, StandsController, StandsHost, host_log_of, joint_of}
-use Rattle.serial_run.specs.Stations.{log_of}
-
-zip-map : {A B C : Type 0} (R : A → B → Type 0) (S : A → C → Type 0) (g : B → C) (xs : List A)
-    (ys : List B) → AllZip R xs ys
-    → ((x : A) (y : B) → R x y → S x (g y)) → AllZip S xs (map g ys)
-zip-map R S g [] [] all f = tt
-zip-map R S g [] (y ∷ ys) all f = absurd all
-zip-map R S g (x ∷ xs) [] all f = absurd all
-zip-map R S g (x ∷ xs) (y ∷ ys) all f = (f x y all.0, zip-map R S g xs ys all.1 f)
+use Rattle.serial_run.specs.Stations.{HostStandsOn, StandAll, StandsOn, StandsSite, host_log_of}
+use Rattle.serial_run.specs.Stations.{joint_of, log_of, log_of_ring, log_of_site, ring_in}
+use Rattle.serial_run.proofs.Lists.{zip-map, zip-other}
+use Rattle.serial_run.proofs.Networks.{NodeOn, noted-is, rings-legal}
+use Rattle.serial_run.proofs.TurnsMade.{at-place, host-at-place, site-at-place}
 
 zip-all : {A B C : Type 0} (R : A → B → Type 0) (P : C → Type 0) (g : B → C) (xs : List A)
     (ys : List B) → AllZip R xs ys
@@ -44,55 +51,162 @@ zip-all R P g (x ∷ xs) (y ∷ ys) all f = All-cons P (g y) (map g ys) (f x y a
 pub stand-legal : (plant : Plant) (scans : ℕ) (run : Stations) → StandAll plant scans run
     → IsLegalJoint plant scans (joint_of run)
 stand-legal plant scans run all = record {
-  controllers = zip-map (StandsController plant scans run.ring.history) (IsLegalLog plant scans)
+  controllers = zip-map (StandsOn plant scans run.rings.items) (IsLegalLog plant scans)
       log_of plant.controllers run.controllers.items
       all.controllers (λ plan s st. (
         st.node,
         subst (λ (f : Fixed). IsLegal f s.controller.history)
             st.fixed st.legal,
       ));
-  hosts = zip-map (StandsHost plant run.ring.history) IsLegalHostLog host_log_of plant.hosts
+  hosts = zip-map (HostStandsOn plant run.rings.items) IsLegalHostLog host_log_of plant.hosts
       run.hosts.items all.hosts
       (λ plan s st. (
         st.node,
         subst (λ (p : HostPlan). IsHostHistory p s.host.history) st.plan_is
             st.ties.legal,
       ));
-  bridges = bridges-zip IsLegalBridgeLog plant all.sound;
-  rings = subst (λ (n : ℕ). AllZip IsLegalRingLog plant.nets
-      (record { network = n; entries = run.ring.history } ∷ [])) (sym all.network)
-      (rings-legal plant run.ring.history all.sound all.legal);
+  bridges = zip-map (StandsSite plant run.rings.items) IsLegalBridgeLog log_of_site plant.bridges
+      run.bridges.items all.bridges
+      (λ plan s st. (
+        ap (λ (p : BridgePlan). p.left) st.bridge_is,
+        ap (λ (p : BridgePlan). p.right) st.bridge_is,
+        subst (λ (p : BridgePlan). IsBridgeHistory p s.station.bridge.history) st.bridge_is
+            st.left.ready.ties.legal,
+      ));
+  rings = rings-legal plant.nets run.rings.items all.rings;
 }
 
-pub stand-joint : (plant : Plant) (scans : ℕ) (run : Stations) → StandAll plant scans run
-    → IsJoint (joint_of run)
-stand-joint plant scans run all = record {
-  controllers = zip-all (StandsController plant scans run.ring.history)
-      (IsTiedController run.ring.history) log_of plant.controllers
-      run.controllers.items all.controllers
-      (λ plan s st. subst (λ (n : ℕ). Tied AController (items_of s.controller.history)
-      (own n run.ring.history))
-      (st.worker_node ∙ sym st.node) st.standing.tied);
-  hosts = zip-all (StandsHost plant run.ring.history) (IsTiedHost run.ring.history) host_log_of
-      plant.hosts run.hosts.items all.hosts
-      (λ plan s st. subst (λ (n : ℕ). Tied AHost (host_items_of s.host.history)
-      (own n run.ring.history)) (sym st.node) st.ties.tied);
-  bridges = All-nil (IsTiedBridge run.ring.history);
-}
+-- what a node noted on any ring is what it noted on the ring of its network
+pub own-noted : (plant : Plant) (scans : ℕ) (run : Stations) → StandAll plant scans run
+    → (network node : ℕ) → NodeOn plant run.rings.items network node
+    → own node (noted_on_rings (joint_of run)) ≡ own node (ring_in run network).history
+own-noted plant scans run all network node on =
+    own-on plant (map log_of_ring run.rings.items) all.sound
+    (rings-legal plant.nets run.rings.items all.rings) on.on.net node on.on.there on.on.member
+    ∙ ap (own node) (noted-is run.rings.items on.on.net.number
+    ∙ ap (λ (k : ℕ). (ring_in run k).history) on.on.number)
 
-pub stand-in-time : (plant : Plant) (scans : ℕ) (run : Stations) → StandAll plant scans run
-    → StationsAreInTime (joint_of run)
-stand-in-time plant scans run all = record {
-  controllers = zip-all (StandsController plant scans run.ring.history)
-      (IsControllerInTime run.ring.history) log_of plant.controllers
-      run.controllers.items all.controllers
-      (λ plan s st. subst (λ (n : ℕ). InTime s.controller.history (own n run.ring.history))
-      (sym st.node) st.keeps.timely.timely);
-  hosts = zip-all (StandsHost plant run.ring.history) (IsHostInTime run.ring.history) host_log_of
-      plant.hosts run.hosts.items all.hosts
-      (λ plan s st. subst (λ (n : ℕ). HostInTime s.host.history (own n run.ring.history))
-      (sym st.node) st.keeps.timely.timely);
-}
+module _ (plant : Plant) (scans : ℕ) (run : Stations) (all : StandAll plant scans run) where
+  abbrev noted : List RingEntry
+  noted = noted_on_rings (joint_of run)
+
+  -- what is said of each controller's station, by its place
+  pub controllers-each : (P : ControllerPlan → ControllerStation → Type 0)
+      → ((k : ℕ) (s : ControllerStation) (is : slice_get run.controllers.items k ≡ Some s)
+      → P (at-place plant scans run k s all is).plan s)
+      → AllZip P plant.controllers run.controllers.items
+  controllers-each P each =
+      zip-other (StandsOn plant scans run.rings.items) P plant.controllers run.controllers.items
+      all.controllers (λ k x y at-x at-y st.
+      let p = at-place plant scans run k y all at-y in
+      let same : p.plan ≡ x = (let both : Some p.plan ≡ Some x = sym p.plan_is ∙ at-x in cc) in
+      subst (λ (q : ControllerPlan). P q y) same (each k y at-y))
+
+  pub hosts-each : (P : HostPlan → HostStation → Type 0)
+      → ((k : ℕ) (s : HostStation) (is : slice_get run.hosts.items k ≡ Some s)
+      → P (host-at-place plant scans run k s all is).plan s)
+      → AllZip P plant.hosts run.hosts.items
+  hosts-each P each =
+      zip-other (HostStandsOn plant run.rings.items) P plant.hosts run.hosts.items
+      all.hosts (λ k x y at-x at-y st.
+      let p = host-at-place plant scans run k y all at-y in
+      let same : p.plan ≡ x = (let both : Some p.plan ≡ Some x = sym p.plan_is ∙ at-x in cc) in
+      subst (λ (q : HostPlan). P q y) same (each k y at-y))
+
+  pub sites-each : (P : BridgePlan → BridgeSite → Type 0)
+      → ((k : ℕ) (s : BridgeSite) (is : slice_get run.bridges.items k ≡ Some s)
+      → P (site-at-place plant scans run k s all is).plan s)
+      → AllZip P plant.bridges run.bridges.items
+  sites-each P each =
+      zip-other (StandsSite plant run.rings.items) P plant.bridges run.bridges.items
+      all.bridges (λ k x y at-x at-y st.
+      let p = site-at-place plant scans run k y all at-y in
+      let same : p.plan ≡ x = (let both : Some p.plan ≡ Some x = sym p.plan_is ∙ at-x in cc) in
+      subst (λ (q : BridgePlan). P q y) same (each k y at-y))
+
+  tied-at : (k : ℕ) (s : ControllerStation) → slice_get run.controllers.items k ≡ Some s
+      → IsTiedController noted (log_of s)
+  tied-at k s is =
+      let p = at-place plant scans run k s all is in
+      let items = items_of s.controller.history in
+      subst (λ (n : ℕ). Tied AController items (own n noted)) (sym p.stands.node)
+      (subst (Tied AController items) (sym (own-noted plant scans run all s.network p.plan.node
+      p.ring))
+      (subst (λ (n : ℕ). Tied AController items (own n (ring_in run s.network).history))
+      p.stands.worker_node p.stands.standing.tied))
+
+  host-tied-at : (k : ℕ) (s : HostStation) → slice_get run.hosts.items k ≡ Some s
+      → IsTiedHost noted (host_log_of s)
+  host-tied-at k s is =
+      let p = host-at-place plant scans run k s all is in
+      let items = host_items_of s.host.history in
+      subst (λ (n : ℕ). Tied AHost items (own n noted)) (sym p.stands.node)
+      (subst (Tied AHost items) (sym (own-noted plant scans run all s.network p.plan.node p.ring))
+      p.stands.ties.tied)
+
+  side-tied-at : (s : BridgeSite) (home side other : ℕ) → NodeOn plant run.rings.items home side
+      → side ≡ other → StandsEnd side s.station (net_of plant side) (ring_in run home).history
+      → IsTiedSide noted (log_of_site s) other
+  side-tied-at s home side other on same st =
+      subst (IsTiedSide noted (log_of_site s)) same
+      (subst (TiedEnd (side_items side s.station.bridge.history)
+      (backs_of side s.station.bridge.history))
+      (sym (own-noted plant scans run all home side on)) st.ready.ties.tied)
+
+  site-tied-at : (k : ℕ) (s : BridgeSite) → slice_get run.bridges.items k ≡ Some s
+      → IsTiedBridge noted (log_of_site s)
+  site-tied-at k s is =
+      let p = site-at-place plant scans run k s all is in
+      record {
+        left = side-tied-at s p.plan.left_net p.plan.left s.station.bridge.plan.left p.left
+            (sym (ap (λ (q : BridgePlan). q.left) p.stands.bridge_is)) p.stands.left;
+        right = side-tied-at s p.plan.right_net p.plan.right s.station.bridge.plan.right p.right
+            (sym (ap (λ (q : BridgePlan). q.right) p.stands.bridge_is)) p.stands.right;
+      }
+
+  pub stand-joint : IsJoint (joint_of run)
+  stand-joint = record {
+    controllers = zip-all (λ plan s. IsTiedController noted (log_of s)) (IsTiedController noted)
+        log_of plant.controllers run.controllers.items
+        (controllers-each (λ plan s. IsTiedController noted (log_of s)) tied-at)
+        (λ plan s tied. tied);
+    hosts = zip-all (λ plan s. IsTiedHost noted (host_log_of s)) (IsTiedHost noted)
+        host_log_of plant.hosts run.hosts.items
+        (hosts-each (λ plan s. IsTiedHost noted (host_log_of s)) host-tied-at)
+        (λ plan s tied. tied);
+    bridges = zip-all (λ plan s. IsTiedBridge noted (log_of_site s)) (IsTiedBridge noted)
+        log_of_site plant.bridges run.bridges.items
+        (sites-each (λ plan s. IsTiedBridge noted (log_of_site s)) site-tied-at)
+        (λ plan s tied. tied);
+  }
+
+  in-time-at : (k : ℕ) (s : ControllerStation) → slice_get run.controllers.items k ≡ Some s
+      → IsControllerInTime noted (log_of s)
+  in-time-at k s is =
+      let p = at-place plant scans run k s all is in
+      subst (λ (n : ℕ). InTime s.controller.history (own n noted)) (sym p.stands.node)
+      (subst (InTime s.controller.history) (sym (own-noted plant scans run all s.network
+      p.plan.node p.ring)) p.stands.keeps.timely.timely)
+
+  host-in-time-at : (k : ℕ) (s : HostStation) → slice_get run.hosts.items k ≡ Some s
+      → IsHostInTime noted (host_log_of s)
+  host-in-time-at k s is =
+      let p = host-at-place plant scans run k s all is in
+      subst (λ (n : ℕ). HostInTime s.host.history (own n noted)) (sym p.stands.node)
+      (subst (HostInTime s.host.history) (sym (own-noted plant scans run all s.network
+      p.plan.node p.ring)) p.stands.keeps.timely.timely)
+
+  pub stand-in-time : StationsAreInTime (joint_of run)
+  stand-in-time = record {
+    controllers = zip-all (λ plan s. IsControllerInTime noted (log_of s))
+        (IsControllerInTime noted) log_of plant.controllers run.controllers.items
+        (controllers-each (λ plan s. IsControllerInTime noted (log_of s)) in-time-at)
+        (λ plan s timely. timely);
+    hosts = zip-all (λ plan s. IsHostInTime noted (host_log_of s)) (IsHostInTime noted)
+        host_log_of plant.hosts run.hosts.items
+        (hosts-each (λ plan s. IsHostInTime noted (host_log_of s)) host-in-time-at)
+        (λ plan s timely. timely);
+  }
 
 -- turns one after another, and one more
 pub one-more-turn : (plant : Plant) (scans : ℕ) (turns : List Turn) (turn : Turn)

@@ -1,8 +1,8 @@
 pub mod Lists
 pub mod Rings
-pub mod Distinct
-pub mod Numbered
 pub mod Grown
+pub mod Networks
+pub mod Members
 pub mod Standings
 pub mod HeldTurns
 pub mod TurnsMade
@@ -18,3 +18,4 @@ pub mod Off
 pub mod Gained
 pub mod Finished
 pub mod Handed
+pub mod TurnCases

@@ -5,7 +5,8 @@ use Rattle.std.proofs.Common.{◌∙◌, ◌<◌, add-one, arith, drop, drop-con
 use Rattle.std.proofs.Common.{not, nat_lt, ◌≤◌, ⊎_elim}
 use Rattle.std.proofs.lemmas.Bool.{cases_Bool, ltb-false}
 use Rattle.std.proofs.lemmas.List.Elements.{All-cons, All-nil}
-use Rattle.std.specs.List.{All, AllZip, position, position_or_len, slice_get, zip}
+use Rattle.std.proofs.lemmas.Option.{slice_get_read}
+use Rattle.std.specs.List.{All, AllZip, find, position, position_or_len, slice_get, zip}
 
 -- the item of the other list at a place
 pub zip-at : {A B : Type 0} (R : A → B → Type 0) (xs : List A) (ys : List B) (k : ℕ) (y : B)
@@ -180,3 +181,100 @@ pub pairs-cut : {A B : Type 0} (xs : List A) (ys : List B) (at : ℕ) (x : A) (y
 pairs-cut xs ys at x y within there is that =
     ap (λ front. zip front (drop at ys)) (cut-at xs at x within is)
     ∙ ap (λ front. zip (x ∷ drop (at + 1) xs) front) (cut-at ys at y there that)
+
+-- what is found where it stands alone
+pub found-at : {X : Type 0} (p : X → Bool) (xs : List X) (at : ℕ) (x : X)
+    → slice_get xs at ≡ Some x → p x ≡ true
+    → ((k : ℕ) (y : X) → k ≢ at → slice_get xs k ≡ Some y → p y ≡ false)
+    → find p xs ≡ Some x
+found-at p [] at x is passes others = absurd (cc)
+found-at p (y ∷ xs) zero x is passes others =
+    let there : y ≡ x = cc in
+    ap (λ b. cond b (Some y) (find p xs)) (ap p there ∙ passes) ∙ ap Some there
+found-at p (y ∷ xs) (suc at) x is passes others =
+    ap (λ b. cond b (Some y) (find p xs)) (others 0 y (λ e. absurd (cc)) refl)
+    ∙ found-at p xs at x is passes (λ k z apart. others (suc k) z (λ e. apart (omega (arith, e))))
+
+-- so it is once another one stands there
+pub set-found : {X : Type 0} (p : X → Bool) (xs : List X) (at : ℕ) (x y : X)
+    → slice_get xs at ≡ Some x → p y ≡ true
+    → ((k : ℕ) (z : X) → k ≢ at → slice_get xs k ≡ Some z → p z ≡ false)
+    → find p (set xs at y) ≡ Some y
+set-found p [] at x y is passes others = absurd (cc)
+set-found p (z ∷ xs) zero x y is passes others = ap (λ b. cond b (Some y) (find p xs)) passes
+set-found p (z ∷ xs) (suc at) x y is passes others =
+    ap (λ b. cond b (Some z) (find p (set xs at y))) (others 0 z (λ e. absurd (cc)) refl)
+    ∙ set-found p xs at x y is passes
+    (λ k w apart. others (suc k) w (λ e. apart (omega (arith, e))))
+
+-- what holds between the items of lists holds between images
+pub zip-map : {A B C : Type 0} (R : A → B → Type 0) (S : A → C → Type 0) (g : B → C) (xs : List A)
+    (ys : List B) → AllZip R xs ys
+    → ((x : A) (y : B) → R x y → S x (g y)) → AllZip S xs (map g ys)
+zip-map R S g [] [] all f = tt
+zip-map R S g [] (y ∷ ys) all f = absurd all
+zip-map R S g (x ∷ xs) [] all f = absurd all
+zip-map R S g (x ∷ xs) (y ∷ ys) all f = (f x y all.0, zip-map R S g xs ys all.1 f)
+
+-- what is looked for and stands nowhere
+pub find-none : {X : Type 0} (p : X → Bool) (xs : List X)
+    → ((k : ℕ) (y : X) → slice_get xs k ≡ Some y → p y ≡ false) → find p xs ≡ None
+find-none p [] others = refl
+find-none p (y ∷ xs) others =
+    ap (λ b. cond b (Some y) (find p xs)) (others 0 y refl)
+    ∙ find-none p xs (λ k. others (suc k))
+
+-- what is found stands somewhere
+pub found-place : {X : Type 0} (p : X → Bool) (xs : List X) (x : X) → find p xs ≡ Some x
+    → (k : ℕ) × (slice_get xs k ≡ Some x) × (p x ≡ true)
+found-place p [] x found = absurd (cc)
+found-place p (y ∷ xs) x found = ⊎_elim
+    (λ (yes : p y ≡ true).
+    let first : find p (y ∷ xs) ≡ Some y = ap (λ b. cond b (Some y) (find p xs)) yes in
+    let both : Some y ≡ Some x = sym first ∙ found in
+    let same : y ≡ x = cc in
+    (0, ap Some same, ap p (sym same) ∙ yes))
+    (λ (no' : p y ≡ false).
+    let rest = found-place p xs x
+    (sym (ap (λ b. cond b (Some y) (find p xs)) no') ∙ found) in
+    (suc rest.0, rest.1, rest.2))
+    (cases_Bool (p y))
+
+-- what holds at each place of a list
+pub from-places : {X : Type 0} (P : X → Type 0) (xs : List X)
+    → ((k : ℕ) (x : X) → slice_get xs k ≡ Some x → P x) → All P xs
+from-places P [] each = All-nil P
+from-places P (x ∷ xs) each =
+    All-cons P x xs (each 0 x refl) (from-places P xs (λ k. each (suc k)))
+
+-- pairs of the items of two lists, place by place
+pub zip-there : {A B : Type 0} (xs : List A) (ys : List B) (k : ℕ) (x : A) (y : B)
+    → slice_get xs k ≡ Some x → slice_get ys k ≡ Some y → slice_get (zip xs ys) k ≡ Some (x, y)
+zip-there [] ys k x y at-x at-y = absurd (cc)
+zip-there (w ∷ xs) [] k x y at-x at-y = absurd (cc)
+zip-there (w ∷ xs) (z ∷ ys) zero x y at-x at-y =
+    let one : w ≡ x = cc in let two : z ≡ y = cc in λ i. Some (one i, two i)
+zip-there (w ∷ xs) (z ∷ ys) (suc k) x y at-x at-y = zip-there xs ys k x y at-x at-y
+
+pub zip-parts : {A B : Type 0} (xs : List A) (ys : List B) (k : ℕ) (of : A × B)
+    → slice_get (zip xs ys) k ≡ Some of
+    → (slice_get xs k ≡ Some of.0) × (slice_get ys k ≡ Some of.1)
+zip-parts [] ys k of is = absurd (cc)
+zip-parts (w ∷ xs) [] k of is = absurd (cc)
+zip-parts (w ∷ xs) (z ∷ ys) zero of is =
+    let same : (w, z) ≡ of = cc in (λ i. Some (same i).0, λ i. Some (same i).1)
+zip-parts (w ∷ xs) (z ∷ ys) (suc k) of is = zip-parts xs ys k of is
+
+-- an image stands for an item
+pub map-there : {A B : Type 0} (g : A → B) (xs : List A) (k : ℕ) (y : B)
+    → slice_get (map g xs) k ≡ Some y → (x : A) × (slice_get xs k ≡ Some x) × (g x ≡ y)
+map-there g [] k y is = absurd (cc)
+map-there g (x ∷ xs) zero y is = let same : g x ≡ y = cc in (x, refl, same)
+map-there g (x ∷ xs) (suc k) y is = map-there g xs k y is
+
+-- the item that a loop over a slice reads
+pub item-there : {X : Type 0} (items xs : List X) (at : ℕ) (x : X) → items ≡ xs
+    → at < length items → x ≡ get_or items at x → slice_get xs at ≡ Some x
+item-there items xs at x same low is =
+    subst (λ (l : List _). slice_get l at ≡ Some x) same
+    (slice_get_read items (length items) at x refl low is)

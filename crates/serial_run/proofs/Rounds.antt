@@ -1,25 +1,32 @@
 -- Rounds, visits and repetitions, turn by turn.
-use Rattle.std.proofs.Common.{◌≡◌, ◌≢◌, ℕ, zero, suc, ◌+◌, ◌<◌, ◌≤◌, ◌++◌, Bool, true, false}
-use Rattle.std.proofs.Common.{cond, not, List, [], ◌∷◌, length, map, replicate, take, Some, ⊎_elim}
+use Rattle.std.proofs.Common.{◌≡◌, ◌≢◌, ◌⊎◌, ℕ, zero, suc, ◌+◌, ◌<◌, ◌≤◌, ◌++◌, Bool, true, false}
+use Rattle.std.proofs.Common.{not, List, [], ◌∷◌, length, map, replicate, take, Some, ⊎_elim}
 use Rattle.std.proofs.Common.{refl, sym, ap, subst, ◌∙◌, arith, get_or, All, count_by}
-use Rattle.std.specs.Prelude.{◌&&◌}
-use Rattle.std.specs.List.{AllZip, list_all, slice_get, slice_index_or, sum_by, zip}
-use Rattle.std.proofs.lemmas.Option.{get_or_from_slice_get, slice_get_within}
+use Rattle.std.specs.Prelude.{◌&&◌, option_map}
+use Rattle.std.specs.List.{AllZip, Contains, list_all, slice_get, sum_by, zip}
+use Rattle.std.proofs.lemmas.Bool.{cases_lt}
+use Rattle.std.proofs.lemmas.List.{take_more}
+use Rattle.std.proofs.lemmas.Option.{get_or_from_slice_get, slice_get-map, slice_get_read}
+use Rattle.std.proofs.lemmas.Option.{slice_get_within}
 use Rattle.std.proofs.lemmas.List.Elements.{All-cons, All-nil}
 use Rattle.std.proofs.lemmas.List.Sums.{sum_by-cons}
-use Rattle.std.proofs.lemmas.List.Sorted.{sum_by-IsPermutation}
+use Rattle.plant_types.specs.declared.net.NetPlan.{NetPlan}
 use Rattle.plant_types.specs.declared.plan.ControllerPlan.{ControllerPlan}
 use Rattle.plant_types.specs.declared.plan.Plant.{Plant}
-use Rattle.plant_types.specs.Plans.{controller_nodes, first_net, host_nodes}
-use Rattle.plant_types.proofs.OneNet.{on-net}
+use Rattle.plant_types.specs.Plans.{net_of}
+use Rattle.ring_core.specs.declared.entry.RingEntry.{RingEntry}
 use Rattle.ring_core.specs.declared.status.NodeStatus.{NodeStatus}
 use Rattle.ring_core.specs.declared.status.NodeStatus.TheVariants.{In, Away, Asking, Gone}
 use Rattle.ring_core.specs.Kept.{KeptRing}
-use Rattle.ring_core.specs.Machine.{is_in, ring_after}
+use Rattle.ring_core.specs.Machine.{is_in}
+use Rattle.bridge_station.specs.Station.{end_has_left}
+use Rattle.bridge_station.specs.Stands.{StandsEnd}
+use Rattle.bridge_station.proofs.Standing.{end-knows}
 use Rattle.controller_core.specs.declared.fixed.Fixed.{Fixed}
 use Rattle.controller_core.specs.Controller.{ControllerIs, has_ended, is_off, left_of}
 use Rattle.joint_history.specs.declared.joint.Joint.{Joint}
-use Rattle.joint_history.specs.JointLaws.{logged}
+use Rattle.joint_history.specs.JointLaws.{fixed_of, logged}
+use Rattle.joint_history.specs.Nets.{noted_on}
 use Rattle.joint_history.specs.Reading.{has_ended_at, is_off_at}
 use Rattle.tied_lists.specs.Waits.{has_left, status_at}
 use Rattle.tied_lists.proofs.Boxes.{count-cons, one-if}
@@ -27,25 +34,35 @@ use Rattle.turn_laws.specs.KeepsOn.{is_out_of_ring}
 use Rattle.turn_laws.specs.Laws.{SomebodyHolds}
 use Rattle.whole_scan.specs.Scans.{IsBetweenScans, KeepsStepsLeft}
 use Rattle.serial_run.specs.declared.order.Turn.{Turn}
+use Rattle.serial_run.specs.declared.order.Turn.TheVariants.{Hold}
+use Rattle.serial_run.specs.declared.stations.BridgeSite.{BridgeSite}
 use Rattle.serial_run.specs.declared.stations.ControllerStation.{ControllerStation}
 use Rattle.serial_run.specs.declared.stations.HostStation.{HostStation}
+use Rattle.serial_run.specs.declared.stations.RingStation.{RingStation}
 use Rattle.serial_run.specs.declared.stations.Stations.{Stations}
-use Rattle.serial_run.specs.Turns.{MakesTurn, MakesTurns, first_hold}
-use Rattle.serial_run.specs.Serial.{all_are_out, all_have_ended, away_turns_of, host_is_out}
-use Rattle.serial_run.specs.Serial.{log_has_ended, log_is_out, members_on, visits_of, IsChain}
+use Rattle.serial_run.specs.Turns.{MakesTurn, MakesTurns}
+use Rattle.serial_run.specs.Serial.{all_are_out, all_have_ended, away_turns_of, bridge_is_out}
+use Rattle.serial_run.specs.Serial.{host_is_out, log_has_ended, log_is_out, members_on}
+use Rattle.serial_run.specs.Serial.{node_is_out, visits_of, IsChain}
 use Rattle.serial_run.specs.Serial.{Finishes, IsLateRound, IsRepetition, MakesLateRounds}
-use Rattle.serial_run.specs.Serial.{MakesRound, MakesRounds, Repeats, scanned}
-use Rattle.serial_run.specs.Stations.{Did, DidWith, StandAll, StandsController, StandsHost}
-use Rattle.serial_run.specs.Stations.{joint_of, log_of}
-use Rattle.serial_run.specs.Held.{is_away_status, is_in_ring, members_in, stations_here, status_in}
-use Rattle.serial_run.specs.Held.{turns_left, AllHave, GainFor, IsOffAway, Lessens, Stay}
+use Rattle.serial_run.specs.Serial.{MakesRound, MakesRoundOfEach, MakesRoundOn, MakesRounds}
+use Rattle.serial_run.specs.Serial.{Repeats, scanned}
+use Rattle.serial_run.specs.Stations.{Did, DidWith, HostStandsOn, StandAll, StandsOn, StandsRing}
+use Rattle.serial_run.specs.Stations.{StandsSite, joint_of, log_of, ring_in}
+use Rattle.serial_run.specs.Held.{is_away_status, members_if, members_in, site_has_left}
+use Rattle.serial_run.specs.Held.{stations_here, status_in, turns_left, AllHave, GainFor, HeldOn}
+use Rattle.serial_run.specs.Held.{IsHeld, IsOffAway, Lessens, RoundOn, Stay}
 use Rattle.serial_run.specs.Scans.{have_ended, steps_left, AreBetweenScans}
 use Rattle.serial_run.specs.Scans.{KeepScans}
+use Rattle.serial_run.proofs.Did.{noted-mine}
 use Rattle.serial_run.proofs.Gained.{SomeHave, all-stay, one-more-has, stays-both, stays-same}
 use Rattle.serial_run.proofs.Laws.{one-more-turn}
-use Rattle.serial_run.proofs.Lists.{zip-at, zip-at-first, zip-both}
-use Rattle.serial_run.proofs.Measures.{holder-member, scans-same, station-open}
-use Rattle.serial_run.proofs.Rings.{count-more}
+use Rattle.serial_run.proofs.Lists.{map-there, zip-at, zip-at-first, zip-both, zip-parts}
+use Rattle.serial_run.proofs.Lists.{zip-there}
+use Rattle.serial_run.proofs.Measures.{members-hold, members-there, scans-same, some-there}
+use Rattle.serial_run.proofs.Measures.{station-open}
+use Rattle.serial_run.proofs.Networks.{contains-at, noted-is, place-of, ring-of, same-net}
+use Rattle.serial_run.proofs.TurnsMade.{at-place, host-at-place, site-at-place}
 use Rattle.whole_scan.proofs.ScanSteps.{between-kept}
 
 -- ---- what was done, one after another
@@ -55,35 +72,25 @@ did-none run = record { stand = λ plant scans all. all; made = λ plant scans a
 
 -- ---- members
 
-count-zip : {A B : Type 0} (R : A → B → Type 0) (f : A → ℕ) (p : ℕ → Bool) (q : B → Bool)
-    (xs : List A) (ys : List B) → AllZip R xs ys
-    → ((x : A) (y : B) → R x y → q y ≡ p (f x)) → count_by q ys ≡ count_by p (map f xs)
-count-zip R f p q [] [] all same = refl
-count-zip R f p q [] (y ∷ ys) all same = absurd all
-count-zip R f p q (x ∷ xs) [] all same = absurd all
-count-zip R f p q (x ∷ xs) (y ∷ ys) all same =
-    let here = ap (λ b. cond {A = ℕ} b 1 0) (same x y all.0) in
-    let rest = count-zip R f p q xs ys all.1 same in
-    let a = count-cons q y ys in
-    let b = count-cons p (f x) (map f xs) in
-    omega (arith, here, rest, a, b)
-
 pub in-members : (plant : Plant) (scans : ℕ) (run : Stations) → StandAll plant scans run
-    → members_in run ≡ members_on plant run.ring.history
-in-members plant scans run all =
-    let p : ℕ → Bool = λ n. is_in (status_at (first_net plant) run.ring.history n) in
-    let at : (n m : ℕ) → n ≡ m → is_in_ring run.ring n ≡ p m = λ n m e i.
-    is_in (status_at (all.net i) run.ring.history (e i)) in
-    let a = count-zip (StandsController plant scans run.ring.history) (λ plan. plan.node) p
-    (λ (s : ControllerStation). is_in_ring run.ring s.node) plant.controllers
-    run.controllers.items all.controllers (λ x y st. at y.node x.node st.node) in
-    let b = count-zip (StandsHost plant run.ring.history) (λ plan. plan.node) p
-    (λ (s : HostStation). is_in_ring run.ring s.node) plant.hosts
-    run.hosts.items all.hosts (λ x y st. at y.node x.node st.node) in
-    let c = count-more p (controller_nodes plant) (host_nodes plant) in
-    let d = sum_by-IsPermutation (λ n. cond (p n) 1 0) (controller_nodes plant ++ host_nodes plant)
-    (first_net plant).members (on-net plant all.sound).members in
-    omega (arith, a, b, c, d)
+    → (net : NetPlan) → Contains plant.nets net
+    → members_in run net.number ≡ members_on net (noted_on net.number (joint_of run))
+in-members plant scans run all net there =
+    let of = ring-of plant run.rings.items all.sound all.rings net there in
+    let st = of.stands in
+    let history = of.station.ring.history in
+    let noted : noted_on net.number (joint_of run) ≡ history =
+    noted-is run.rings.items net.number ∙ ap (λ (r : KeptRing). r.history) of.ring_is in
+    ap members_if of.found
+    ∙ ((λ i. count_by (λ (n : ℕ). is_in (status_at (st.net_is i) history n)) (st.members i))
+    ∙ ap (members_on net) (sym noted))
+
+pub zip-length : {A B : Type 0} (R : A → B → Type 0) (xs : List A) (ys : List B) → AllZip R xs ys
+    → length ys ≡ length xs
+zip-length R [] [] all = refl
+zip-length R [] (y ∷ ys) all = absurd all
+zip-length R (x ∷ xs) [] all = absurd all
+zip-length R (x ∷ xs) (y ∷ ys) all = ap suc (zip-length R xs ys all.1)
 
 -- ---- who has ended
 
@@ -99,7 +106,7 @@ zip-list-all R p q g (x ∷ xs) (y ∷ ys) all same = λ i. same x y all.0 i && 
 pub ended-as : (plant : Plant) (scans : ℕ) (run : Stations) → StandAll plant scans run
     → have_ended run ≡ all_have_ended plant scans (joint_of run)
 ended-as plant scans run all =
-    zip-list-all (StandsController plant scans run.ring.history) (log_has_ended plant scans)
+    zip-list-all (StandsOn plant scans run.rings.items) (log_has_ended plant scans)
     (λ (s : ControllerStation). has_ended s.controller) log_of
     plant.controllers run.controllers.items all.controllers
     (λ x y st. ap (λ (f : Fixed). has_ended_at f y.controller.history) st.fixed)
@@ -114,24 +121,25 @@ replicate-more : (n : ℕ) (turn : Turn) → replicate n turn ++ turn ∷ [] ≡
 replicate-more n turn = let same : suc n ≡ n + 1 = omega arith in replicate-last n turn ∙ ap
     (λ k. replicate k turn) same
 
--- some hold turns of a round
-pub record SomeHolds (count : ℕ) (old new : Stations) : Type 0 where
+-- some hold turns of a round of a network
+pub record SomeHolds (network count : ℕ) (old new : Stations) : Type 0 where
   pub none : count ≡ 0 → new ≡ old
-  pub did : Did (λ plant scans. MakesTurns plant scans (replicate count (first_hold plant)))
-      old new
+  pub did : Did (λ plant scans. MakesTurns plant scans (replicate count (Hold network))) old new
   pub scans : KeepScans old new
   pub no_more : turns_left new ≤ turns_left old
-  pub less : stations_here old ≢ 0 → 0 < count → turns_left new < turns_left old
+  pub less : IsHeld old network → 0 < count → turns_left new < turns_left old
   pub off : Stay IsOffAway old new
+  pub others : (other : ℕ) → other ≢ network → members_in new other ≡ members_in old other
 
-pub no-holds : (run : Stations) → SomeHolds 0 run run
-no-holds run = record {
+pub no-holds : (network : ℕ) (run : Stations) → SomeHolds network 0 run run
+no-holds network run = record {
   none = λ is. refl;
   did = did-none run;
   scans = scans-same run run refl;
   no_more = omega arith;
   less = λ some low. absurd (omega (arith, low));
-  off = stays-same IsOffAway run.ring run.controllers.items;
+  off = stays-same IsOffAway run.rings.items run.controllers.items;
+  others = λ other apart. refl;
 }
 
 keep-both : (u v w : ControllerIs) → KeepsStepsLeft u v → KeepsStepsLeft v w → KeepsStepsLeft u w
@@ -152,77 +160,184 @@ scans-both a b c x y =
     b.controllers.items c.controllers.items x y
     (λ s t u. keep-both s.controller t.controller u.controller)
 
-first-less : (a b c : ℕ) (some : ℕ) (count : ℕ) → (some ≢ 0 → 0 < count → b < a) → b ≤ a → c ≤ b
-    → (count ≡ 0 → some ≢ 0 → c < a) → some ≢ 0 → c < a
-first-less a b c some zero less no_more next first is = first refl is
-first-less a b c some (suc count) less no_more next first is = let l = less is (omega arith) in
+first-less : (There : Type 0) (a b c : ℕ) (count : ℕ) → (There → 0 < count → b < a) → b ≤ a
+    → c ≤ b → (count ≡ 0 → There → c < a) → There → c < a
+first-less There a b c zero less no_more next first is = first refl is
+first-less There a b c (suc count) less no_more next first is = let l = less is (omega arith) in
     omega (arith, l, next)
 
-pub one-more-hold : (count : ℕ) (first old new : Stations) → SomeHolds count first old
-    → Did (λ plant scans. MakesTurn plant scans (first_hold plant)) old new → KeepScans old new
-    → Lessens old new
-    → Stay IsOffAway old new
-    → SomeHolds (count + 1) first new
-one-more-hold count first old new some did scans less off = record {
-  off = stays-both IsOffAway first old new some.off off;
+pub one-more-hold : (network count : ℕ) (first old new : Stations)
+    → SomeHolds network count first old → HeldOn network old new
+    → SomeHolds network (count + 1) first new
+one-more-hold network count first old new some held = record {
+  off = stays-both IsOffAway first old new some.off held.off;
   none = λ is. absurd (let a : count + 1 ≡ 0 = is in omega (arith, a));
   did = record {
-    stand = λ plant n all. did.stand plant n (some.did.stand plant n all);
+    stand = λ plant n all. held.did.stand plant n (some.did.stand plant n all);
     made = λ plant n all. subst (λ (turns : List Turn). MakesTurns plant n turns (joint_of first)
-        (joint_of new)) (replicate-more count (first_hold plant))
-        (one-more-turn plant n (replicate count (first_hold plant)) (first_hold plant)
+        (joint_of new)) (replicate-more count (Hold network))
+        (one-more-turn plant n (replicate count (Hold network)) (Hold network)
         (joint_of first) (joint_of old) (joint_of new) (some.did.made plant n all)
-        (did.made plant n (some.did.stand plant n all)));
+        (held.did.made plant n (some.did.stand plant n all)));
   };
-  scans = scans-both first old new some.scans scans;
-  no_more = let a = some.no_more in let b = less.no_more in omega (arith, a, b);
-  less = λ is low. first-less (turns_left first) (turns_left old) (turns_left new)
-      (stations_here first) count some.less some.no_more less.no_more
+  scans = scans-both first old new some.scans held.scans;
+  no_more = let a = some.no_more in let b = held.no_more in omega (arith, a, b);
+  less = λ is low. first-less (IsHeld first network) (turns_left first) (turns_left old)
+      (turns_left new) count some.less some.no_more held.no_more
       (λ none is. let at-first = some.none none in
       subst (λ (run : Stations). turns_left new < turns_left run) at-first
-      (less.less (subst (λ (run : Stations). stations_here run ≢ 0) (sym at-first) is))) is;
+      (held.less (subst (λ (run : Stations). IsHeld run network) (sym at-first) is))) is;
+  others = λ other apart. held.others other apart ∙ some.others other apart;
 }
 
-pub holds-round : (first new : Stations) (count : ℕ) → count ≡ members_in first
-    → SomeHolds count first new → Did MakesRound first new
-holds-round first new count is some = record {
-  stand = some.did.stand;
-  made = λ plant scans all. subst
-      (λ (n : ℕ). MakesTurns plant scans (replicate n (first_hold plant)) (joint_of first)
-      (joint_of new))
-      (is ∙ in-members plant scans first all) (some.did.made plant scans all);
-}
-
-count-there : (p : ℕ → Bool) (xs : List ℕ) (k n : ℕ) → k < length xs → slice_index_or xs k n ≡ n
-    → p n ≡ true → 0 < count_by p xs
-count-there p [] k n low is named = absurd (omega (arith, low))
-count-there p (x ∷ xs) zero n low is named =
-    let c = count-cons p x xs in
-    let o = one-if (p x) (ap p is ∙ named) in
-    omega (arith, c, o)
-count-there p (x ∷ xs) (suc k) n low is named =
-    let c = count-cons p x xs in
-    let more = count-there p xs k n (omega (arith, low)) is named in
-    omega (arith, c, more)
-
--- where a station has not left some member holds the token
-some-in : (law : SomebodyHolds) (plant : Plant) (scans : ℕ) (run : Stations)
-    → StandAll plant scans run → stations_here run ≢ 0 → 0 < members_in run
-some-in law plant scans run all some =
-    let found = holder-member law plant scans run all some in
-    let holder = (ring_after (first_net plant) run.ring.history).holder in
-    let count = count-there (λ (n : ℕ). is_in (status_at (first_net plant) run.ring.history n))
-    (first_net plant).members found.0.0 holder found.0.1 found.0.2 found.1 in
-    let same = in-members plant scans run all in
-    omega (arith, count, same)
-
-pub holds-lessen : (law : SomebodyHolds) (plant : Plant) (scans : ℕ) (first new : Stations)
-    (count : ℕ) → StandAll plant scans first → count ≡ members_in first
-    → SomeHolds count first new → Lessens first new
-holds-lessen law plant scans first new count all is some = record {
+-- all of them
+pub holds-round : (law : SomebodyHolds) (plant : Plant) (scans network : ℕ) (first new : Stations)
+    (count : ℕ) → StandAll plant scans first → count ≡ members_in first network
+    → SomeHolds network count first new → RoundOn network first new
+holds-round law plant scans network first new count all is some = record {
+  did = subst (λ (n : ℕ). Did (λ plant scans. MakesTurns plant scans
+      (replicate n (Hold network))) first new) is some.did;
+  scans = some.scans;
   no_more = some.no_more;
-  less = λ other. some.less other (let low = some-in law plant scans first all other in
-      omega (arith, is, low));
+  less = λ there. some.less (members-hold law plant scans first all network there)
+      (positive count (λ none. there (sym is ∙ none)));
+  off = some.off;
+  others = some.others;
+} where
+  positive : (n : ℕ) → n ≢ 0 → 0 < n
+  positive zero some = absurd (some refl)
+  positive (suc n) some = omega arith
+
+-- ---- rounds of networks, one after another
+
+one-more-net : (plant : Plant) (scans : ℕ) (nets : List NetPlan) (net : NetPlan)
+    (first next last : Joint) → MakesRoundOfEach plant scans nets first next
+    → MakesRoundOn plant scans net next last
+    → MakesRoundOfEach plant scans (nets ++ net ∷ []) first last
+one-more-net plant scans [] net first next last made it =
+    (last, subst (λ (j : Joint). MakesRoundOn plant scans net j last) made it, refl)
+one-more-net plant scans (n ∷ nets) net first next last made it =
+    (made.0, made.1, one-more-net plant scans nets net made.0 next last made.2 it)
+
+-- some rounds of a plant's networks: those of the networks before a place
+pub record SomeNets (at : ℕ) (first now : Stations) : Type 0 where
+  pub did : Did (λ plant scans. MakesRoundOfEach plant scans (take at plant.nets)) first now
+  pub scans : KeepScans first now
+  pub no_more : turns_left now ≤ turns_left first
+  pub less : (plant : Plant) (scans : ℕ) → StandAll plant scans first → (k : ℕ) (net : NetPlan)
+      → k < at → slice_get plant.nets k ≡ Some net → members_in first net.number ≢ 0
+      → turns_left now < turns_left first
+  pub rest : (plant : Plant) (scans : ℕ) → StandAll plant scans first → (k : ℕ) (net : NetPlan)
+      → at ≤ k → slice_get plant.nets k ≡ Some net
+      → members_in now net.number ≡ members_in first net.number
+  pub off : Stay IsOffAway first now
+
+pub no-nets : (run : Stations) → SomeNets 0 run run
+no-nets run = record {
+  did = record { stand = λ plant scans all. all; made = λ plant scans all. refl };
+  scans = scans-same run run refl;
+  no_more = omega arith;
+  less = λ plant scans all k net low. absurd (omega (arith, low));
+  rest = λ plant scans all k net low is. refl;
+  off = stays-same IsOffAway run.rings.items run.controllers.items;
+}
+
+-- the network of the ring at a place
+net-there : (plant : Plant) (scans : ℕ) (run : Stations) (at : ℕ) (r : RingStation)
+    → StandAll plant scans run → at < length run.rings.items → r ≡ get_or run.rings.items at r
+    → (net : NetPlan) × (slice_get plant.nets at ≡ Some net) × (net.number ≡ r.network)
+net-there plant scans run at r all low is =
+    let its = zip-at StandsRing plant.nets run.rings.items at r all.rings
+    (slice_get_read run.rings.items (length run.rings.items) at r refl low is) in
+    (its.0, its.1, sym its.2.network)
+
+pub one-more-net-round : (at : ℕ) (first now new : Stations) (r : RingStation)
+    → SomeNets at first now → at < length now.rings.items → r ≡ get_or now.rings.items at r
+    → RoundOn r.network now new → SomeNets (at + 1) first new
+one-more-net-round at first now new r some low is round = record {
+  did = record {
+    stand = λ plant n all. round.did.stand plant n (some.did.stand plant n all);
+    made = λ plant n all.
+        let stands = some.did.stand plant n all in
+        let it = net-there plant n now at r stands low is in
+        let net = it.0 in
+        let there = contains-at plant.nets at net it.1 in
+        let count : members_in now r.network
+        ≡ members_on net (noted_on net.number (joint_of now)) =
+        ap (members_in now) (sym it.2) ∙ in-members plant n now stands net there in
+        let made : MakesRoundOn plant n net (joint_of now) (joint_of new) =
+        subst (λ (c : ℕ). MakesTurns plant n (replicate c (Hold net.number)) (joint_of now)
+        (joint_of new)) count
+        (subst (λ (k : ℕ). MakesTurns plant n (replicate (members_in now r.network) (Hold k))
+        (joint_of now) (joint_of new)) (sym it.2) (round.did.made plant n stands)) in
+        subst (λ (nets : List NetPlan). MakesRoundOfEach plant n nets (joint_of first)
+        (joint_of new)) (sym (take-one plant.nets at net it.1))
+        (one-more-net plant n (take at plant.nets) net (joint_of first) (joint_of now)
+        (joint_of new) (some.did.made plant n all) made);
+  };
+  scans = scans-both first now new some.scans round.scans;
+  no_more = let a = some.no_more in let b = round.no_more in omega (arith, a, b);
+  less = λ plant n all k net low' at-net there. ⊎_elim
+      (λ (before : k < at).
+      let a = some.less plant n all k net before at-net there in
+      let b = round.no_more in omega (arith, a, b))
+      (λ (here : at ≤ k).
+      let same-at : k ≡ at = omega (arith, low', here) in
+      let it = net-there plant n now at r (some.did.stand plant n all) low is in
+      let both : Some net ≡ Some it.0 =
+      sym at-net ∙ (ap (slice_get plant.nets) same-at ∙ it.1) in
+      let same : net ≡ it.0 = cc in
+      let count : members_in now r.network ≡ members_in first net.number =
+      ap (members_in now) (sym (ap (λ (m : NetPlan). m.number) same ∙ it.2))
+      ∙ some.rest plant n all k net here at-net in
+      let a = some.no_more in
+      let b = round.less (λ none. there (sym count ∙ none)) in
+      omega (arith, a, b))
+      (cases_lt k at);
+  rest = λ plant n all k net low' at-net.
+      let it = net-there plant n now at r (some.did.stand plant n all) low is in
+      round.others net.number (λ same.
+      let place : k ≡ at = same-net plant all.sound k at net it.0 at-net it.1 (same ∙ sym it.2) in
+      omega (arith, place, low'))
+      ∙ some.rest plant n all k net (omega (arith, low')) at-net;
+  off = stays-both IsOffAway first now new some.off round.off;
+} where
+  take-one : (nets : List NetPlan) (k : ℕ) (net : NetPlan) → slice_get nets k ≡ Some net
+      → take (k + 1) nets ≡ take k nets ++ net ∷ []
+  take-one nets k net is' =
+      take_more nets k net (slice_get_within nets k net is')
+      ∙ ap (λ (m : NetPlan). take k nets ++ m ∷ []) (get_or_from_slice_get nets k net net is')
+
+pub nets-round : (first now : Stations) (at : ℕ) → at ≡ length now.rings.items
+    → SomeNets at first now → Did MakesRound first now
+nets-round first now at is some = record {
+  stand = some.did.stand;
+  made = λ plant n all.
+      let long = zip-length StandsRing plant.nets now.rings.items
+      (some.did.stand plant n all).rings in
+      subst (λ (nets : List NetPlan). MakesRoundOfEach plant n nets (joint_of first)
+      (joint_of now)) (take-nets plant.nets at (is ∙ long)) (some.did.made plant n all);
+} where
+  take-nets : (nets : List NetPlan) (k : ℕ) → k ≡ length nets → take k nets ≡ nets
+  take-nets [] zero is' = refl
+  take-nets [] (suc k) is' = absurd (omega (arith, is'))
+  take-nets (n ∷ nets) zero is' = absurd (omega (arith, is'))
+  take-nets (n ∷ nets) (suc k) is' = λ i. n ∷ take-nets nets k (omega (arith, is')) i
+
+-- where a node has not left, some network had members at the beginning
+pub nets-lessen : (law : SomebodyHolds) (plant : Plant) (scans : ℕ) (first now : Stations)
+    (at : ℕ) → StandAll plant scans first → at ≡ length now.rings.items
+    → SomeNets at first now → Lessens first now
+nets-lessen law plant scans first now at all is some = record {
+  no_more = some.no_more;
+  less = λ here.
+      let somebody = some-there plant scans first all here in
+      let spot = place-of plant.nets somebody.net somebody.there in
+      let long = zip-length StandsRing plant.nets now.rings.items
+      (some.did.stand plant scans all).rings in
+      let low = slice_get_within plant.nets spot.0 somebody.net spot.1 in
+      some.less plant scans all spot.0 somebody.net (omega (arith, is, long, low)) spot.1
+      (members-there law plant scans first all somebody);
 }
 
 -- ---- chains
@@ -263,13 +378,6 @@ one-more-round count first old new some did = record {
 
 -- ---- turns of all controllers, one after another
 
-zip-length : {A B : Type 0} (R : A → B → Type 0) (xs : List A) (ys : List B) → AllZip R xs ys
-    → length ys ≡ length xs
-zip-length R [] [] all = refl
-zip-length R [] (y ∷ ys) all = absurd all
-zip-length R (x ∷ xs) [] all = absurd all
-zip-length R (x ∷ xs) (y ∷ ys) all = ap suc (zip-length R xs ys all.1)
-
 take-past : (turns : List Turn) (k : ℕ) → k ≡ length turns → take k turns ≡ turns
 take-past [] zero is = refl
 take-past [] (suc k) is = absurd (omega (arith, is))
@@ -283,7 +391,7 @@ module _ (turn_of : ℕ → Turn) (Has : KeptRing → ControllerStation → Type
   pub record SomeTurns (at : ℕ) (old new : Stations) : Type 0 where
     pub did : Did (λ plant scans. MakesTurns plant scans (take at (turns_of_all plant))) old new
     pub scans : KeepScans old new
-    pub have : SomeHave Has at new.ring new.controllers.items
+    pub have : SomeHave Has at new.rings.items new.controllers.items
 
   pub no-turns : (run : Stations) → SomeTurns 0 run run
   no-turns run = record {
@@ -324,7 +432,7 @@ module _ (turn_of : ℕ → Turn) (Has : KeptRing → ControllerStation → Type
   all-turns at first new is some = record {
     stand = some.did.stand;
     made = λ plant n all.
-        let long = zip-length (StandsController plant n first.ring.history) plant.controllers
+        let long = zip-length (StandsOn plant n first.rings.items) plant.controllers
         first.controllers.items all.controllers in
         subst (λ (turns : List Turn). MakesTurns plant n turns (joint_of first) (joint_of new))
         (take-past (turns_of_all plant) at (is ∙ (long ∙ sym (length-turns plant.controllers))))
@@ -345,7 +453,7 @@ module _ (turn_of : ℕ → Turn) (Has : KeptRing → ControllerStation → Type
           let next : suc at ≡ at + 1 = omega arith in
           subst (λ (turns : List Turn). MakesTurns plant n turns (joint_of first) (joint_of new))
           (sym (sym (ap (λ k. take k (turns_of_all plant)) next) ∙ turn-at plant.controllers
-          old.controllers.items at s (StandsController plant n old.ring.history) now.controllers
+          old.controllers.items at s (StandsOn plant n old.rings.items) now.controllers
           (λ p t st. st.node) low is))
           (one-more-turn plant n (take at (turns_of_all plant)) (turn_of s.node) (joint_of first)
           (joint_of old) (joint_of new) (some.did.made plant n all)
@@ -559,80 +667,166 @@ module _ (run : Stations) (none : stations_here run ≡ 0) where
       (none-counted (λ (s : HostStation). not s.left) run.hosts.items k s
       (omega (arith, none)) is)
 
+  pub site-left : (k : ℕ) (s : BridgeSite) → slice_get run.bridges.items k ≡ Some s
+      → site_has_left s ≡ true
+  site-left k s is = not-false (site_has_left s)
+      (none-counted (λ (s : BridgeSite). not (site_has_left s)) run.bridges.items k s
+      (omega (arith, none)) is)
+
 module _ (plant : Plant) (scans : ℕ) (run : Stations) (all : StandAll plant scans run) where
   -- a station's status, as its plan has it
-  out-as : (plan : ControllerPlan) (s : ControllerStation)
-      → StandsController plant scans run.ring.history plan s
-      → is_out_of_ring (is_off s.controller) (status_in run.ring s.node)
-      ≡ log_is_out plant scans run.ring.history (plan, log_of s)
-  out-as plan s st = λ i. is_out_of_ring
-      (is_off_at (st.fixed i) s.controller.history)
-      (status_at (all.net i) run.ring.history (st.node i))
+  pub out-as : (k : ℕ) (s : ControllerStation)
+      (is : slice_get run.controllers.items k ≡ Some s)
+      → is_out_of_ring (is_off s.controller) (status_in (ring_in run s.network) s.node)
+      ≡ log_is_out plant scans (joint_of run) ((at-place plant scans run k s all is).plan, log_of s)
+  out-as k s is =
+      let p = at-place plant scans run k s all is in
+      (λ i. is_out_of_ring (is_off_at (p.stands.fixed i) s.controller.history)
+      (status_at (p.ring.net_is i) (ring_in run s.network).history (p.stands.node i)))
+      ∙ ap (λ (l : List RingEntry). is_out_of_ring
+      (is_off_at (fixed_of plant scans p.plan) s.controller.history)
+      (status_at (net_of plant p.plan.node) l p.plan.node))
+      (sym (noted-mine run s.network p.plan.network p.stands.network))
+
+  host-out-as : (k : ℕ) (s : HostStation) (is : slice_get run.hosts.items k ≡ Some s)
+      → (let p = host-at-place plant scans run k s all is in
+      is_out_of_ring false (status_at (net_of plant p.plan.node) (ring_in run s.network).history
+      p.plan.node) ≡ host_is_out plant (joint_of run) p.plan)
+  host-out-as k s is =
+      let p = host-at-place plant scans run k s all is in
+      ap (λ (l : List RingEntry). is_out_of_ring false (status_at (net_of plant p.plan.node) l
+      p.plan.node)) (sym (noted-mine run s.network p.plan.network p.stands.network))
+
+  -- an end that has left is out, and no other one is
+  end-out-as : (site : BridgeSite) (home side : ℕ)
+      → StandsEnd side site.station (net_of plant side) (ring_in run home).history
+      → node_is_out plant (joint_of run) false home side ≡ end_has_left side site.station
+  end-out-as site home side st =
+      let list = (ring_in run home).history in
+      let status = status_at (net_of plant side) list side in
+      ap (λ (l : List RingEntry). is_out_of_ring false (status_at (net_of plant side) l side))
+      (noted-is run.rings.items home)
+      ∙ (out-gone status (end_has_left side site.station)
+      (end-knows side site.station (net_of plant side) list st)
+      (λ left. (st.keeps.gone left).on_ring))
+    where
+      out-gone : (status : NodeStatus) (left : Bool) → left ≡ has_left status
+          → (left ≡ true → status ≡ Gone) → is_out_of_ring false status ≡ left
+      out-gone In left is gone = sym is
+      out-gone Away left is gone =
+          absurd (let no' : Away ≡ Gone = gone is in cc)
+      out-gone Asking left is gone = sym is
+      out-gone Gone left is gone = sym is
+
+  site-out-as : (k : ℕ) (s : BridgeSite) (is : slice_get run.bridges.items k ≡ Some s)
+      → bridge_is_out plant (joint_of run) (site-at-place plant scans run k s all is).plan
+      ≡ site_has_left s
+  site-out-as k s is =
+      let p = site-at-place plant scans run k s all is in
+      let a = end-out-as s p.plan.left_net p.plan.left p.stands.left in
+      let b = end-out-as s p.plan.right_net p.plan.right p.stands.right in
+      (λ i. a i && b i)
+      ∙ (λ i. end_has_left (sym p.stands.plan_is i).left s.station
+      && end_has_left (sym p.stands.plan_is i).right s.station)
 
   pub open-all : stations_here run ≢ 0 → all_are_out plant scans (joint_of run) ≡ false
   open-all some = ⊎_elim
       (λ (c : (k : ℕ) × (s : ControllerStation)
       × (slice_get run.controllers.items k ≡ Some s) × (s.left ≡ false)).
-      let its = zip-at (StandsController plant scans run.ring.history) plant.controllers
-      run.controllers.items c.0 c.1 all.controllers c.2 in
-      ap (λ b. b && list_all (host_is_out plant run.ring.history) plant.hosts)
-      (sym (out-all) ∙ not-all
-      (λ (s : ControllerStation). is_out_of_ring (is_off s.controller) (status_in run.ring s.node))
-      run.controllers.items c.0 c.1 c.2
-      (open-out (is_off c.1.controller) (status_in run.ring c.1.node)
-      ((λ i. has_left (status_at (all.net i) run.ring.history ((its.2.node) i)))
-      ∙ (sym its.2.left ∙ c.3)))))
+      let p = at-place plant scans run c.0 c.1 all c.2 in
+      let open' : log_is_out plant scans (joint_of run) (p.plan, log_of c.1) ≡ false =
+      sym (out-as c.0 c.1 c.2)
+      ∙ open-out (is_off c.1.controller) (status_in (ring_in run c.1.network) c.1.node)
+      ((λ i. has_left (status_at (p.ring.net_is i) (ring_in run c.1.network).history
+      (p.stands.node i))) ∙ (sym p.stands.left ∙ c.3)) in
+      ap (λ b. (b && hosts-out) && bridges-out)
+      (not-all (log_is_out plant scans (joint_of run)) (logged plant (joint_of run)) c.0
+      (p.plan, log_of c.1) (logged-at c.0 c.1 c.2 p.plan p.plan_is) open'))
+      (λ (rest : ((k : ℕ) × (s : HostStation) × (slice_get run.hosts.items k ≡ Some s)
+      × (s.left ≡ false))
+      ⊎ ((k : ℕ) × (s : BridgeSite) × (slice_get run.bridges.items k ≡ Some s)
+      × (site_has_left s ≡ false))). ⊎_elim
       (λ (h : (k : ℕ) × (s : HostStation)
       × (slice_get run.hosts.items k ≡ Some s) × (s.left ≡ false)).
-      let its = zip-at (StandsHost plant run.ring.history) plant.hosts
-      run.hosts.items h.0 h.1 all.hosts h.2 in
-      ap (λ b. list_all (log_is_out plant scans run.ring.history) (logged plant (joint_of run))
-      && b)
-      (not-all (host_is_out plant run.ring.history) plant.hosts h.0 its.0 its.1
-      (open-out false (status_at (first_net plant) run.ring.history its.0.node)
-      (sym its.2.left ∙ h.3)))
-      ∙ and-false (list_all (log_is_out plant scans run.ring.history)
-      (logged plant (joint_of run))))
+      let p = host-at-place plant scans run h.0 h.1 all h.2 in
+      let open' : host_is_out plant (joint_of run) p.plan ≡ false =
+      sym (host-out-as h.0 h.1 h.2)
+      ∙ open-out false (status_at (net_of plant p.plan.node) (ring_in run h.1.network).history
+      p.plan.node) (sym p.stands.left ∙ h.3) in
+      ap (λ b. (controllers-out && b) && bridges-out)
+      (not-all (host_is_out plant (joint_of run)) plant.hosts h.0 p.plan p.plan_is open')
+      ∙ ap (λ b. b && bridges-out) (and-false controllers-out))
+      (λ (h : (k : ℕ) × (s : BridgeSite)
+      × (slice_get run.bridges.items k ≡ Some s) × (site_has_left s ≡ false)).
+      let p = site-at-place plant scans run h.0 h.1 all h.2 in
+      ap (λ b. (controllers-out && hosts-out) && b)
+      (not-all (bridge_is_out plant (joint_of run)) plant.bridges h.0 p.plan p.plan_is
+      (site-out-as h.0 h.1 h.2 ∙ h.3))
+      ∙ and-false (controllers-out && hosts-out))
+      rest)
       (station-open run some)
     where
-      out-all : list_all (λ (s : ControllerStation).
-          is_out_of_ring (is_off s.controller) (status_in run.ring s.node)) run.controllers.items
-          ≡ list_all (log_is_out plant scans run.ring.history) (logged plant (joint_of run))
-      out-all = zip-list-all (StandsController plant scans run.ring.history)
-          (log_is_out plant scans run.ring.history)
-          (λ (s : ControllerStation).
-          is_out_of_ring (is_off s.controller) (status_in run.ring s.node)) log_of
-          plant.controllers run.controllers.items all.controllers out-as
+      controllers-out : Bool
+      controllers-out =
+          list_all (log_is_out plant scans (joint_of run)) (logged plant (joint_of run))
+
+      hosts-out : Bool
+      hosts-out = list_all (host_is_out plant (joint_of run)) plant.hosts
+
+      bridges-out : Bool
+      bridges-out = list_all (bridge_is_out plant (joint_of run)) plant.bridges
+
+      logged-at : (k : ℕ) (s : ControllerStation) → slice_get run.controllers.items k ≡ Some s
+          → (plan : ControllerPlan) → slice_get plant.controllers k ≡ Some plan
+          → slice_get (logged plant (joint_of run)) k ≡ Some (plan, log_of s)
+      logged-at k s is plan plan-is =
+          zip-there plant.controllers (map log_of run.controllers.items) k plan (log_of s) plan-is
+          (slice_get-map log_of run.controllers.items k ∙ ap (option_map log_of) is)
 
   pub all-out : stations_here run ≡ 0 → AllHave IsOffAway run
       → all_are_out plant scans (joint_of run) ≡ true
   all-out none off =
-      (λ i. controllers-out i && hosts-out i) where
-        controllers-out : list_all (log_is_out plant scans run.ring.history)
+      (λ i. (controllers-out i && hosts-out i) && bridges-out i) where
+        controllers-out : list_all (log_is_out plant scans (joint_of run))
             (logged plant (joint_of run)) ≡ true
-        controllers-out =
-            sym (zip-list-all (StandsController plant scans run.ring.history)
-            (log_is_out plant scans run.ring.history)
-            (λ (s : ControllerStation).
-            is_out_of_ring (is_off s.controller) (status_in run.ring s.node)) log_of
-            plant.controllers run.controllers.items all.controllers out-as)
-            ∙ all-true (λ (s : ControllerStation).
-            is_out_of_ring (is_off s.controller) (status_in run.ring s.node)) run.controllers.items
-            (λ k s is.
-            let its = zip-at (StandsController plant scans run.ring.history) plant.controllers
-            run.controllers.items k s all.controllers is in
-            left-out (is_off s.controller) (status_in run.ring s.node)
-            ((λ i. has_left (status_at (all.net i) run.ring.history (its.2.node i)))
-            ∙ (sym its.2.left ∙ controller-left run none k s is))
-            (all-at (IsOffAway run.ring) run.controllers.items k s off is))
+        controllers-out = all-true (log_is_out plant scans (joint_of run))
+            (logged plant (joint_of run)) (λ k of is.
+            let spot = zip-parts plant.controllers (map log_of run.controllers.items) k of is in
+            let found = map-there log_of run.controllers.items k of.1 spot.1 in
+            let s = found.0 in
+            let p = at-place plant scans run k s all found.1 in
+            let plan_is : p.plan ≡ of.0 =
+            (let both : Some p.plan ≡ Some of.0 = sym p.plan_is ∙ spot.0 in cc) in
+            let out' : log_is_out plant scans (joint_of run) (p.plan, log_of s) ≡ true =
+            sym (out-as k s found.1)
+            ∙ left-out (is_off s.controller) (status_in (ring_in run s.network) s.node)
+            ((λ i. has_left (status_at (p.ring.net_is i) (ring_in run s.network).history
+            (p.stands.node i)))
+            ∙ (sym p.stands.left ∙ controller-left run none k s found.1))
+            (all-at (λ (x : ControllerStation). IsOffAway (ring_in run x.network) x)
+            run.controllers.items k s off found.1) in
+            (λ i. log_is_out plant scans (joint_of run) (sym plan_is i, sym found.2 i)) ∙ out')
 
-        hosts-out : list_all (host_is_out plant run.ring.history) plant.hosts ≡ true
-        hosts-out = all-true (host_is_out plant run.ring.history) plant.hosts (λ k plan is.
-            let its = zip-at-first (StandsHost plant run.ring.history) plant.hosts
+        hosts-out : list_all (host_is_out plant (joint_of run)) plant.hosts ≡ true
+        hosts-out = all-true (host_is_out plant (joint_of run)) plant.hosts (λ k plan is.
+            let its = zip-at-first (HostStandsOn plant run.rings.items) plant.hosts
             run.hosts.items k plan
             all.hosts is in
             let left = host-left run none k its.0 its.1 in
-            ap (is_out_of_ring false) ((its.2.keeps.gone left).gone))
+            ap (λ (l : List RingEntry). is_out_of_ring false
+            (status_at (net_of plant plan.node) l plan.node))
+            (noted-is run.rings.items plan.network)
+            ∙ ap (is_out_of_ring false) ((its.2.keeps.gone left).gone))
+
+        bridges-out : list_all (bridge_is_out plant (joint_of run)) plant.bridges ≡ true
+        bridges-out = all-true (bridge_is_out plant (joint_of run)) plant.bridges (λ k plan is.
+            let its = zip-at-first (StandsSite plant run.rings.items) plant.bridges
+            run.bridges.items k plan all.bridges is in
+            let p = site-at-place plant scans run k its.0 all its.1 in
+            let plan_is : p.plan ≡ plan =
+            (let both : Some p.plan ≡ Some plan = sym p.plan_is ∙ is in cc) in
+            ap (bridge_is_out plant (joint_of run)) (sym plan_is)
+            ∙ (site-out-as k its.0 its.1 ∙ site-left run none k its.0 its.1))
 
 -- some rounds
 pub record SomeLate (old new : Stations) : Type 0 where

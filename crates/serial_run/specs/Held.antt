@@ -1,19 +1,20 @@
 -- What a station's own turn did to it and to the ring. This project's own.
-use Rattle.std.specs.Prelude.{◌≡◌, ◌≢◌, ℕ, ◌+◌, ◌-◌, ◌*◌, ◌<◌, ◌≤◌, ◌&&◌, Bool, true, false, not}
-use Rattle.std.specs.Prelude.{List, ◌++◌, if◌then◌else◌, nat_lt}
-use Rattle.std.specs.List.{All, AllZip, sum_by, count_by}
+use Rattle.std.specs.Prelude.{◌≡◌, ◌≢◌, ℕ, ◌+◌, ◌-◌, ◌*◌, ◌<◌, ◌≤◌, ◌==◌, ◌&&◌, Bool, true, false}
+use Rattle.std.specs.Prelude.{not, List, ◌++◌, if◌then◌else◌, nat_lt, Option, Some, None, replicate}
+use Rattle.std.specs.List.{All, AllZip, sum_by, count_by, position, slice_get}
 use Rattle.plant_types.specs.declared.net.NetPlan.{NetPlan}
 use Rattle.ring_core.specs.declared.entry.RingEntry.{RingEntry}
 use Rattle.ring_core.specs.declared.status.NodeStatus.{NodeStatus}
 use Rattle.ring_core.specs.declared.status.NodeStatus.TheVariants.{In, Away, Asking, Gone}
-use Rattle.ring_core.specs.Kept.{KeptRing}
+use Rattle.ring_core.specs.Kept.{KeptRing, ring_of}
 use Rattle.ring_core.specs.Legal.{IsLegalRing}
-use Rattle.ring_core.specs.Machine.{is_in}
+use Rattle.ring_core.specs.Machine.{is_held, is_in}
 use Rattle.controller_core.specs.Controller.{IsLegal, has_started, is_off, state_of}
 use Rattle.tied_lists.specs.Items.{latest_down}
 use Rattle.tied_lists.specs.Own.{own}
 use Rattle.tied_lists.specs.Waits.{Holds, status_at}
 use Rattle.joint_history.specs.Complete.{is_pass}
+use Rattle.bridge_station.specs.Station.{end_has_left}
 use Rattle.comm_port.specs.declared.turn_end.TurnEnd.{TurnEnd}
 use Rattle.comm_port.specs.HoldTurn.{VisitsEnd}
 use Rattle.comm_port.specs.WholeTurn.{HoldsTurn}
@@ -22,11 +23,15 @@ use Rattle.comm_port.specs.Worker.{IsMemberWorker, IsSameWorker, Standing}
 use Rattle.comm_port.specs.HostStands.{own_side}
 use Rattle.turn_laws.specs.KeepsOn.{HostKeepsOn, KeepsOn, leaves_out}
 use Rattle.turn_laws.specs.Laws.{EndsWhere}
+use Rattle.serial_run.specs.declared.order.Turn.TheVariants.{Hold}
+use Rattle.serial_run.specs.declared.stations.BridgeSite.{BridgeSite}
 use Rattle.serial_run.specs.declared.stations.ControllerStation.{ControllerStation}
 use Rattle.serial_run.specs.declared.stations.HostStation.{HostStation}
+use Rattle.serial_run.specs.declared.stations.RingStation.{RingStation}
 use Rattle.serial_run.specs.declared.stations.Stations.{Stations}
-use Rattle.serial_run.specs.Turns.{coming_back, may_visit, node_has_left}
-use Rattle.serial_run.specs.Stations.{plain_ram_side}
+use Rattle.serial_run.specs.Turns.{coming_back, may_visit, node_has_left, MakesTurn, MakesTurns}
+use Rattle.serial_run.specs.Scans.{KeepScans}
+use Rattle.serial_run.specs.Stations.{Did, plain_ram_side, ring_in, ring_on, station_on}
 
 -- A controller's station beside the ring alone.
 abbrev pub StandsBeside : ControllerStation → KeptRing → Type 0
@@ -90,29 +95,33 @@ is_visit_due ring station =
 abbrev pub IsVisited : KeptRing → ControllerStation → Type 0
 IsVisited ring station = is_visit_due ring station ≡ false
 
--- All stations have something.
+-- All stations have something, each with the ring of its network.
 abbrev pub AllHave : (KeptRing → ControllerStation → Type 0) → Stations → Type 0
-AllHave Has run = All (Has run.ring) run.controllers.items
+AllHave Has run =
+    All (λ (station : ControllerStation). Has (ring_in run station.network) station)
+    run.controllers.items
 
 -- Stations that had it still have.
 abbrev pub Stay : (KeptRing → ControllerStation → Type 0) → Stations → Stations → Type 0
 Stay Has old new = AllZip
-    (λ (a b : ControllerStation). Has old.ring a → Has new.ring b)
+    (λ (a b : ControllerStation). Has (ring_in old a.network) a → Has (ring_in new b.network) b)
     old.controllers.items new.controllers.items
 
 -- The station of a node has it, and the others that had still have.
-pub record Gains (Has : KeptRing → ControllerStation → Type 0) (node : ℕ) (ring new_ring : KeptRing)
-    (old new : ControllerStation) : Type 0 where
-  pub stays : Has ring old → Has new_ring new
-  pub gains : old.node ≡ node → Has new_ring new
+pub record Gains (Has : KeptRing → ControllerStation → Type 0) (node : ℕ)
+    (rings new_rings : List RingStation) (old new : ControllerStation) : Type 0 where
+  pub stays : Has (ring_on rings old.network) old → Has (ring_on new_rings new.network) new
+  pub gains : old.node ≡ node → Has (ring_on new_rings new.network) new
 
 abbrev pub GainFor : (KeptRing → ControllerStation → Type 0) → ℕ → Stations → Stations → Type 0
 GainFor Has node old new =
-    AllZip (Gains Has node old.ring new.ring) old.controllers.items new.controllers.items
+    AllZip (Gains Has node old.rings.items new.rings.items) old.controllers.items
+    new.controllers.items
 
 -- What no turn changes of a controller's station, and that its lists are legal.
 pub record StaysStation (old new : ControllerStation) (ring new_ring : KeptRing) : Type 0 where
   pub node : new.node ≡ old.node
+  pub network : new.network ≡ old.network
   pub worker : IsSameWorker old.worker new.worker
   pub fixed : new.controller.fixed ≡ old.controller.fixed
   pub legal : IsLegal new.controller.fixed new.controller.history
@@ -136,6 +145,7 @@ pub record HeldController (old new : ControllerStation) (ring new_ring : KeptRin
 -- A host's station made its hold turn.
 pub record HeldHost (old new : HostStation) (ring new_ring : KeptRing) : Type 0 where
   pub node : new.node ≡ old.node
+  pub network : new.network ≡ old.network
   pub worker_node : new.worker.node ≡ old.worker.node
   pub budget : new.worker.budget ≡ old.worker.budget
   pub plan : new.host.plan ≡ old.host.plan
@@ -194,29 +204,92 @@ turns_of net ring node failures left =
 abbrev pub failures_of : ControllerStation → ℕ
 failures_of station = (state_of station.controller).failures
 
+-- Those that the node of a station has, on the ring of its network.
+abbrev pub turns_in : KeptRing → ℕ → ℕ → Bool → ℕ
+turns_in ring node failures left = turns_of ring.net ring.history node failures left
+
+abbrev pub station_turns : List RingStation → ControllerStation → ℕ
+station_turns rings station =
+    turns_in (ring_on rings station.network) station.node (failures_of station) station.left
+
+abbrev pub host_turns : List RingStation → HostStation → ℕ
+host_turns rings station =
+    turns_in (ring_on rings station.network) station.node 0 station.left
+
+-- Those that the two ends of a bridge have.
+abbrev pub end_turns : List RingStation → BridgeSite → ℕ → ℕ → ℕ
+end_turns rings site network side =
+    turns_in (ring_on rings network) side 0 (end_has_left side site.station)
+
+abbrev pub site_turns : List RingStation → BridgeSite → ℕ
+site_turns rings site =
+    end_turns rings site site.plan.left_net site.plan.left
+    + end_turns rings site site.plan.right_net site.plan.right
+
 -- A bound of the hold turns that all nodes have before them.
 abbrev pub turns_left : Stations → ℕ
 turns_left run =
-    sum_by (λ (station : ControllerStation).
-    turns_of run.ring.net run.ring.history station.node (failures_of station) station.left)
-    run.controllers.items
-    + sum_by (λ (station : HostStation).
-    turns_of run.ring.net run.ring.history station.node 0 station.left) run.hosts.items
+    sum_by (station_turns run.rings.items) run.controllers.items
+    + sum_by (host_turns run.rings.items) run.hosts.items
+    + sum_by (site_turns run.rings.items) run.bridges.items
 
--- How many stations' nodes are members now.
-abbrev pub members_in : Stations → ℕ
-members_in run =
-    count_by (λ (station : ControllerStation). is_in_ring run.ring station.node)
-    run.controllers.items
-    + count_by (λ (station : HostStation). is_in_ring run.ring station.node) run.hosts.items
+-- How many nodes of a network are members of its ring now.
+abbrev pub members_now : RingStation → ℕ
+members_now station = count_by (λ node. is_in_ring station.ring node) station.members
 
--- How many stations have not left, or ask to come in again.
+-- So many has a network, if it has a ring.
+abbrev pub members_if : Option RingStation → ℕ
+members_if None = 0
+members_if (Some station) = members_now station
+
+abbrev pub members_in : Stations → ℕ → ℕ
+members_in run network = members_if (station_on run.rings.items network)
+
+-- Both ends of a bridge have left.
+abbrev pub site_has_left : BridgeSite → Bool
+site_has_left site =
+    end_has_left site.plan.left site.station && end_has_left site.plan.right site.station
+
+-- How many stations and bridges have a node that has not left, or asks to come in again.
 abbrev pub stations_here : Stations → ℕ
 stations_here run =
     count_by (λ (station : ControllerStation). not station.left) run.controllers.items
     + count_by (λ (station : HostStation). not station.left) run.hosts.items
+    + count_by (λ (site : BridgeSite). not (site_has_left site)) run.bridges.items
 
--- A hold turn leaves fewer hold turns to be made, where there is a station to make it.
+-- A round leaves fewer hold turns to be made, where there is a node to make one.
 pub record Lessens (old new : Stations) : Type 0 where
   pub no_more : turns_left new ≤ turns_left old
   pub less : stations_here old ≢ 0 → turns_left new < turns_left old
+
+-- Some member holds the token of a network.
+abbrev pub IsHeld : Stations → ℕ → Type 0
+IsHeld run network = is_held (ring_of (ring_in run network)) ≡ true
+
+-- The node that holds the token of a network made its hold turn, if there is one: that leaves fewer
+-- hold turns to be made, and as many scans; other networks have as many members as before.
+pub record HeldOn (network : ℕ) (old new : Stations) : Type 0 where
+  pub did : Did (λ plant scans. MakesTurn plant scans (Hold network)) old new
+  pub scans : KeepScans old new
+  pub no_more : turns_left new ≤ turns_left old
+  pub less : IsHeld old network → turns_left new < turns_left old
+  pub off : Stay IsOffAway old new
+  pub others : (other : ℕ) → other ≢ network → members_in new other ≡ members_in old other
+
+-- A round of one network was made: that leaves fewer hold turns to be made, where its ring has a
+-- member.
+pub record RoundOn (network : ℕ) (old new : Stations) : Type 0 where
+  pub did : Did (λ plant scans. MakesTurns plant scans
+      (replicate (members_in old network) (Hold network))) old new
+  pub scans : KeepScans old new
+  pub no_more : turns_left new ≤ turns_left old
+  pub less : members_in old network ≢ 0 → turns_left new < turns_left old
+  pub off : Stay IsOffAway old new
+  pub others : (other : ℕ) → other ≢ network → members_in new other ≡ members_in old other
+
+-- The ring of the network of the controller's station at a place stands at this place.
+abbrev pub IsRingPlace : Stations → ℕ → ℕ → Type 0
+IsRingPlace run at place = (station : ControllerStation)
+    → slice_get run.controllers.items at ≡ Some station
+    → position (λ (ring : RingStation). ring.network == station.network) run.rings.items
+    ≡ Some place

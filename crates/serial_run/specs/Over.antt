@@ -1,7 +1,7 @@
 -- What a serial run that is over hands over. This project's own.
 use Rattle.std.specs.Prelude.{◌≡◌, ℕ}
 use Rattle.plant_types.specs.declared.plan.Plant.{Plant}
-use Rattle.effect_laws.specs.Effects.{EffectsAreRight}
+use Rattle.route_laws.specs.Effects.{EffectsAreRight}
 use Rattle.entry_causes.specs.Joint.{IsInOneOrder}
 use Rattle.joint_history.specs.declared.noted.Noted.{Noted}
 use Rattle.summary_text.specs.Coils.{coils_at_end}
@@ -27,7 +27,7 @@ pub record IsNotedRun (plant : Plant) (scans : ℕ) (noted : Noted) : Type 0 whe
   pub legal : IsLegalJoint plant scans noted.joint
   pub joint : IsJoint noted.joint
   pub effects : EffectsAreRight noted.joint
-  pub in_time : IsInOneOrder noted.joint
+  pub in_time : IsInOneOrder plant noted.joint
   pub complete : IsComplete plant scans noted.joint
   pub notes : IsNoted plant noted
 

@@ -2,23 +2,25 @@
 use Rattle.std.specs.Prelude.{◌≡◌, ℕ, Bool, true, false, ◌&&◌, List, [], ◌∷◌, length, map}
 use Rattle.std.specs.Prelude.{replicate}
 use Rattle.std.specs.List.{count_by, list_all}
+use Rattle.plant_types.specs.declared.net.BridgePlan.{BridgePlan}
 use Rattle.plant_types.specs.declared.net.HostPlan.{HostPlan}
+use Rattle.plant_types.specs.declared.net.NetPlan.{NetPlan}
 use Rattle.plant_types.specs.declared.plan.ControllerPlan.{ControllerPlan}
 use Rattle.plant_types.specs.declared.plan.Plant.{Plant}
-use Rattle.plant_types.specs.Plans.{first_net}
+use Rattle.plant_types.specs.Plans.{first_net, net_of}
 use Rattle.ring_core.specs.declared.entry.RingEntry.{RingEntry}
 use Rattle.joint_history.specs.declared.joint.ControllerLog.{ControllerLog}
 use Rattle.joint_history.specs.declared.joint.Joint.{Joint}
 use Rattle.joint_history.specs.JointLaws.{fixed_of, logged}
-use Rattle.joint_history.specs.Nets.{net_of, noted_on_rings}
+use Rattle.joint_history.specs.Nets.{noted_on}
 use Rattle.joint_history.specs.Reading.{controller_at, has_ended_at, is_off_at}
 use Rattle.whole_scan.specs.Scans.{with_scan}
 use Rattle.ring_core.specs.Machine.{is_in}
 use Rattle.tied_lists.specs.Waits.{status_at}
 use Rattle.turn_laws.specs.KeepsOn.{is_out_of_ring}
 use Rattle.serial_run.specs.declared.order.Turn.{Turn}
-use Rattle.serial_run.specs.declared.order.Turn.TheVariants.{Visit, Away}
-use Rattle.serial_run.specs.Turns.{first_hold, nothing_made, MakesTurns}
+use Rattle.serial_run.specs.declared.order.Turn.TheVariants.{Hold, Visit, Away}
+use Rattle.serial_run.specs.Turns.{nothing_made, MakesTurns}
 
 -- A controller's list behind its next whole scan, or behind the part of it up to a stop.
 abbrev pub log_with_scan : Plant → ℕ → ControllerPlan × ControllerLog → ControllerLog
@@ -39,25 +41,40 @@ log_has_ended plant scans of = has_ended_at (fixed_of plant scans of.0) of.1.ent
 abbrev pub all_have_ended : Plant → ℕ → Joint → Bool
 all_have_ended plant scans joint = list_all (log_has_ended plant scans) (logged plant joint)
 
--- How many members are in the ring behind these entries.
-abbrev pub members_on : Plant → List RingEntry → ℕ
-members_on plant ring =
-    count_by (λ node. is_in (status_at (first_net plant) ring node)) (first_net plant).members
+-- How many members of a network are in its ring behind these entries.
+abbrev pub members_on : NetPlan → List RingEntry → ℕ
+members_on net ring = count_by (λ node. is_in (status_at net ring node)) net.members
+
+-- A node is gone from the ring of its network; or it is away, and this keeps it away.
+abbrev pub node_is_out : Plant → Joint → Bool → ℕ → ℕ → Bool
+node_is_out plant joint stays network node =
+    is_out_of_ring stays (status_at (net_of plant node) (noted_on network joint) node)
 
 -- Each node is gone; or it is away, and its controller has no power.
-abbrev pub log_is_out : Plant → ℕ → List RingEntry → ControllerPlan × ControllerLog → Bool
-log_is_out plant scans ring of =
-    is_out_of_ring (is_off_at (fixed_of plant scans of.0) of.1.entries)
-    (status_at (net_of plant of.0.node) ring of.0.node)
+abbrev pub log_is_out : Plant → ℕ → Joint → ControllerPlan × ControllerLog → Bool
+log_is_out plant scans joint of =
+    node_is_out plant joint (is_off_at (fixed_of plant scans of.0) of.1.entries) of.0.network
+    of.0.node
 
-abbrev pub host_is_out : Plant → List RingEntry → HostPlan → Bool
-host_is_out plant ring plan =
-    is_out_of_ring false (status_at (net_of plant plan.node) ring plan.node)
+abbrev pub host_is_out : Plant → Joint → HostPlan → Bool
+host_is_out plant joint plan = node_is_out plant joint false plan.network plan.node
+
+abbrev pub bridge_is_out : Plant → Joint → BridgePlan → Bool
+bridge_is_out plant joint plan =
+    node_is_out plant joint false plan.left_net plan.left
+    && node_is_out plant joint false plan.right_net plan.right
+
+abbrev pub stations_are_out : Plant → ℕ → Joint → Bool
+stations_are_out plant scans joint =
+    list_all (log_is_out plant scans joint) (logged plant joint)
+    && list_all (host_is_out plant joint) plant.hosts
+
+abbrev pub bridges_are_out : Plant → Joint → Bool
+bridges_are_out plant joint = list_all (bridge_is_out plant joint) plant.bridges
 
 abbrev pub all_are_out : Plant → ℕ → Joint → Bool
 all_are_out plant scans joint =
-    list_all (log_is_out plant scans (noted_on_rings joint)) (logged plant joint)
-    && list_all (host_is_out plant (noted_on_rings joint)) plant.hosts
+    stations_are_out plant scans joint && bridges_are_out plant joint
 
 -- The away turns of all controllers, in rising address; those that are not away, or have no power,
 -- do nothing.
@@ -68,11 +85,22 @@ away_turns_of plant = map (λ plan. Away plan.node) plant.controllers
 abbrev pub visits_of : Plant → List Turn
 visits_of plant = map (λ plan. Visit plan.node) plant.controllers
 
--- A round: as many hold turns as there are members at its beginning.
+-- A round of a network: as many hold turns as its ring has members at its beginning.
+abbrev pub MakesRoundOn : Plant → ℕ → NetPlan → Joint → Joint → Type 0
+MakesRoundOn plant scans net old new =
+    MakesTurns plant scans
+    (replicate (members_on net (noted_on net.number old)) (Hold net.number)) old new
+
+-- Rounds of these networks, one after another.
+abbrev pub MakesRoundOfEach : Plant → ℕ → List NetPlan → Joint → Joint → Type 0
+MakesRoundOfEach plant scans [] old new = new ≡ old
+MakesRoundOfEach plant scans (net ∷ nets) old new =
+    (next : Joint) × MakesRoundOn plant scans net old next
+    × MakesRoundOfEach plant scans nets next new
+
+-- A round: one of each network, in rising number.
 abbrev pub MakesRound : Plant → ℕ → Joint → Joint → Type 0
-MakesRound plant scans old new =
-    MakesTurns plant scans (replicate (members_on plant (noted_on_rings old)) (first_hold plant))
-    old new
+MakesRound plant scans old new = MakesRoundOfEach plant scans plant.nets old new
 
 -- By way of these joint histories, each of which came of the one before, to the last.
 abbrev pub IsChain : (Joint → Joint → Type 0) → Joint → List Joint → Joint → Type 0
@@ -86,7 +114,7 @@ pub record MakesRounds (plant : Plant) (scans count : ℕ) (old new : Joint) : T
   pub rounds : IsChain (MakesRound plant scans) old behind_each new
 
 -- A repetition, as long as scans are left to a controller: the scans, the away turns, the visits,
--- and the rounds.
+-- and as many rounds as the first network has rotations.
 pub record IsRepetition (plant : Plant) (scans : ℕ) (old new : Joint) : Type 0 where
   pub goes_on : all_have_ended plant scans old ≡ false
   pub came_back : Joint
@@ -95,7 +123,7 @@ pub record IsRepetition (plant : Plant) (scans : ℕ) (old new : Joint) : Type 0
   pub visits : MakesTurns plant scans (visits_of plant) came_back visited
   pub rounds : MakesRounds plant scans (first_net plant).rotations visited new
 
--- A round behind the repetitions, as long as a node is not out of the ring.
+-- A round behind the repetitions, as long as a node is not out of its ring.
 pub record IsLateRound (plant : Plant) (scans : ℕ) (old new : Joint) : Type 0 where
   pub goes_on : all_are_out plant scans old ≡ false
   pub round : MakesRound plant scans old new
@@ -106,7 +134,7 @@ pub record Repeats (plant : Plant) (scans : ℕ) (old new : Joint) : Type 0 wher
   pub repetitions : IsChain (IsRepetition plant scans) old behind_each new
   pub ended : all_have_ended plant scans new ≡ true
 
--- Rounds until every node is out of the ring.
+-- Rounds until every node is out of its ring.
 pub record MakesLateRounds (plant : Plant) (scans : ℕ) (old new : Joint) : Type 0 where
   pub behind_each : List Joint
   pub rounds : IsChain (IsLateRound plant scans) old behind_each new

@@ -1,17 +1,19 @@
 -- How a turn of a station changes a joint history. This project's own.
-use Rattle.std.specs.Prelude.{◌≡◌, ℕ, ◌==◌, Bool, true, false, ◌&&◌, not, List, [], ◌∷◌, ◌++◌}
-use Rattle.std.specs.Prelude.{Option, Some, None, map, set}
+use Rattle.std.specs.Prelude.{◌≡◌, ℕ, ◌==◌, Bool, true, false, ◌&&◌, ◌||◌, not, List, [], ◌∷◌}
+use Rattle.std.specs.Prelude.{◌++◌, if◌then◌else◌, Option, Some, None, map, set}
 use Rattle.std.specs.List.{find, position, slice_get}
 use Rattle.plant_types.specs.declared.net.NetPlan.{NetPlan}
 use Rattle.plant_types.specs.declared.net.HostPlan.{HostPlan}
 use Rattle.plant_types.specs.declared.net.BridgePlan.{BridgePlan}
 use Rattle.plant_types.specs.declared.plan.ControllerPlan.{ControllerPlan}
 use Rattle.plant_types.specs.declared.plan.Plant.{Plant}
-use Rattle.plant_types.specs.Plans.{first_net}
+use Rattle.plant_types.specs.Plans.{net_of}
 use Rattle.ring_core.specs.Machine.{ring_after}
 use Rattle.ring_core.specs.declared.status.NodeStatus.{NodeStatus}
 use Rattle.ring_core.specs.declared.status.NodeStatus.TheVariants as statuses
 use Rattle.ring_core.specs.declared.entry.RingEntry.{RingEntry}
+use Rattle.bridge_relay.specs.declared.entry.BridgeEntry.{BridgeEntry}
+use Rattle.bridge_port.specs.EndParts.{HoldsEndTurn}
 use Rattle.controller_core.specs.declared.fixed.Fixed.{Fixed}
 use Rattle.controller_core.specs.declared.entry.Entry.{Entry}
 use Rattle.controller_core.specs.Controller.{stepped}
@@ -22,7 +24,7 @@ use Rattle.joint_history.specs.declared.joint.BridgeLog.{BridgeLog}
 use Rattle.joint_history.specs.declared.joint.RingLog.{RingLog}
 use Rattle.joint_history.specs.declared.joint.Joint.{Joint}
 use Rattle.joint_history.specs.JointLaws.{fixed_of}
-use Rattle.joint_history.specs.Nets.{net_of, noted_on_rings}
+use Rattle.joint_history.specs.Nets.{noted_on}
 use Rattle.joint_history.specs.Reading.{controller_at, has_ended_at, has_started_at, is_off_at}
 use Rattle.tied_lists.specs.Waits.{has_left, status_at}
 use Rattle.comm_port.specs.declared.turn_end.TurnEnd.{TurnEnd}
@@ -56,12 +58,21 @@ nothing_made plant = record {
   rings = map empty_ring_log plant.nets;
 }
 
--- The place of the controller of a node in its plant, and that of a host.
+-- A node is one of the two ends of a bridge.
+abbrev pub is_end_of : ℕ → BridgePlan → Bool
+is_end_of node bridge = (bridge.left == node) || (bridge.right == node)
+
+-- The place of the controller of a node in its plant, that of a host, and that of the bridge of
+-- which
+-- it is an end.
 abbrev pub place_of_controller : Plant → ℕ → Option ℕ
 place_of_controller plant node = position (λ plan. plan.node == node) plant.controllers
 
 abbrev pub place_of_host : Plant → ℕ → Option ℕ
 place_of_host plant node = position (λ plan. plan.node == node) plant.hosts
+
+abbrev pub place_of_bridge : Plant → ℕ → Option ℕ
+place_of_bridge plant node = position (is_end_of node) plant.bridges
 
 -- The controller at a place has this plan and this list.
 pub record IsControllerAt (plant : Plant) (joint : Joint) (at : ℕ) (plan : ControllerPlan)
@@ -75,7 +86,13 @@ pub record IsHostAt (plant : Plant) (joint : Joint) (at : ℕ) (plan : HostPlan)
   pub plan_is : slice_get plant.hosts at ≡ Some plan
   pub log_is : slice_get joint.hosts at ≡ Some log
 
--- A joint history with another list of the controller at a place, or of the host.
+-- The bridge at a place has this plan and this list.
+pub record IsBridgeAt (plant : Plant) (joint : Joint) (at : ℕ) (plan : BridgePlan)
+    (log : BridgeLog) : Type 0 where
+  pub plan_is : slice_get plant.bridges at ≡ Some plan
+  pub log_is : slice_get joint.bridges at ≡ Some log
+
+-- A joint history with another list of the controller at a place, of the host, or of the bridge.
 abbrev pub with_list : ℕ → ControllerLog → List Entry → Joint → Joint
 with_list at log entries joint = record joint {
   controllers = set joint.controllers at (record { node = log.node; entries = entries });
@@ -86,10 +103,22 @@ with_host_list at log entries joint = record joint {
   hosts = set joint.hosts at (record { node = log.node; entries = entries });
 }
 
--- A joint history with another list of the ring of a network: as yet a plant has one.
-abbrev pub with_noted : NetPlan → List RingEntry → Joint → Joint
-with_noted net ring joint =
-    record joint { rings = record { network = net.number; entries = ring } ∷ [] }
+abbrev pub with_bridge_list : ℕ → BridgeLog → List BridgeEntry → Joint → Joint
+with_bridge_list at log entries joint = record joint {
+  bridges = set joint.bridges at
+      (record { left = log.left; right = log.right; entries = entries });
+}
+
+-- A joint history with another list of the ring of a network.
+abbrev pub with_entries : ℕ → List RingEntry → RingLog → RingLog
+with_entries network ring log = record {
+  network = log.network;
+  entries = if log.network == network then ring else log.entries;
+}
+
+abbrev pub with_ring : ℕ → List RingEntry → Joint → Joint
+with_ring network ring joint =
+    record joint { rings = map (with_entries network ring) joint.rings }
 
 -- A controller's list behind its due step; the same list where it has ended or stopped.
 abbrev pub stepped_list : Fixed → List Entry → List Entry
@@ -107,7 +136,7 @@ abbrev pub MakesStep : Plant → ℕ → Option ℕ → Joint → Joint → Type
 MakesStep plant scans None old new = new ≡ old
 MakesStep plant scans (Some at) old new = StepsAt plant scans at old new
 
--- The controller at a place makes its hold turn: its own list and the ring's go on.
+-- The controller at a place makes its hold turn: its own list and that of its ring go on.
 pub record MakesHoldTurnAt (plant : Plant) (scans at : ℕ) (old new : Joint) : Type 0 where
   pub plan : ControllerPlan
   pub log : ControllerLog
@@ -116,10 +145,10 @@ pub record MakesHoldTurnAt (plant : Plant) (scans at : ℕ) (old new : Joint) : 
   pub ring : List RingEntry
   pub end : TurnEnd
   pub turn : HoldsTurn true true (fixed_of plant scans plan) (net_of plant plan.node) plan.node true
-      log.entries entries (noted_on_rings old) ring end
-  pub made : new ≡ with_noted (net_of plant plan.node) ring (with_list at log entries old)
+      log.entries entries (noted_on plan.network old) ring end
+  pub made : new ≡ with_ring plan.network ring (with_list at log entries old)
 
--- The host at a place makes its hold turn: its own list and the ring's go on.
+-- The host at a place makes its hold turn: its own list and that of its ring go on.
 pub record HostHoldsAt (plant : Plant) (at : ℕ) (old new : Joint) : Type 0 where
   pub plan : HostPlan
   pub log : HostLog
@@ -128,30 +157,51 @@ pub record HostHoldsAt (plant : Plant) (at : ℕ) (old new : Joint) : Type 0 whe
   pub ring : List RingEntry
   pub left : Bool
   pub turn : HoldsHostTurn true (net_of plant plan.node) plan.node plan true log.entries entries
-      (noted_on_rings old) ring left
-  pub made : new ≡ with_noted (net_of plant plan.node) ring (with_host_list at log entries old)
+      (noted_on plan.network old) ring left
+  pub made : new ≡ with_ring plan.network ring (with_host_list at log entries old)
 
--- The station of the node that holds a token makes its hold turn; nothing where no node holds it.
-abbrev pub MakesHold : Plant → ℕ → Option ℕ → Option ℕ → Joint → Joint → Type 0
-MakesHold plant scans (Some at) host old new = MakesHoldTurnAt plant scans at old new
-MakesHold plant scans None (Some at) old new = HostHoldsAt plant at old new
-MakesHold plant scans None None old new = new ≡ old
+-- The bridge at a place makes the hold turn of one of its ends on the ring of a network: its own
+-- list
+-- and that of the ring go on.
+pub record EndHoldsAt (plant : Plant) (net : NetPlan) (side at : ℕ) (old new : Joint)
+    : Type 0 where
+  pub plan : BridgePlan
+  pub log : BridgeLog
+  pub is : IsBridgeAt plant old at plan log
+  pub entries : List BridgeEntry
+  pub ring : List RingEntry
+  pub left : Bool
+  pub turn : HoldsEndTurn true true plan net side true log.entries entries
+      (noted_on net.number old) ring left
+  pub made : new ≡ with_ring net.number ring (with_bridge_list at log entries old)
 
--- The hold turn on the first network of a plant.
-abbrev pub first_hold : Plant → Turn
-first_hold plant = Hold (first_net plant).number
+-- Who holds the token of a network.
+abbrev pub holder_on : NetPlan → Joint → ℕ
+holder_on net joint = (ring_after net (noted_on net.number joint)).holder
+
+-- The station or the bridge of the node that holds a token makes its hold turn; nothing where no
+-- node
+-- holds it.
+abbrev pub MakesHold : Plant → ℕ → NetPlan → Option ℕ → Option ℕ → Option ℕ → Joint → Joint
+    → Type 0
+MakesHold plant scans net (Some at) host bridge old new = MakesHoldTurnAt plant scans at old new
+MakesHold plant scans net None (Some at) bridge old new = HostHoldsAt plant at old new
+MakesHold plant scans net None None (Some at) old new =
+    EndHoldsAt plant net (holder_on net old) at old new
+MakesHold plant scans net None None None old new = new ≡ old
 
 -- The network of a number.
 abbrev pub net_numbered : Plant → ℕ → Option NetPlan
 net_numbered plant network = find (λ net. net.number == network) plant.nets
 
--- Hold: the station of the node that holds the token of a network makes its hold turn; nothing
--- where there is no such network, or no node holds its token.
+-- Hold: the station or the bridge of the node that holds the token of a network makes its hold
+-- turn;
+-- nothing where there is no such network, or no node holds its token.
 abbrev pub MakesHoldOn : Plant → ℕ → Option NetPlan → Joint → Joint → Type 0
 MakesHoldOn plant scans None old new = new ≡ old
 MakesHoldOn plant scans (Some net) old new =
-    let holder = (ring_after net (noted_on_rings old)).holder in
-    MakesHold plant scans (place_of_controller plant holder) (place_of_host plant holder) old new
+    MakesHold plant scans net (place_of_controller plant (holder_on net old))
+    (place_of_host plant (holder_on net old)) (place_of_bridge plant (holder_on net old)) old new
 
 -- A node has left the ring, and does not ask to come in.
 abbrev pub node_has_left : NetPlan → List RingEntry → ℕ → Bool
@@ -170,14 +220,14 @@ visit_is_due plant scans plan entries ring =
     (status_at (net_of plant plan.node) ring plan.node)
     && has_started_at (fixed_of plant scans plan) entries
 
--- The controller at a place makes its visit: its own list and the ring's go on.
+-- The controller at a place makes its visit: its own list and that of its ring go on.
 pub record VisitsAt (plant : Plant) (scans at : ℕ) (plan : ControllerPlan) (log : ControllerLog)
     (old new : Joint) : Type 0 where
   pub entries : List Entry
   pub ring : List RingEntry
   pub visit : VisitsEnd true true (fixed_of plant scans plan) (net_of plant plan.node) plan.node
-      log.entries entries (noted_on_rings old) ring
-  pub made : new ≡ with_noted (net_of plant plan.node) ring (with_list at log entries old)
+      log.entries entries (noted_on plan.network old) ring
+  pub made : new ≡ with_ring plan.network ring (with_list at log entries old)
 
 -- The controller at a place makes its visit where that is due, and else nothing.
 abbrev pub VisitsWhere : Bool → Plant → ℕ → ℕ → ControllerPlan → ControllerLog → Joint → Joint
@@ -189,7 +239,8 @@ pub record VisitsIfDue (plant : Plant) (scans at : ℕ) (old new : Joint) : Type
   pub plan : ControllerPlan
   pub log : ControllerLog
   pub is : IsControllerAt plant old at plan log
-  pub visits : VisitsWhere (visit_is_due plant scans plan log.entries (noted_on_rings old)) plant
+  pub visits : VisitsWhere (visit_is_due plant scans plan log.entries (noted_on plan.network old))
+      plant
       scans at plan log old new
 
 -- Visit: nothing where no controller has the node.
@@ -209,9 +260,9 @@ pub record ComesBackAt (plant : Plant) (scans at : ℕ) (old new : Joint) : Type
   pub plan : ControllerPlan
   pub log : ControllerLog
   pub is : IsControllerAt plant old at plan log
-  pub made : new ≡ with_noted (net_of plant plan.node)
-      (noted_on_rings old
-      ++ coming_back (status_at (net_of plant plan.node) (noted_on_rings old) plan.node)
+  pub made : new ≡ with_ring plan.network
+      (noted_on plan.network old
+      ++ coming_back (status_at (net_of plant plan.node) (noted_on plan.network old) plan.node)
       (is_off_at (fixed_of plant scans plan) log.entries) plan.node) old
 
 -- Away: nothing where no controller has the node.

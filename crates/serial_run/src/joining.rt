@@ -1,10 +1,11 @@
 //! The joint history of stations whose run is over.
 ghost use Rattle.std.specs.Prelude.{◌≡◌, IfOk, map};
-ghost use Rattle.serial_run.specs.Stations.{joint_of, host_log_of, log_of, station_notes};
+ghost use Rattle.serial_run.specs.Stations.{joint_of, host_log_of, log_of, log_of_ring};
+ghost use Rattle.serial_run.specs.Stations.{log_of_site, station_notes};
 
-use crate::stations::{ControllerStation, HostStation, Stations};
+use crate::stations::{BridgeSite, ControllerStation, HostStation, RingStation, Stations};
 use controller_core::Notes;
-use joint_history::{ControllerLog, HostLog, Joint, Noted, one_ring};
+use joint_history::{BridgeLog, ControllerLog, HostLog, Joint, Noted, RingLog};
 use plant_types::List;
 use std::alloc::{AllocError, Global};
 
@@ -40,6 +41,29 @@ fn host_logs_of(alloc: Global, stations: Vec<HostStation>) -> Result<List<HostLo
     Ok(List::from_vec(logs))
 }
 
+fn bridge_logs_of(alloc: Global, sites: Vec<BridgeSite>) -> Result<List<BridgeLog>, AllocError>
+    ensures { IfOk result (λ logs. logs ≡ map log_of_site sites.items) }
+{
+    let mut logs = Vec::new(alloc);
+    for site in sites {
+        logs.push(site.station.into_log())?;
+    }
+    Ok(List::from_vec(logs))
+}
+
+fn ring_logs_of(alloc: Global, stations: Vec<RingStation>) -> Result<List<RingLog>, AllocError>
+    ensures { IfOk result (λ logs. logs ≡ map log_of_ring stations.items) }
+{
+    let mut logs = Vec::new(alloc);
+    for station in stations {
+        logs.push(RingLog {
+            network: station.network,
+            entries: station.ring.into_history(),
+        })?;
+    }
+    Ok(List::from_vec(logs))
+}
+
 /// The histories, and what the controllers noted of their panels.
 pub(crate) fn noted_of(alloc: Global, run: Stations) -> Result<Noted, AllocError>
     ensures joint { IfOk result (λ noted. noted.joint ≡ joint_of run) }
@@ -47,8 +71,8 @@ pub(crate) fn noted_of(alloc: Global, run: Stations) -> Result<Noted, AllocError
 {
     let (controllers, notes) = logs_of(alloc, run.controllers)?;
     let hosts = host_logs_of(alloc, run.hosts)?;
-    let bridges = List::new(alloc);
-    let rings = one_ring(alloc, run.network, run.ring.into_history())?;
+    let bridges = bridge_logs_of(alloc, run.bridges)?;
+    let rings = ring_logs_of(alloc, run.rings)?;
     let joint = Joint {
         controllers,
         hosts,

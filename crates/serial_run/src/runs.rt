@@ -1,7 +1,7 @@
 //! Runs: turns in a given order, and the serial run.
 ghost use Rattle.std.specs.Prelude.{◌≡◌, ◌≤◌, IfOk};
 ghost use Rattle.plant_types.specs.Limits.{most_scans};
-ghost use Rattle.effect_laws.specs.Effects.{EffectsAreRight};
+ghost use Rattle.route_laws.specs.Effects.{EffectsAreRight};
 ghost use Rattle.entry_causes.specs.Joint.{IsInOneOrder};
 ghost use Rattle.joint_history.specs.Complete.{IsComplete};
 ghost use Rattle.joint_history.specs.JointLaws.{IsJoint, IsLegalJoint};
@@ -15,15 +15,15 @@ use crate::joining::noted_of;
 use crate::order::Turn;
 use crate::stations::Stations;
 use controller_core::notes_ask_no_scans;
-use effect_laws::effects_are_right;
 use entry_causes::joint_is_in_one_order;
 use joint_history::{Joint, Noted};
 use plant_types::Plant;
+use route_laws::effects_are_right;
 use std::alloc::{AllocError, Global};
-use turn_laws::runs_complete;
+use turn_laws::{controllers_complete, hosts_complete};
 
-/// Makes turns one after another from the start of a plant, and gives what all stations and the
-/// ring noted. Workers keep to their budget of Passes. The only error is that memory ran out.
+/// Makes turns one after another from the start of a plant, and gives what all stations, bridges
+/// and rings noted. Workers keep to their budget of Passes. The only error is that memory ran out.
 pub fn turns(alloc: Global, plant: &Plant, scans: u32, order: &[Turn]) -> Result<Joint, AllocError>
     requires plant { CanRunPlant plant.now }
     requires scans { scans ≤ most_scans }
@@ -31,7 +31,7 @@ pub fn turns(alloc: Global, plant: &Plant, scans: u32, order: &[Turn]) -> Result
     ensures legal { IfOk result (IsLegalJoint plant.now scans) }
     ensures joint { IfOk result IsJoint }
     ensures effects { IfOk result EffectsAreRight }
-    ensures in_time { IfOk result IsInOneOrder }
+    ensures in_time { IfOk result (IsInOneOrder plant.now) }
 {
     effects_are_right();
     joint_is_in_one_order();
@@ -57,7 +57,8 @@ fn over(alloc: Global, plant: &Plant, scans: u32) -> Result<Stations, AllocError
     requires scans { scans ≤ most_scans }
     ensures { IfOk result (AreOver plant.now scans) }
 {
-    runs_complete();
+    controllers_complete();
+    hosts_complete();
     let mut run = Stations::new(alloc, plant, scans)?;
     run.repeat(plant.first_net().rotations)?;
     run.finish()?;
@@ -65,8 +66,8 @@ fn over(alloc: Global, plant: &Plant, scans: u32) -> Result<Stations, AllocError
 }
 
 /// The serial run: the controllers make their scans, each node has its turns, and at the end each
-/// leaves the ring. Gives what all stations and the ring noted, and what the controllers noted of
-/// their panels. The only error is that memory ran out.
+/// leaves its ring. Gives what all stations, all bridges and the rings noted, and what the
+/// controllers noted of their panels. The only error is that memory ran out.
 pub fn run_noted(alloc: Global, plant: &Plant, scans: u32) -> Result<Noted, AllocError>
     requires plant { CanRunPlant plant.now }
     requires scans { scans ≤ most_scans }
@@ -103,7 +104,7 @@ pub fn run(alloc: Global, plant: &Plant, scans: u32) -> Result<Joint, AllocError
     ensures legal { IfOk result (IsLegalJoint plant.now scans) }
     ensures joint { IfOk result IsJoint }
     ensures effects { IfOk result EffectsAreRight }
-    ensures in_time { IfOk result IsInOneOrder }
+    ensures in_time { IfOk result (IsInOneOrder plant.now) }
     ensures complete { IfOk result (IsComplete plant.now scans) }
 {
     let noted = run_noted(alloc, plant, scans)?;

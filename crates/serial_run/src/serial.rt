@@ -6,11 +6,11 @@ ghost use Rattle.serial_run.specs.Serial.{Repeats};
 ghost use Rattle.serial_run.specs.Turns.{MakesTurns};
 ghost use Rattle.serial_run.specs.Stations.{Did, DidWith, Stand};
 ghost use Rattle.serial_run.specs.Scans.{have_ended, steps_left, AreBetweenScans, KeepScans};
-ghost use Rattle.serial_run.specs.Held.{is_in_ring, members_in, stations_here, AllHave, IsOffAway};
-ghost use Rattle.serial_run.specs.Held.{IsVisited};
-ghost use Rattle.serial_run.specs.Held.{Lessens, Stay};
+ghost use Rattle.serial_run.specs.Held.{is_in_ring, members_in, members_now, site_has_left};
+ghost use Rattle.serial_run.specs.Held.{stations_here, AllHave, IsOffAway, IsVisited, Lessens};
+ghost use Rattle.serial_run.specs.Held.{RoundOn, Stay};
 
-use crate::stations::Stations;
+use crate::stations::{BridgeSite, RingStation, Stations};
 use ring_core::{NodeStatus, Ring};
 use std::alloc::AllocError;
 use turn_laws::somebody_holds;
@@ -24,26 +24,42 @@ fn is_in(node: u8, ring: &Ring) -> bool
     ring.is_member(node) && matches!(ring.status(node), NodeStatus::In)
 }
 
-impl Stations {
+impl RingStation {
     /// How many members the ring has now.
-    fn members(&self) -> usize
-        ensures { result ≡ members_in self.now }
+    fn members_now(&self) -> usize
+        ensures { result ≡ members_now self.now }
     {
         let ring = &self.ring;
-        let controllers = self
-            .controllers
+        self.members
+            .as_slice()
             .iter()
-            .filter(|station| is_in(station.node, ring))
-            .count();
-        let hosts = self
-            .hosts
-            .iter()
-            .filter(|station| is_in(station.node, ring))
-            .count();
-        controllers + hosts
+            .filter(|node| is_in(**node, ring))
+            .count()
+    }
+}
+
+impl BridgeSite {
+    /// Whether both ends have left.
+    fn has_left(&self) -> bool
+        ensures { result ≡ site_has_left self.now }
+    {
+        self.station.has_left(self.plan.left) && self.station.has_left(self.plan.right)
+    }
+}
+
+impl Stations {
+    /// How many members the ring of a network has now.
+    fn members(&self, network: u8) -> usize
+        requires { Stand self.now }
+        ensures { result ≡ members_in self.now network }
+    {
+        match self.ring_at(network) {
+            Some(place) => self.rings[place].members_now(),
+            None => 0,
+        }
     }
 
-    /// How many stations have not left, or ask to come in again.
+    /// How many stations, and how many bridges, have not left all their rings, or ask to come in.
     fn here(&self) -> usize
         ensures { result ≡ stations_here self.now }
     {
@@ -53,7 +69,8 @@ impl Stations {
             .filter(|station| !station.left)
             .count();
         let hosts = self.hosts.iter().filter(|station| !station.left).count();
-        controllers + hosts
+        let bridges = self.bridges.iter().filter(|site| !site.has_left()).count();
+        controllers + hosts + bridges
     }
 
     /// Whether all controllers have ended.
@@ -113,7 +130,19 @@ impl Stations {
         Ok(())
     }
 
-    /// A round: as many hold turns as there are members at its beginning.
+    /// A round of one network: as many hold turns as its ring has members at its beginning.
+    fn round_on(&mut self, network: u8) -> Result<(), AllocError>
+        requires { Stand self.old }
+        ensures { OnOk result (RoundOn network self.old self.new) }
+    {
+        somebody_holds();
+        for _ in 0..self.members(network) {
+            self.hold(network)?;
+        }
+        Ok(())
+    }
+
+    /// A round: one of each network.
     fn round(&mut self) -> Result<(), AllocError>
         requires { Stand self.old }
         ensures round { OnOk result (Did MakesRound self.old self.new) }
@@ -122,8 +151,9 @@ impl Stations {
         ensures off { OnOk result (Stay IsOffAway self.old self.new) }
     {
         somebody_holds();
-        for _ in 0..self.members() {
-            self.hold()?;
+        for place in 0..self.rings.len() {
+            let network = self.rings[place].network;
+            self.round_on(network)?;
         }
         Ok(())
     }
@@ -174,7 +204,7 @@ impl Stations {
     }
 
     /// Rounds until every node is gone, or away without power.
-    fn empty_ring(&mut self) -> Result<(), AllocError>
+    fn empty_rings(&mut self) -> Result<(), AllocError>
         requires stand { Stand self.old }
         requires off { AllHave IsOffAway self.old }
         ensures did { OnOk result (Did MakesLateRounds self.old self.new) }
@@ -198,7 +228,7 @@ impl Stations {
         ensures visited { OnOk result (AllHave IsVisited self.new) }
         ensures left { OnOk result (stations_here self.new ≡ 0) }
     {
-        self.empty_ring()?;
+        self.empty_rings()?;
         self.visit_all()
     }
 }

@@ -1,15 +1,17 @@
 //! The turns of the stations.
-ghost use Rattle.std.specs.Prelude.{◌≡◌, true, false, OnOk};
+ghost use Rattle.std.specs.Prelude.{◌≡◌, ◌==◌, ◌<◌, true, false, length, Some, OnOk};
+ghost use Rattle.std.specs.List.{position};
 ghost use Rattle.controller_core.specs.Controller.{stepped};
 ghost use Rattle.turn_laws.specs.KeepsOn.{is_out_of_ring, leaves_out};
 ghost use Rattle.ring_core.specs.Legal.{IsMember};
 ghost use Rattle.comm_port.specs.Turns.{IsNoBridge};
 ghost use Rattle.whole_scan.specs.Scans.{MadeEvents};
-ghost use Rattle.serial_run.specs.Turns.{MakesTurn, first_hold};
+ghost use Rattle.serial_run.specs.Turns.{MakesTurn};
 ghost use Rattle.serial_run.specs.Stations.{Did, Stand};
 ghost use Rattle.serial_run.specs.Scans.{KeepScans};
 ghost use Rattle.serial_run.specs.Held.{HasToken, HeldController, HeldHost, HostStandsBeside};
-ghost use Rattle.serial_run.specs.Held.{HostKeepsBeside, KeepsBeside, KnowsLeft, Lessens};
+ghost use Rattle.serial_run.specs.Held.{HeldOn, HostKeepsBeside, IsRingPlace, KeepsBeside};
+ghost use Rattle.serial_run.specs.Held.{KnowsLeft};
 ghost use Rattle.serial_run.specs.Held.{StandsBeside, VisitedController, is_away, is_visit_due};
 ghost use Rattle.serial_run.specs.Held.{CameBack, GainFor, IsOffAway, IsVisited, Stay};
 ghost use Rattle.serial_run.specs.Held.{stations_here};
@@ -204,37 +206,52 @@ impl Stations {
         }
     }
 
-    /// The station of the node that holds the token makes its hold turn.
-    pub(crate) fn hold(&mut self) -> Result<(), AllocError>
-        requires { Stand self.old }
-        ensures held { OnOk result (Did (λ plant scans. MakesTurn plant scans (first_hold plant))
-            self.old self.new) }
-        ensures scans { OnOk result (KeepScans self.old self.new) }
-        ensures less { OnOk result (Lessens self.old self.new) }
-        ensures off { OnOk result (Stay IsOffAway self.old self.new) }
+    /// The station or the bridge of the node that holds the token of a network makes its hold turn;
+    /// the ring of the network stands at a place.
+    fn hold_at(&mut self, network: u8, place: usize) -> Result<(), AllocError>
+        requires stand { Stand self.old }
+        requires place { position (λ station. station.network == network) self.old.rings.items
+            ≡ Some place }
+        ensures { OnOk result (HeldOn network self.old self.new) }
     {
         somebody_holds();
-        let holder = self.ring.holder();
+        let holder = self.rings[place].ring.holder();
         if let Some(at) = self.controller_at(holder) {
-            return hold_controller(&mut self.controllers[at], &mut self.ring);
+            return hold_controller(&mut self.controllers[at], &mut self.rings[place].ring);
         }
         if let Some(at) = self.host_at(holder) {
-            return hold_host(&mut self.hosts[at], &mut self.ring);
+            return hold_host(&mut self.hosts[at], &mut self.rings[place].ring);
+        }
+        if let Some(at) = self.bridge_at(holder) {
+            let station = &mut self.bridges[at].station;
+            return station.hold(holder, &mut self.rings[place].ring);
         }
         Ok(())
     }
 
-    /// The station of the node that holds the token of a network makes its hold turn, where there
-    /// is that network.
-    fn hold_on(&mut self, network: u8) -> Result<(), AllocError>
+    /// The station or the bridge of the node that holds the token of a network makes its hold turn,
+    /// where there is that network.
+    pub(crate) fn hold(&mut self, network: u8) -> Result<(), AllocError>
         requires { Stand self.old }
-        ensures { OnOk result (Did (λ plant scans. MakesTurn plant scans (Turn.Hold network))
-            self.old self.new) }
+        ensures { OnOk result (HeldOn network self.old self.new) }
     {
-        if network == self.network {
-            return self.hold();
+        match self.ring_at(network) {
+            Some(place) => self.hold_at(network, place),
+            None => Ok(()),
         }
-        Ok(())
+    }
+
+    /// The place of the ring of a controller's network.
+    fn ring_place(&self, at: usize) -> usize
+        requires stand { Stand self.now }
+        requires at { at < length self.now.controllers.items }
+        ensures is { IsRingPlace self.now at result }
+        ensures place { result < length self.now.rings.items }
+    {
+        match self.ring_at(self.controllers[at].network) {
+            Some(place) => place,
+            None => 0,
+        }
     }
 
     /// The controller of a node makes its visit, where that is due.
@@ -248,7 +265,10 @@ impl Stations {
         ensures here { OnOk result (stations_here self.new ≡ stations_here self.old) }
     {
         match self.controller_at(node) {
-            Some(at) => visit_controller(&mut self.controllers[at], &mut self.ring),
+            Some(at) => {
+                let place = self.ring_place(at);
+                visit_controller(&mut self.controllers[at], &mut self.rings[place].ring)
+            }
             None => Ok(()),
         }
     }
@@ -262,7 +282,10 @@ impl Stations {
         ensures gain { OnOk result (GainFor IsOffAway node self.old self.new) }
     {
         match self.controller_at(node) {
-            Some(at) => come_back(&mut self.controllers[at], &mut self.ring),
+            Some(at) => {
+                let place = self.ring_place(at);
+                come_back(&mut self.controllers[at], &mut self.rings[place].ring)
+            }
             None => Ok(()),
         }
     }
@@ -274,7 +297,7 @@ impl Stations {
     {
         match turn {
             Turn::Step(node) => self.step(node),
-            Turn::Hold(network) => self.hold_on(network),
+            Turn::Hold(network) => self.hold(network),
             Turn::Visit(node) => self.visit(node),
             Turn::Away(node) => self.away(node),
         }

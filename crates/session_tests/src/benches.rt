@@ -5,7 +5,7 @@ ghost use Rattle.plant_types.specs.Plans.{IsPlant};
 ghost use Rattle.traffic_cop.specs.Rows.{IsRunnablePlan};
 
 use panel_session::{Session, run_session};
-use plant_loader::load;
+use plant_loader::{Version, load};
 use plant_types::{MOST_SCANS, Plant};
 use std::alloc::{AllocGlobal, Global};
 use std::process::Abort;
@@ -44,7 +44,7 @@ pub(crate) fn session_of(
     if scans == 0 || scans > MOST_SCANS || stream.len() > 2000 {
         return Err("a session")?;
     }
-    match load(alloc, plant.as_bytes()) {
+    match load(alloc, Version::One, plant.as_bytes()) {
         Ok(plant) => session_in(alloc, &plant, scans, stream),
         Err(_) => Err("a plant")?,
     }

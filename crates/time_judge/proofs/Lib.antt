@@ -4,4 +4,3 @@ pub mod Calls
 pub mod Steps
 pub mod First
 pub mod One
-pub mod Rings

@@ -1,17 +1,16 @@
 //! Whether a joint history is in time.
-ghost use Rattle.std.specs.Prelude.{◌≡◌, ◌++◌, IfOk, OnOk, map};
+ghost use Rattle.std.specs.Prelude.{◌≡◌, IfOk, map};
 ghost use Rattle.ring_core.specs.Words.{maker};
 ghost use Rattle.one_order.specs.Fronts.{places_of};
 ghost use Rattle.entry_causes.specs.Joint.{controller_log, host_log, logs_of};
-ghost use Rattle.joint_history.specs.Nets.{entries_of_rings, noted_on_rings};
+ghost use Rattle.joint_history.specs.Nets.{noted_on_rings};
 ghost use Rattle.own_places.specs.Places.{ArePlaces};
 ghost use Rattle.time_judge.specs.Judging.{IsStandstill, IsFirstStandstill};
 
 use crate::counts::StationItem;
 use crate::reaching::how_far;
-use joint_history::{ControllerLog, HostLog, Joint, RingLog};
+use joint_history::{ControllerLog, HostLog, Joint, noted_copied};
 use own_places::OwnPlaces;
-use plant_types::{Copied, List};
 use ring_core::RingEntry;
 use std::alloc::{AllocError, Global};
 
@@ -103,30 +102,6 @@ fn joint_standstill(
         return Ok(Some(at));
     }
     hosts_standstill(alloc, joint.hosts.as_slice(), ring, &own)
-}
-
-fn add_copied(
-    alloc: Global,
-    noted: &mut List<RingEntry>,
-    entries: &[RingEntry],
-) -> Result<(), AllocError>
-    ensures { OnOk result (noted.new ≡ noted.old ++ entries.now) }
-{
-    for entry in entries {
-        noted.push(entry.copied(alloc)?)?;
-    }
-    Ok(())
-}
-
-// The entries of all rings.
-fn noted_copied(alloc: Global, rings: &[RingLog]) -> Result<List<RingEntry>, AllocError>
-    ensures { IfOk result (λ noted. noted ≡ entries_of_rings rings.now) }
-{
-    let mut noted = List::new(alloc);
-    for ring in rings {
-        add_copied(alloc, &mut noted, ring.entries.as_slice())?;
-    }
-    Ok(noted)
 }
 
 /// The first station, the controllers before the hosts, that is not in time, and where; none where

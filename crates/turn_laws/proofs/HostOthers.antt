@@ -3,6 +3,7 @@ use Rattle.std.proofs.Common.{◌≡◌, ◌≤◌, ℕ, true, false, List, [], 
 use Rattle.std.proofs.Common.{arith}
 use Rattle.std.specs.List.{AllZip}
 use Rattle.plant_types.specs.declared.net.HostPlan.{HostPlan}
+use Rattle.plant_types.specs.Plans.{net_of}
 use Rattle.ring_core.specs.declared.entry.RingEntry.{RingEntry}
 use Rattle.ring_core.specs.declared.status.NodeStatus.TheVariants.{Asking, Gone}
 use Rattle.host_port.specs.declared.entry.HostEntry.{HostEntry}
@@ -27,7 +28,7 @@ use Rattle.turn_laws.specs.Laws.{HostsComplete, RunsComplete}
 use Rattle.turn_laws.proofs.Passes.{nil-cons, none-said}
 use Rattle.turn_laws.proofs.Others.{no-replies, no-stays}
 use Rattle.turn_laws.proofs.HostDone.{host-ended}
-use Rattle.joint_history.specs.Nets.{net_of, noted_on_rings}
+use Rattle.joint_history.specs.Nets.{noted_on_rings}
 
 no-holds : (plan : HostPlan) → AsksInItsHolds plan []
 no-holds plan [] after n f ask is kind asks = nil-cons is

@@ -5,6 +5,7 @@ use Rattle.plant_types.specs.declared.net.NetPlan.{NetPlan}
 use Rattle.plant_types.specs.declared.net.HostPlan.{HostPlan}
 use Rattle.plant_types.specs.declared.plan.ControllerPlan.{ControllerPlan}
 use Rattle.plant_types.specs.declared.plan.Plant.{Plant}
+use Rattle.plant_types.specs.Plans.{net_of}
 use Rattle.mstr_block.specs.declared.call.CallId.{CallId}
 use Rattle.ring_core.specs.declared.frame.Frame.{Frame}
 use Rattle.ring_core.specs.declared.entry.LeaveCause.{LeaveCause}
@@ -32,7 +33,6 @@ use Rattle.comm_port.specs.Parts.{calls_waiting}
 use Rattle.joint_history.specs.declared.joint.ControllerLog.{ControllerLog}
 use Rattle.joint_history.specs.declared.joint.HostLog.{HostLog}
 use Rattle.joint_history.specs.JointLaws.{fixed_of}
-use Rattle.joint_history.specs.Nets.{net_of}
 use Rattle.joint_history.specs.Reading.{items_of, host_items_of, has_ended_at, has_started_at}
 use Rattle.joint_history.specs.Reading.{is_off_at}
 use Rattle.joint_history.specs.Complete.{EndsEachCall, StandsIn, RepliesBeforePasses, StaysDone}
@@ -158,22 +158,29 @@ NoneSpent list = All (λ (entry : RingEntry). leaves_spent entry ≡ false) list
 
 -- ---- A run that is over.
 
--- A controller has finished: its scans have ended, its calls were collected, and its node is gone,
--- or away without power.
-pub record HasFinished (plant : Plant) (scans : ℕ) (ring : List RingEntry) (plan : ControllerPlan)
-    (log : ControllerLog) : Type 0 where
-  pub stands : StandsTied (fixed_of plant scans plan) (net_of plant log.node) log.node log.entries
-      ring
-  pub keeps : KeepsOn (fixed_of plant scans plan) (net_of plant log.node) log.node log.entries ring
-      true
+-- A controller on a network has finished: its scans have ended, its calls were collected, and its
+-- node is gone, or away without power.
+pub record HasFinishedOn (net : NetPlan) (plant : Plant) (scans : ℕ) (ring : List RingEntry)
+    (plan : ControllerPlan) (log : ControllerLog) : Type 0 where
+  pub stands : StandsTied (fixed_of plant scans plan) net log.node log.entries ring
+  pub keeps : KeepsOn (fixed_of plant scans plan) net log.node log.entries ring true
   pub ended : has_ended_at (fixed_of plant scans plan) log.entries ≡ true
   pub collected : has_started_at (fixed_of plant scans plan) log.entries ≡ false
   pub out : is_out_of_ring (is_off_at (fixed_of plant scans plan) log.entries)
-      (status_at (net_of plant log.node) ring log.node) ≡ true
+      (status_at net ring log.node) ≡ true
 
--- A host has finished: its node is gone.
-pub record HostHasFinished (plant : Plant) (ring : List RingEntry) (plan : HostPlan)
+-- So it has on its own network.
+abbrev pub HasFinished : Plant → ℕ → List RingEntry → ControllerPlan → ControllerLog → Type 0
+HasFinished plant scans ring plan log =
+    HasFinishedOn (net_of plant log.node) plant scans ring plan log
+
+-- A host on a network has finished: its node is gone.
+pub record HostHasFinishedOn (net : NetPlan) (ring : List RingEntry) (plan : HostPlan)
     (log : HostLog) : Type 0 where
   pub node : log.node ≡ plan.node
-  pub stands : HostStandsTied plan (net_of plant log.node) log.entries ring
-  pub keeps : HostKeepsOn plan (net_of plant log.node) log.entries ring true
+  pub stands : HostStandsTied plan net log.entries ring
+  pub keeps : HostKeepsOn plan net log.entries ring true
+
+-- So it has on its own network.
+abbrev pub HostHasFinished : Plant → List RingEntry → HostPlan → HostLog → Type 0
+HostHasFinished plant ring plan log = HostHasFinishedOn (net_of plant log.node) ring plan log

@@ -4,7 +4,7 @@
 // plant, its controllers.
 pub const BAD_TABLES: &str = r#"name = 1|[[controller]]|node = 1 => 2 BadKey plant
 version = 0|name = 1|[[controller]]|node = 1 => 4 BadVersion plant
-version = 2|net = 1|[[controller]]|node = 1 => 4 BadVersion plant
+version = 3|[[controller]]|node = 1 => 4 BadVersion plant
 version = -1|[[controller]]|node = 1 => 4 BadVersion plant
 version = "1"|[[controller]]|node = 1 => 3 BadValue plant
 version = 1.0|[[controller]]|node = 1 => 3 BadValue plant
@@ -176,6 +176,10 @@ net = { holds = 0 }|controller = [{ node = 1 }] => 3 BadValue net
 net = { holds = 100001 }|controller = [{ node = 1 }] => 3 BadValue net
 net = { holds = "1" }|controller = [{ node = 1 }] => 3 BadValue net
 net = {}|controller = [{ node = 1 }]|host = [] => taken
+network = [{ number = 1 }]|controller = [{ node = 1 }] => 2 BadKey plant
+bridges = []|controller = [{ node = 1 }] => 2 BadKey plant
+controller = [{ node = 1, network = 1 }] => 2 BadKey controller 1
+controller = [{ node = 1 }]|host = [{ node = 2, network = 1 }] => 2 BadKey host 1
 controller = [{ node = 1 }, { node = 0 }] => 12 BadNode controller 2
 controller = [{ node = 7 }, { node = 7 }] => 12 BadNode controller 2
 controller = [{ node = 7 }, { node = 7, coils = 1 }] => 3 BadValue controller 2
@@ -208,6 +212,11 @@ pub const REQUESTS: &str = r#""10000 64 0300000002" => taken
 "1 01 03" => 3 BadValue host 1 request 1
 "1 00 03" => 3 BadValue host 1 request 1
 "1 x 03" => 3 BadValue host 1 request 1
+"1 9.5 03" => 3 BadValue host 1 request 1
+"1 9. 03" => 3 BadValue host 1 request 1
+"1 .9 03" => 3 BadValue host 1 request 1
+"1 . 03" => 3 BadValue host 1 request 1
+"1 0.65.x 03" => 3 BadValue host 1 request 1
 "1 65 0" => 3 BadValue host 1 request 1
 "1 2 0g" => 3 BadValue host 1 request 1
 "1 0 03" => 12 BadNode host 1 request 1

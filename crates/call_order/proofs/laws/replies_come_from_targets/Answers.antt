@@ -2,5 +2,4 @@ use Rattle.call_order.proofs.Targets.{from-targets}
 use Rattle.call_order.proofs.laws.replies_come_from_targets.Goals as goal
 
 pub returns : goal.returns
-returns c =
-    from-targets c.only_its_target.ensures c.reply_to_its_caller.ensures c.reply_by_taker.ensures
+returns c = from-targets c.only_its_target.ensures c.reply_to_its_caller.ensures

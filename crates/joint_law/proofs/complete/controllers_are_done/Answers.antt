@@ -1,6 +1,6 @@
 use Rattle.std.proofs.Common.{false, get_or, refl, subst, sym, ap, ◌∙◌, arith}
 use Rattle.joint_history.specs.declared.joint.ControllerLog.{ControllerLog}
-use Rattle.joint_law.specs.AllComplete.{IsControllerDone, entries_on}
+use Rattle.joint_law.specs.AllComplete.{IsControllerDone, own_entries}
 use Rattle.joint_law.proofs.AtNodes.{controllers-more}
 use Rattle.joint_law.proofs.Lists.{not-true}
 use Rattle.joint_law.proofs.complete.controllers_are_done.Goals as goal
@@ -10,7 +10,7 @@ returns-then-not-branch c = (
   λ no'. not-true no',
   λ all. sym c.if-not-branch.true ∙ c.in_ok-controller_is_done.ensures.1 (λ same.
       subst (λ (g : ControllerLog). IsControllerDone c.args.scans c.args.on.status g
-      (get_or c.args.done.now c.loop-at.at false) (entries_on c.args.on))
+      (get_or c.args.done.now c.loop-at.at false) (own_entries c.args.on))
       (sym c.index-logs-at.is)
       (all c.loop-at.at c.index-logs-at.result (omega arith)
       (ap (λ (g : ControllerLog). g.node) (sym c.index-logs-at.is) ∙ same))),
@@ -19,7 +19,7 @@ returns-then-not-branch c = (
 pub loop-at-preserved : goal.loop-at-preserved
 loop-at-preserved c =
     controllers-more c.args.scans c.args.logs.now c.args.done.now c.args.on.node
-    c.args.on.status (entries_on c.args.on) c.loop-at.at c.index-logs-at.result
+    c.args.on.status (own_entries c.args.on) c.loop-at.at c.index-logs-at.result
     c.loop-at.invariant (omega arith) c.index-logs-at.is
     (c.in_ok-controller_is_done.ensures.0 c.if-not-branch.false)
 

@@ -3,7 +3,6 @@ use Rattle.joint_law.specs.AllCourses.{BridgesEnd}
 use Rattle.joint_law.proofs.Verdicts.{bridge-found}
 use Rattle.joint_law.proofs.judging.spot_from_bridges.Goals as goal
 
--- proved of any bridges, though as yet a plant has none
 pub returns-in_ok-spot-in-Breaks : goal.returns-in_ok-spot-in-Breaks
 returns-in_ok-spot-in-Breaks c =
     bridge-found c.args.plant.now c.args.scans c.args.joint.now c.in-Breaks.left c.in-Breaks.place

@@ -3,7 +3,6 @@ use Rattle.std.specs.Prelude.{IfSome}
 use Rattle.joint_history.specs.Nets.{entries_of_rings}
 use Rattle.joint_law.proofs.judging.spot_from_laws.Goals as goal
 
--- proved of any rings, though as yet a plant has one
 pub spot_beside-requires-clause-noted : goal.spot_beside-requires-clause-noted
 spot_beside-requires-clause-noted c =
     subst (λ found. IfSome found

@@ -1,31 +1,24 @@
-use Rattle.std.proofs.Common.{List, get_or, sym, ap, subst, ◌∙◌}
-use Rattle.ring_core.specs.declared.bare.BareRing.{BareRing}
+use Rattle.std.proofs.Common.{sym, subst}
 use Rattle.joint_law.specs.AllCourses.{AreDone, AreHostsDone, RingsEnd}
-use Rattle.joint_law.proofs.Rings.{first-behind}
 use Rattle.joint_law.proofs.Verdicts.{ring-found}
 use Rattle.joint_law.proofs.judging.spot_from_rings.Goals as goal
 
+pub spot_from_laws-requires-clause-legal : goal.spot_from_laws-requires-clause-legal
+spot_from_laws-requires-clause-legal c = record {
+  controllers = c.requires.legal;
+  hosts = c.requires.hosts_legal;
+  bridges = c.requires.bridges_legal;
+  rings = subst (RingsEnd c.args.plant.now c.args.scans c.args.joint.now) c.in-Whole.is
+      c.in_ok-network.ensures;
+}
+
 pub spot_from_laws-requires-clause-followed : goal.spot_from_laws-requires-clause-followed
-spot_from_laws-requires-clause-followed c =
-    let end = subst (RingsEnd c.args.plant.now c.args.scans c.args.joint.now) c.in-Whole.is
-    c.in_ok-network.ensures in
-    record {
-      done = subst (AreDone c.args.plant.now c.args.scans c.args.joint.now) (sym c.as_slice.ensures)
-          c.requires.done;
-      hosts = subst (AreHostsDone c.args.plant.now c.args.joint.now)
-          (sym c.as_slice-in-Whole.ensures) c.requires.hosts;
-      ring =
-          first-behind c.args.plant.now c.args.scans c.args.joint.now c.in-Whole.rings
-          c.index-as_slice-0.result c.requires.sound (record {
-            controllers = c.requires.legal;
-            hosts = c.requires.hosts_legal;
-            bridges = c.requires.bridges_legal;
-            rings = end.0;
-          }) end.1
-          (c.index-as_slice-0.is
-          ∙ ap (λ (l : List BareRing). get_or l 0 c.index-as_slice-0.result)
-          c.as_slice-in-Whole-2.ensures);
-    }
+spot_from_laws-requires-clause-followed c = record {
+  done = subst (AreDone c.args.plant.now c.args.scans c.args.joint.now) (sym c.as_slice.ensures)
+      c.requires.done;
+  hosts = subst (AreHostsDone c.args.plant.now c.args.joint.now)
+      (sym c.as_slice-in-Whole.ensures) c.requires.hosts;
+}
 
 pub returns-in_ok-spot-in-Breaks : goal.returns-in_ok-spot-in-Breaks
 returns-in_ok-spot-in-Breaks c =

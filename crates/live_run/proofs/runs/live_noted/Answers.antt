@@ -5,7 +5,8 @@ use Rattle.plant_types.specs.declared.net.HostPlan.{HostPlan}
 use Rattle.plant_types.specs.declared.net.NetPlan.{NetPlan}
 use Rattle.plant_types.specs.declared.plan.ControllerPlan.{ControllerPlan}
 use Rattle.plant_types.specs.declared.plan.Plant.{Plant}
-use Rattle.plant_types.specs.Plans.{IsPlant, first_net}
+use Rattle.plant_types.specs.Plans.{first_net}
+use Rattle.one_net.specs.OneNet.{IsOneNetPlant}
 use Rattle.ring_core.specs.Kept.{KeptRing}
 use Rattle.ring_core.specs.Legal.{IsLegalRing}
 use Rattle.ring_core.specs.Words.{maker}
@@ -15,9 +16,10 @@ use Rattle.joint_history.specs.JointLaws.{IsJoint, IsLegalJoint}
 use Rattle.joint_history.specs.Nets.{entries_of_rings, noted_on_rings}
 use Rattle.joint_history.specs.Noted.{IsNoted, notes_by_log}
 use Rattle.joint_history.proofs.OneRing.{ring_log}
-use Rattle.effect_laws.specs.Effects.{EffectsAreRight}
+use Rattle.route_laws.specs.Effects.{EffectsAreRight}
 use Rattle.entry_causes.specs.Joint.{IsInOneOrder}
 use Rattle.turn_laws.specs.KeepsOn.{NoneSpent}
+use Rattle.one_net.proofs.OneNet.{one-net}
 use Rattle.live_run.specs.Cells.{ring_in}
 use Rattle.live_run.specs.Runs.{AreBrought, IsMadeOf, IsOutcome}
 use Rattle.live_run.specs.Stations.{CameToEnd, CanRunAll, CanServeAll, HostCameToEnd}
@@ -28,7 +30,8 @@ use Rattle.live_run.proofs.runs.live_noted.Goals as goal
 
 pub through_ring-pass-requires-clause-plant : goal.through_ring-pass-requires-clause-plant
 through_ring-pass-requires-clause-plant g c κs within =
-    subst IsPlant (sym c.new-run.ensures.plant) c.requires.plant.sound
+    subst IsOneNetPlant (sym c.new-run.ensures.plant)
+    (one-net c.args.plant.now c.requires.plant.sound c.requires.one)
 
 pub through_ring-pass-requires-clause-runnable : goal.through_ring-pass-requires-clause-runnable
 through_ring-pass-requires-clause-runnable g c κs within =
@@ -88,7 +91,8 @@ returns g c =
     let closed : (noted : Noted) → IsMadeOf logs hosts rings noted
     → Closes plant scans noted.joint = λ noted m.
     let is = on-it noted m in
-    closes plant scans noted.joint p c.requires.plant.sound m.bridges_are
+    closes plant scans noted.joint p
+    (one-net plant c.requires.plant.sound c.requires.one) m.bridges_are
     (m.rings_are ∙ only ∙ ap (λ l. ring_log (first_net plant) l ∷ []) (sym is)) unopened
     (subst (Owns maker p) (sym (is ∙ history)) c.close.ensures.own)
     (subst (λ l. All (StartsWith l) p.heard) (sym (is ∙ history)) c.close.ensures.heard)
@@ -114,7 +118,7 @@ returns g c =
       effects = each (λ noted. EffectsAreRight noted.joint)
           (λ n m. c.effects_are_right.ensures plant scans n.joint c.requires.plant.sound
           (closed n m).legal (closed n m).ties);
-      in_time = each (λ noted. IsInOneOrder noted.joint)
+      in_time = each (λ noted. IsInOneOrder plant noted.joint)
           (λ n m. c.joint_is_in_one_order.ensures plant scans n.joint c.requires.plant.sound
           (closed n m).legal (closed n m).timely);
       noted = each (IsNoted plant) (λ n m. m.notes_are ∙ (brought

@@ -5,7 +5,7 @@ use Rattle.turn_gate.specs.Known.{PassFacts}
 use Rattle.plant_types.specs.declared.net.HostPlan.{HostPlan}
 use Rattle.plant_types.specs.declared.plan.ControllerPlan.{ControllerPlan}
 use Rattle.plant_types.specs.Plans.{controller_nodes, first_net, host_nodes}
-use Rattle.plant_types.proofs.OneNet.{on-net}
+use Rattle.one_net.proofs.OneNet.{on-net}
 use Rattle.ring_core.specs.Legal.{IsMember}
 use Rattle.ring_core.specs.declared.entry.RingEntry.{RingEntry}
 use Rattle.joint_history.specs.declared.joint.HostLog.{HostLog}

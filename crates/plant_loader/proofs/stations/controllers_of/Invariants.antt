@@ -7,8 +7,9 @@ use Rattle.plant_loader.proofs.stations.controllers_of.Given as goal
 -- the controllers so far, before those of the tables left
 abbrev pub invariant-loop-table : goal.invariant-loop-table
 invariant-loop-table l = record {
-  read : each_behind controller_behind l.plans.items (numbered_from (l.position + 1)
+  read : each_behind (controller_behind l.version l.nets) l.plans.items
+      (numbered_from (l.position + 1)
       (map (λ t. table_view t.now) (drop l.table-index l.tables)))
-      ≡ controllers_of (map (λ t. table_view t.now) l.tables);
+      ≡ controllers_of l.version l.nets (map (λ t. table_view t.now) l.tables);
   position : l.position ≡ l.table-index;
 }

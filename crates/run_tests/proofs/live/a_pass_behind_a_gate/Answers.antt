@@ -21,8 +21,8 @@ added : {T X : Type 0} (r : Result T X) (old new : KeptRing) (e : RingEntry)
     → maker e ≡ n → OnOk r (new ≡ with_entry old e) → OnErr r (new ≡ old)
     → PassAdds maker q new.history
 added (Ok x) old new e q n number seen is ok err =
-    adds maker q n old.history (e ∷ []) new.history number seen (ap (λ (v : KeptRing). v.history) ok)
-    (single e n is)
+    adds maker q n old.history (e ∷ []) new.history number seen
+    (ap (λ (v : KeptRing). v.history) ok) (single e n is)
 added (Err why) old new e q n number seen is ok err =
     adds maker q n old.history [] new.history number seen
     (ap (λ (v : KeptRing). v.history) err ∙ sym (append-nil old.history)) (all_none maker n)

@@ -1,13 +1,37 @@
-use Rattle.std.proofs.Common.{◌∙◌, ap, subst, sym}
+use Rattle.std.proofs.Common.{◌≡◌, ◌≤◌, ◌∙◌, ℕ, suc, List, [], ◌∷◌, length, map, ap, subst, sym}
+use Rattle.std.proofs.Common.{refl, arith}
+use Rattle.std.specs.List.{All, Contains}
+use Rattle.plant_types.specs.declared.plan.ControllerPlan.{ControllerPlan}
+use Rattle.plant_types.specs.Plans.{net_numbers}
 use Rattle.plant_types.specs.declared.net.NetPlan.{NetPlan}
-use Rattle.joint_history.specs.Complete.{IsCompleteBridgeLog}
-use Rattle.joint_history.specs.Nets.{noted_on_rings}
-use Rattle.joint_history.proofs.OneRing.{bridges-zip}
 use Rattle.serial_run.specs.Serial.{Repeats}
 use Rattle.serial_run.specs.Stations.{joint_of}
 use Rattle.serial_run.proofs.Off.{nobody-away}
-use Rattle.serial_run.proofs.Finished.{all-finished-there, all-hosts-finished, ended-kept}
+use Rattle.serial_run.proofs.Finished.{all-complete, ended-kept}
 use Rattle.serial_run.proofs.runs.over.Goals as goal
+
+-- a plant has a network: that of a controller
+some-number : (plans : List ControllerPlan) (numbers : List ℕ) → 1 ≤ length plans
+    → All (λ (p : ControllerPlan). Contains numbers p.network) plans → 1 ≤ length numbers
+some-number [] numbers some all = absurd (omega (arith, some))
+some-number (p ∷ plans) numbers some all =
+    let there = all 0 p (omega arith) in
+    let low = there.1 in
+    omega (arith, low)
+
+length-numbers : (nets : List NetPlan) → length (map (λ (net : NetPlan). net.number) nets)
+    ≡ length nets
+length-numbers [] = refl
+length-numbers (net ∷ nets) = ap suc (length-numbers nets)
+
+pub first_net-requires : goal.first_net-requires
+first_net-requires c =
+    let plant = c.args.plant.now in
+    let sound = c.requires.plant.sound in
+    let some = some-number plant.controllers (net_numbers plant) sound.count.from
+    sound.controllers_there in
+    let same = length-numbers plant.nets in
+    record { some = omega (arith, some, same) }
 
 pub repeat-requires-clause-stand : goal.repeat-requires-clause-stand
 repeat-requires-clause-stand c =
@@ -52,10 +76,6 @@ returns c =
             (sym (ap (λ (net : NetPlan). net.rotations) c.first_net.ensures)));
         finishes = finished.did.made plant scans stands;
       };
-      complete = c.runs_complete.ensures plant scans (joint_of last)
-          (all-finished-there plant scans last stand finished.left ended finished.off
-          finished.visited)
-          (all-hosts-finished plant scans last stand finished.left)
-          (bridges-zip (IsCompleteBridgeLog plant (noted_on_rings (joint_of last))) plant
-          stand.sound);
+      complete = all-complete c.controllers_complete.ensures c.hosts_complete.ensures plant scans
+          last stand finished.left ended finished.off finished.visited;
     }

@@ -5,7 +5,7 @@ use Rattle.plant_types.specs.declared.plan.ControllerPlan.{ControllerPlan}
 use Rattle.joint_history.specs.declared.joint.Joint.{Joint}
 use Rattle.summary_text.specs.Coils.{coils_at_end}
 use Rattle.serial_run.specs.declared.stations.ControllerStation.{ControllerStation}
-use Rattle.serial_run.specs.Stations.{StandsController, joint_of, station_coils}
+use Rattle.serial_run.specs.Stations.{StandsOn, joint_of, station_coils}
 use Rattle.serial_run.proofs.Laws.{stand-in-time, stand-joint, stand-legal}
 use Rattle.serial_run.proofs.Handed.{noted-run, stand-coils}
 use Rattle.serial_run.proofs.runs.run_counted.Goals as goal
@@ -15,7 +15,7 @@ coils_of-coils-requires c =
     let plant = c.args.plant.now in
     let run = c.in_ok-run.run' in
     ap length c.as_slice-2.ensures.value
-    ∙ AllZip-long (StandsController plant c.args.scans run.ring.history) plant.controllers
+    ∙ AllZip-long (StandsOn plant c.args.scans run.rings.items) plant.controllers
     run.controllers.items c.in_ok-run.ensures.stand.controllers
     ∙ ap length (sym c.as_slice.ensures)
 

@@ -1,7 +1,7 @@
 use Rattle.std.proofs.Common.{take, sym, subst}
 use Rattle.std.proofs.lemmas.List.{take_more}
 use Rattle.joint_history.specs.JointLaws.{IsJoint, IsLegalJoint}
-use Rattle.effect_laws.specs.Effects.{EffectsAreRight}
+use Rattle.route_laws.specs.Effects.{EffectsAreRight}
 use Rattle.entry_causes.specs.Joint.{IsInOneOrder}
 use Rattle.serial_run.specs.Turns.{MakesTurns, nothing_made}
 use Rattle.serial_run.specs.Stations.{joint_of}
@@ -53,6 +53,6 @@ returns-clause-in_time c =
     let scans = c.args.scans in
     let run = c.loop-turn.run in
     let stand = c.loop-turn.invariant.stand in
-    subst IsInOneOrder (sym c.in_ok-noted.ensures.joint)
+    subst (IsInOneOrder plant) (sym c.in_ok-noted.ensures.joint)
     (c.joint_is_in_one_order.ensures plant scans (joint_of run) c.requires.plant.sound
     (stand-legal plant scans run stand) (stand-in-time plant scans run stand))

@@ -9,7 +9,7 @@ pub returns : goal.returns
 returns c =
     let is = c.in_ok-controller.ensures in
     start-controller c.args.plant.now c.args.scans c.args.plan.now c.in_ok-controller.controller
-    c.in_ok-worker.worker c.requires.plant.sound
+    c.in_ok-worker.worker c.requires.net
     c.requires.member (subst (λ (v : ControllerIs). IsLegal v.fixed v.history) is
     c.history.ensures.legal) is (c.in_ok-worker.ensures
-    ∙ ap (λ (net : NetPlan). new_worker c.args.plan.now.node net true) c.first_net.ensures)
+    ∙ ap (λ (net : NetPlan). new_worker c.args.plan.now.node net true) c.net_at.ensures)

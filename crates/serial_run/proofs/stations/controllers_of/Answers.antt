@@ -4,9 +4,24 @@ use Rattle.std.specs.List.{AllZip, slice_get}
 use Rattle.std.proofs.lemmas.List.{take_more}
 use Rattle.std.proofs.lemmas.Option.{slice_get_read}
 use Rattle.serial_run.specs.Stations.{StartsController}
-use Rattle.serial_run.proofs.Distinct.{controller-member}
+use Rattle.plant_types.specs.declared.net.NetPlan.{NetPlan}
+use Rattle.plant_types.specs.Plans.{IsNetPlan}
+use Rattle.ring_core.specs.Legal.{IsMember}
+use Rattle.net_laws.proofs.On.{controller-at-on}
 use Rattle.serial_run.proofs.Lists.{zip-push}
 use Rattle.serial_run.proofs.stations.controllers_of.Goals as goal
+
+-- the plan of the place, and that its node is on its network
+pub controller_of-requires-clause-net : goal.controller_of-requires-clause-net
+controller_of-requires-clause-net c =
+    let items = c.as_slice-plan-items.result.now in
+    let at = c.loop-plan.plan-index in
+    let plan = c.plan-item.result in
+    let there : slice_get items at ≡ Some plan = slice_get_read items (length items) at plan refl
+    (omega arith) c.plan-item.is in
+    let on = controller-at-on c.args.plant.now at plan c.requires.plant.sound
+    (subst (λ l. slice_get l at ≡ Some plan) c.as_slice-plan-items.ensures there) in
+    subst IsNetPlan (sym on.is) on.sound
 
 pub controller_of-requires-clause-member : goal.controller_of-requires-clause-member
 controller_of-requires-clause-member c =
@@ -15,8 +30,9 @@ controller_of-requires-clause-member c =
     let plan = c.plan-item.result in
     let there : slice_get items at ≡ Some plan = slice_get_read items (length items) at plan refl
     (omega arith) c.plan-item.is in
-    controller-member c.args.plant.now c.requires.plant.sound at plan
-    (subst (λ l. slice_get l at ≡ Some plan) c.as_slice-plan-items.ensures there)
+    let on = controller-at-on c.args.plant.now at plan c.requires.plant.sound
+    (subst (λ l. slice_get l at ≡ Some plan) c.as_slice-plan-items.ensures there) in
+    subst (λ (net : NetPlan). IsMember net plan.node) (sym on.is) on.member
 
 pub loop-plan-preserved : goal.loop-plan-preserved
 loop-plan-preserved c =

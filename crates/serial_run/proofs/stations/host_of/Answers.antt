@@ -8,6 +8,6 @@ pub returns : goal.returns
 returns c =
     let is = c.in_ok-host.ensures in
     start-host c.args.plant.now c.args.plan.now c.in_ok-host.host c.in_ok-worker.worker
-    c.requires.plant.sound
+    c.requires.net
     c.requires.member (subst (λ (v : HostIs). IsHostHistory v.plan v.history) is
     c.history.ensures.legal) is c.in_ok-worker.ensures

@@ -30,6 +30,7 @@ returns c =
     record {
       stays = record {
         node = refl;
+        network = refl;
         worker = o.worker;
         fixed = fixed;
         legal = c.history.ensures.legal;

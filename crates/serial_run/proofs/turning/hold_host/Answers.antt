@@ -22,6 +22,7 @@ returns c =
     let plan_node = c.requires.stands.ties.node in
     record {
       node = refl;
+      network = refl;
       worker_node = node;
       budget = ap (λ k. k.budget) o.worker ∙ after-budget s.worker left;
       plan = o.step.plan;

@@ -61,6 +61,7 @@ returns c =
     record {
       stays = record {
         node = refl;
+        network = refl;
         worker = same_worker;
         fixed = fixed;
         legal = c.history.ensures.legal;

@@ -40,6 +40,7 @@ returns c =
     record {
       stays = record {
         node = refl;
+        network = refl;
         worker = same-worker s.worker c.visit_end.new.self o.worker;
         fixed = ap (λ side. side.fixed) o.step.station.same;
         legal = c.history.ensures.legal;
@@ -51,6 +52,7 @@ returns c =
       visit = subst (λ (b : Bool). VisitedWhere b s
           (record {
             node = s.node;
+            network = s.network;
             controller = c.visit_end.new.ram;
             worker = c.visit_end.new.self;
             left = s.left;

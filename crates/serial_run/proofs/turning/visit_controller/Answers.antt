@@ -9,6 +9,7 @@ returns c =
     record {
       stays = record {
         node = refl;
+        network = refl;
         worker = refl;
         fixed = refl;
         legal = c.history.ensures.legal;

@@ -11,31 +11,31 @@ visit_all-requires c =
     record {
       plant = r.plant;
       scans = r.scans;
-      all = c.in_ok-empty_ring.ensures.did.stand r.plant r.scans r.all;
+      all = c.in_ok-empty_rings.ensures.did.stand r.plant r.scans r.all;
     }
 
 pub returns-clause-did : goal.returns-clause-did
 returns-clause-did c =
     on-ok c.visit_all.result
-    (λ visits. all-finished c.args.self.now c.empty_ring.new.self c.visit_all.new.self
-    c.in_ok-empty_ring.ensures.did visits)
+    (λ visits. all-finished c.args.self.now c.empty_rings.new.self c.visit_all.new.self
+    c.in_ok-empty_rings.ensures.did visits)
     c.visit_all.ensures.visits
 
 pub returns-clause-scans : goal.returns-clause-scans
 returns-clause-scans c =
     on-ok c.visit_all.result
-    (λ scans. scans-both c.args.self.now c.empty_ring.new.self c.visit_all.new.self
-    c.in_ok-empty_ring.ensures.scans scans)
+    (λ scans. scans-both c.args.self.now c.empty_rings.new.self c.visit_all.new.self
+    c.in_ok-empty_rings.ensures.scans scans)
     c.visit_all.ensures.scans
 
 pub returns-clause-off : goal.returns-clause-off
 returns-clause-off c =
     on-ok c.visit_all.result
-    (λ stay. all-stay IsOffAway c.empty_ring.new.self c.visit_all.new.self stay
-    c.in_ok-empty_ring.ensures.off)
+    (λ stay. all-stay IsOffAway c.empty_rings.new.self c.visit_all.new.self stay
+    c.in_ok-empty_rings.ensures.off)
     c.visit_all.ensures.off
 
 pub returns-clause-left : goal.returns-clause-left
 returns-clause-left c =
-    on-ok c.visit_all.result (λ here. here ∙ c.in_ok-empty_ring.ensures.left)
+    on-ok c.visit_all.result (λ here. here ∙ c.in_ok-empty_rings.ensures.left)
     c.visit_all.ensures.here

@@ -1,5 +1,3 @@
-use Rattle.std.proofs.Common.{[], ap, ◌∙◌}
-use Rattle.plant_types.specs.declared.net.NetPlan.{NetPlan}
 use Rattle.serial_run.proofs.Starting.{start-all}
 use Rattle.serial_run.proofs.stations.Stations.new.Goals as goal
 
@@ -9,9 +7,8 @@ returns c =
     (record {
       controllers = c.in_ok-controllers.controllers;
       hosts = c.in_ok-hosts.hosts;
-      network = c.first_net-net.result.now.number;
-      ring = c.in_ok-ring.ring;
+      bridges = c.in_ok-bridges.bridges;
+      rings = c.in_ok-rings.rings;
     })
-    c.requires.plant.sound (ap (λ (net : NetPlan). net.number) c.first_net-net.ensures)
-    (c.in_ok-ring.ensures ∙ ap (λ (net : NetPlan). record { net = net; history = []; spare = 0 })
-    c.first_net-net.ensures) c.in_ok-controllers.ensures c.in_ok-hosts.ensures
+    c.requires.plant.sound c.in_ok-controllers.ensures c.in_ok-hosts.ensures
+    c.in_ok-bridges.ensures c.in_ok-rings.ensures

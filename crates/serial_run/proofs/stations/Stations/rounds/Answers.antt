@@ -11,7 +11,7 @@ pub loop-init : goal.loop-init
 loop-init c = record {
   did = no-rounds c.args.self.now;
   scans = scans-same c.args.self.now c.args.self.now refl;
-  off = stays-same IsOffAway c.args.self.now.ring c.args.self.now.controllers.items;
+  off = stays-same IsOffAway c.args.self.now.rings.items c.args.self.now.controllers.items;
 }
 
 pub round-requires : goal.round-requires

@@ -9,8 +9,8 @@ use Rattle.serial_run.proofs.stations.Stations.scan_all.Goals as goal
 pub loop-at-init : goal.loop-at-init
 loop-at-init c = record {
   hosts = refl;
-  network = refl;
-  ring = refl;
+  bridges = refl;
+  rings = refl;
   some = none-scanned
       c.args.self.now.controllers.items;
 }
@@ -41,8 +41,8 @@ loop-at-preserved c =
     let o = c.in_ok-scan.ensures in
     record {
       hosts = c.loop-at.invariant.hosts;
-      network = c.loop-at.invariant.network;
-      ring = c.loop-at.invariant.ring;
+      bridges = c.loop-at.invariant.bridges;
+      rings = c.loop-at.invariant.rings;
       some = one-more-scanned first c.loop-at.self.controllers.items at s t c.loop-at.invariant.some
           (omega (arith, less, end, size))
           c.index_mut.ensures.value (record
@@ -56,7 +56,9 @@ returns-clause-scans c =
     let end = c.len-at-end.ensures in
     let size = c.args.self.now.controllers.ok.0 in
     let i = c.loop-at.invariant in
-    scan-all-did c.args.self.now c.loop-at.self (ap (λ v. v.items) i.hosts) i.network i.ring
+    scan-all-did c.args.self.now c.loop-at.self (ap (λ v. v.items) i.hosts) (ap (λ v. v.items)
+    i.bridges)
+    (ap (λ v. v.items) i.rings)
     (everyone-scanned c.args.self.now.controllers.items c.loop-at.self.controllers.items
     c.loop-at.at (omega (arith, low, high, end, size)) i.some)
 

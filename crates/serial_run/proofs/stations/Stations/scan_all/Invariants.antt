@@ -5,7 +5,7 @@ use Rattle.serial_run.proofs.stations.Stations.scan_all.Given as goal
 abbrev pub invariant-loop-at : goal.invariant-loop-at
 invariant-loop-at l = record {
   hosts : l.self.hosts ≡ l.fn.self.hosts;
-  network : l.self.network ≡ l.fn.self.network;
-  ring : l.self.ring ≡ l.fn.self.ring;
+  bridges : l.self.bridges ≡ l.fn.self.bridges;
+  rings : l.self.rings ≡ l.fn.self.rings;
   some : SomeScanned l.fn.self.controllers.items l.self.controllers.items l.at;
 }

@@ -18,8 +18,8 @@ returns-in-Some c =
     let new : Stations = record {
       controllers = with_item run.controllers at t;
       hosts = run.hosts;
-      network = run.network;
-      ring = run.ring;
+      bridges = run.bridges;
+      rings = run.rings;
     } in
     on-ok c.make_step.result (λ made. step-did run new c.args.node at s w found.0 place refl refl
     refl refl made) c.make_step.ensures

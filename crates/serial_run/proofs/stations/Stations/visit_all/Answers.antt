@@ -8,7 +8,7 @@ use Rattle.serial_run.proofs.stations.Stations.visit_all.Goals as goal
 pub loop-at-init : goal.loop-at-init
 loop-at-init c = record {
   turns = no-turns Visit IsVisited c.args.self.now;
-  off = stays-same IsOffAway c.args.self.now.ring c.args.self.now.controllers.items;
+  off = stays-same IsOffAway c.args.self.now.rings.items c.args.self.now.controllers.items;
   here = refl;
 }
 

@@ -1,0 +1,5 @@
+pub mod Counts
+pub mod Worked
+pub mod Turn
+pub mod Inside
+pub mod Behind

@@ -1,0 +1,10 @@
+//! Ends of bridges in time: which entry of a bridge's list for one of its ends stands behind which
+//! entry of the end's node on its ring, and inside that list; and what keeps the two in time.
+#![tactic(auto)]
+
+mod laws;
+
+pub use laws::{
+    backs_follow_causes, bridges_keep_order, end_others_stay_in_time, end_turns_stay_in_time,
+    ends_start_in_time, forwards_follow_accepts,
+};

@@ -1,0 +1,6 @@
+mod Sums
+pub mod Members
+pub mod On
+pub mod Apart
+pub mod Standing
+pub mod Rings

@@ -1,8 +1,0 @@
-use Rattle.std.proofs.Common.{arith}
-use Rattle.time_judge.proofs.Rings.{entries-next}
-use Rattle.time_judge.proofs.judging.noted_copied.Goals as goal
-
-pub loop-ring-preserved : goal.loop-ring-preserved
-loop-ring-preserved c =
-    entries-next c.args.rings.now c.loop-ring.ring-index c.ring-item.result _ _ _ (omega arith)
-    c.ring-item.is c.loop-ring.invariant c.as_slice.ensures c.in_ok-add_copied.ensures
