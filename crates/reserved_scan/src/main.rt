@@ -90,7 +90,7 @@ fn main(rt: HostRuntime) -> Result<()> {
     let number = u32::from(word.as_str().parse::<u16>()?);
     ensure!(number <= MOST_SCANS, "a plant has 2000 scans");
     let file = io::read_to_string(alloc, rt.reader())?;
-    match load(alloc, Version::One, file.as_bytes()) {
+    match load(alloc, Version::Two, file.as_bytes()) {
         Ok(plant) => print_scans(&rt, alloc, &plant, number),
         Err(LoadEnd::Refused(..)) => Err(anyhow!("the plant is refused")),
         Err(LoadEnd::NoMemory) => Err(AllocError.into()),
