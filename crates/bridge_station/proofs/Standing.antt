@@ -119,7 +119,7 @@ end-begins n plan net budget end node sound member =
     record {
       ready = ready-new n (record { side = n; budget = budget }) false plan net refl end members
           member (omega (arith, from)) (ap is_in (member-there net n low member));
-      keeps = end-starts plan net n [] [] refl;
+      keeps = end-starts plan net n [] [] refl refl;
     }
 
 at-left : (n : ℕ) (s : BridgeStationIs) → (n == s.bridge.plan.left) ≡ true

@@ -3,4 +3,3 @@ mod MoreScans
 mod OneDue
 mod Runs
 mod Written
-mod Newer

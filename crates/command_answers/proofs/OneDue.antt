@@ -17,7 +17,8 @@ use Rattle.plant_loader.specs.Plant.{plant_of}
 use Rattle.plant_loader.specs.declared.tables.Version.TheVariants.{Two}
 use Rattle.plant_loader.proofs.LoadedLemmas.{IsLoaded, gives-loaded}
 use Rattle.joint_history.specs.declared.joint.Joint.{Joint}
-use Rattle.journal_text.specs.Fronts.{IsFront, IsJournal, IsLine, IsText, IsWrongLine, with_feed}
+use Rattle.journal_text.specs.Fronts.{IsFront, IsJournal, IsText, IsWrongLine}
+use Rattle.journal_lines.specs.Lines.{IsLine, with_feed}
 use Rattle.journal_text.specs.Laws.{OneHistoryOfAText}
 use Rattle.journal_text.proofs.StepGoes.{line_is}
 use Rattle.joint_law.specs.Agreement.{VerdictsAgree}

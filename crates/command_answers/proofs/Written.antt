@@ -4,7 +4,7 @@ use Rattle.std.specs.Prelude.{codes}
 use Rattle.plant_types.specs.declared.plan.Plant.{Plant}
 use Rattle.plant_loader.specs.Refusals.{Refusal}
 use Rattle.plant_loader.specs.Plant.{plant_of}
-use Rattle.plant_loader.specs.declared.tables.Version.TheVariants.{One, Two}
+use Rattle.plant_loader.specs.declared.tables.Version.TheVariants.{Two}
 use Rattle.joint_history.specs.declared.joint.Joint.{Joint}
 use Rattle.route_laws.specs.Effects.{EffectsAreRight}
 use Rattle.joint_law.specs.Spots.{IsWholeRun}
@@ -19,7 +19,6 @@ use Rattle.command_words.specs.declared.words.Task.TheVariants.{Trace, Check, Re
 use Rattle.command_answers.specs.Cut.{IsCut}
 use Rattle.command_answers.specs.Due.{Due, IsDue, IsDueOf, IsLiveDueOf, refused}
 use Rattle.command_answers.specs.OneDue.{OneDue}
-use Rattle.command_answers.proofs.Newer.{newer}
 use Rattle.command_answers.specs.Written.{IsAccepted, TellsOneRun, WrittenIsLegal, with_ok}
 
 -- a joint history of a whole run, and what is known of it
@@ -28,8 +27,8 @@ record Told (plant : Plant) (scans : ℕ) (joint : Joint) : Type 0 where
   effects : EffectsAreRight joint
   told : IsJournalOf joint (journal joint)
 
-check-due : (scans : ℕ) (file : List ℕ) (plant : Plant) (joint : Joint) → plant_of Two file ≡ Ok plant
-    → Told plant scans joint
+check-due : (scans : ℕ) (file : List ℕ) (plant : Plant) (joint : Joint)
+    → plant_of Two file ≡ Ok plant → Told plant scans joint
     → (input : List ℕ) → IsCut input file (journal joint)
     → IsDue (Do Check scans) input (with_ok (codes "legal\n"))
 check-due scans file plant joint loaded known input cut = record {
@@ -48,8 +47,8 @@ check-due scans file plant joint loaded known input cut = record {
       }));
 }
 
-replay-due : (scans : ℕ) (file : List ℕ) (plant : Plant) (joint : Joint) → plant_of Two file ≡ Ok plant
-    → Told plant scans joint
+replay-due : (scans : ℕ) (file : List ℕ) (plant : Plant) (joint : Joint)
+    → plant_of Two file ≡ Ok plant → Told plant scans joint
     → (input : List ℕ) → IsCut input file (journal joint)
     → IsDue (Do Replay scans) input (with_ok (panel plant joint))
 replay-due scans file plant joint loaded known input cut = record {
@@ -123,10 +122,10 @@ module _ (one : OneDue) (front : OneJournalInFront) (scans : ℕ) (file : List �
   of-trace behind (Ok plant) loaded (inr illegal) = let reads = illegal.reads_it in absurd cc
   of-trace behind (Err fault) loaded other = refused-not fault other
 
-  of-live : (read : Result Plant Refusal) → plant_of One file ≡ read → IsLiveDueOf scans read what
+  of-live : (read : Result Plant Refusal) → plant_of Two file ≡ read → IsLiveDueOf scans read what
       → TellsOneRun scans file what
   of-live (Ok plant) loaded shown =
-      tells-one one front scans file what plant shown.joint (newer file plant loaded)
+      tells-one one front scans file what plant shown.joint loaded
       (record { whole = shown.whole; effects = shown.effects; told = shown.told }) shown.text
   of-live (Err fault) loaded other = refused-not fault other
 
@@ -136,4 +135,4 @@ written-legal one front scans file what (inl traced) is =
     (subst (λ (input : List ℕ). IsDueOf (Do Trace scans) traced.behind (plant_of Two input) what)
     traced.parts.0 traced.due)
 written-legal one front scans file what (inr live) is =
-    of-live one front scans file what is (plant_of One file) refl live
+    of-live one front scans file what is (plant_of Two file) refl live

@@ -9,7 +9,7 @@ use Rattle.plant_types.specs.declared.plan.Plant.{Plant}
 use Rattle.plant_types.specs.Fault.{fault_text, place_text}
 use Rattle.plant_loader.specs.Refusals.{Refusal}
 use Rattle.plant_loader.specs.Plant.{plant_of}
-use Rattle.plant_loader.specs.declared.tables.Version.TheVariants.{One, Two}
+use Rattle.plant_loader.specs.declared.tables.Version.TheVariants.{Two}
 use Rattle.plant_gen.specs.Text.{plant_text}
 use Rattle.controller_core.specs.declared.fixed.Fixed.{Fixed}
 use Rattle.controller_core.specs.Controller.{IsLegal}
@@ -18,6 +18,7 @@ use Rattle.joint_history.specs.JointLaws.{fixed_of}
 use Rattle.joint_history.specs.Noted.{IsNoted}
 use Rattle.route_laws.specs.Effects.{EffectsAreRight}
 use Rattle.entry_causes.specs.Joint.{IsInOneOrder}
+use Rattle.end_times.specs.Joint.{AreBridgesInTime}
 use Rattle.turn_laws.specs.KeepsOn.{NoneSpent}
 use Rattle.serial_run.specs.Serial.{IsSerial}
 use Rattle.joint_law.specs.Spots.{IsWholeRun}
@@ -92,12 +93,14 @@ IsFile (Gen number scans) input file behind = (file ≡ plant_text number) × (b
 IsFile (Session node scans) input file behind = IsCutAtPort input file behind
 
 -- The joint history is that of the plant's serial run, and a complete run: legal, with the laws
--- between its lists kept, and complete; and the entries of each ring and of the stations on it have
--- one order in time, in which each stands behind its cause.
+-- between its lists kept, and complete; the entries of each ring and of the stations on it have one
+-- order in time, in which each stands behind its cause; and each bridge is in time with the nodes
+-- of its ends.
 pub record IsWholeSerialRun (plant : Plant) (scans : ℕ) (joint : Joint) : Type 0 where
   pub serial : IsSerial plant scans joint
   pub whole : IsWholeRun plant scans joint
   pub in_time : IsInOneOrder plant joint
+  pub bridges_in_time : AreBridgesInTime joint
 
 -- The joint history that a command is about: that of the journal, or of the serial run.
 abbrev pub IsHistory : Bool → Plant → ℕ → List ℕ → Joint → Type 0
@@ -200,13 +203,14 @@ pub record IsDue (command : Command) (input : List ℕ) (what : Due) : Type 0 wh
   pub due : IsDueOf command behind (plant_of Two file) what
 
 -- What is due for a live run of a plant: the journal and the panel of a complete run, in which no
--- node left because its Passes were spent, and in which the entries of each ring and of the stations
--- on it have one order in time, each behind its cause.
+-- node left because its Passes were spent, the entries of each ring and of the stations on it have
+-- one order in time, each behind its cause, and each bridge is in time with the nodes of its ends.
 pub record IsLiveShown (scans : ℕ) (plant : Plant) (what : Due) : Type 0 where
   pub joint : Joint
   pub whole : IsWholeRun plant scans joint
   pub unspent : NoneSpent (noted_on_rings joint)
   pub in_time : IsInOneOrder plant joint
+  pub bridges_in_time : AreBridgesInTime joint
   pub effects : EffectsAreRight joint
   pub told : IsJournalOf joint (journal joint)
   pub status : what.status ≡ ends.Ok
@@ -219,4 +223,4 @@ IsLiveDueOf scans (Err fault) what = what ≡ refused fault
 
 -- This status and this text are due for a live run of so many scans and an input.
 abbrev pub IsLiveDue : ℕ → List ℕ → Due → Type 0
-IsLiveDue scans input what = IsLiveDueOf scans (plant_of One input) what
+IsLiveDue scans input what = IsLiveDueOf scans (plant_of Two input) what

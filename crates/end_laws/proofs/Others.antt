@@ -1,20 +1,26 @@
 -- What comes between the turns of a bridge's end keeps what they keep.
-use Rattle.std.proofs.Common.{◌≡◌, true, false, ◌++◌, sym, ap, subst, ◌∙◌}
+use Rattle.std.proofs.Common.{◌≡◌, true, false, List, [], ◌++◌, refl, sym, ap, subst, ◌∙◌}
+use Rattle.std.proofs.Common.{append-nil}
+use Rattle.bridge_relay.specs.declared.entry.BridgeEntry.{BridgeEntry}
 use Rattle.bridge_relay.specs.Laws.{end_after}
 use Rattle.bridge_relay.specs.Machine.{RelayPath, none_out}
+use Rattle.ring_core.specs.declared.entry.RingEntry.{RingEntry}
 use Rattle.ring_core.specs.declared.status.NodeStatus.TheVariants.{Asking, Gone}
 use Rattle.std.specs.List.{list_all}
 use Rattle.std.specs.Prelude.{is_some, not}
 use Rattle.tied_lists.proofs.Turns.{membership-kept, own-found}
 use Rattle.bridge_port.proofs.Across.{across-stays}
 use Rattle.joint_history.specs.Complete.{LeavesQuietly}
+use Rattle.end_times.specs.EndTimes.{IsEndInTime}
+use Rattle.end_times.proofs.Turn.{others-in-time, starts-in-time}
 use Rattle.end_laws.specs.EndKeeps.{HasNoneOutSinceDone, IsQuietSinceDone}
 use Rattle.end_laws.specs.Laws.{EndOthersKeepOn, EndsAcrossKeepOn, EndsStartKeep}
 use Rattle.end_laws.proofs.Rows.{leaves-none, no-row, quiet-none}
 
--- a node that has no entry yet
+-- an end of which nothing stands in either list
 pub end-starts : EndsStartKeep
-end-starts plan net side list ring none = record {
+end-starts plan net side list ring none' none = record {
+  in_time = starts-in-time side list ring none' none;
   leaves = subst LeavesQuietly (sym none) leaves-none;
   quiet = λ stays. subst IsQuietSinceDone (sym none) quiet-none;
   none_out = λ stays. subst (HasNoneOutSinceDone plan list side) (sym none)
@@ -33,6 +39,8 @@ pub end-others : EndOthersKeepOn
 end-others plan net side list ring more left none k =
     let same = own-found side ring more none in
     record {
+      in_time = subst (λ (l : List BridgeEntry). IsEndInTime side l (ring ++ more))
+          (append-nil list) (others-in-time side list [] ring more refl none k.in_time);
       leaves = subst LeavesQuietly (sym same) k.leaves;
       quiet = λ stays. subst IsQuietSinceDone (sym same) (k.quiet stays);
       none_out = λ stays. subst (HasNoneOutSinceDone plan list side) (sym same) (k.none_out stays);
@@ -54,6 +62,8 @@ end-across plan net side list more ring left sound end legal none k =
     ≡ none_out (end_after plan list side) =
     ap (list_all (λ (path : RelayPath). not (is_some path.out))) stays.paths in
     record {
+      in_time = subst (λ (l : List RingEntry). IsEndInTime side (list ++ more) l)
+          (append-nil ring) (others-in-time side list more ring [] none refl k.in_time);
       leaves = k.leaves;
       quiet = k.quiet;
       none_out = λ here before between node words d.

@@ -33,6 +33,8 @@ use Rattle.bridge_port.specs.EndParts.{LeavesBridge, LeavesIf, are_some}
 use Rattle.bridge_port.specs.EndTurns.{EndTies}
 use Rattle.bridge_port.specs.Stands.{own_bridge}
 use Rattle.bridge_port.proofs.Across.{legal-front}
+use Rattle.end_times.specs.EndTimes.{IsEndInTime}
+use Rattle.end_times.proofs.Turn.{end-in-time}
 use Rattle.end_laws.specs.EndKeeps.{EndKeepsOn, IsQuietSinceDone}
 use Rattle.end_laws.specs.Laws.{EndTurnsKeepOn}
 use Rattle.end_laws.proofs.Parts.{EndWent, grew-same, grew-still, went-backs, went-forwards}
@@ -109,6 +111,9 @@ module _ (alone alone' : Bool) (plan : BridgePlan) (net : NetPlan) (n : ℕ) (bu
   abbrev posted : Bool
   posted = are_some t.forwards.part.noted
 
+  timely : IsEndInTime n new_list new_ring
+  timely = end-in-time alone alone' plan net n budget left list new_list ring new_ring t k.in_time
+
   -- up to the last entry
   went : EndWent alone alone' posted n list t.ends.asked_list ring t.ends.asked_ring
   went =
@@ -175,6 +180,7 @@ module _ (alone alone' : Bool) (plan : BridgePlan) (net : NetPlan) (n : ℕ) (bu
 
   passed : cause ≡ None → EndKeepsOn plan net n new_list new_ring false
   passed is = record {
+    in_time = timely;
     leaves = subst LeavesQuietly (sym own-is) (leaves-push (own n ring ++ went.done)
         (Pass n t.ends.done words) leaves-so (λ m bad. absurd cc));
     quiet = λ stays. subst IsQuietSinceDone (sym own-is) (quiet-at t.ends.done refl);
@@ -228,6 +234,7 @@ module _ (alone alone' : Bool) (plan : BridgePlan) (net : NetPlan) (n : ℕ) (bu
 
   parted : (why : LeaveCause) → cause ≡ Some why → EndKeepsOn plan net n new_list new_ring true
   parted why is = record {
+    in_time = timely;
     leaves = subst LeavesQuietly (sym own-is)
         (leaves-more ((own n ring ++ went.done) ++ Leave n why ∷ []) gives.done gives.adds.inner
         (leaves-push (own n ring ++ went.done) (Leave n why) leaves-so

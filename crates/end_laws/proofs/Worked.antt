@@ -6,6 +6,7 @@ use Rattle.plant_types.specs.declared.net.Fate.TheVariants.{D}
 use Rattle.plant_types.specs.declared.net.NetPlan.{NetPlan}
 use Rattle.mstr_block.specs.declared.call.CallId.{CallId}
 use Rattle.mstr_block.specs.declared.call.MstrResult.TheVariants.{Good}
+use Rattle.bridge_relay.specs.declared.entry.BridgeEntry.{BridgeEntry}
 use Rattle.bridge_relay.specs.declared.entry.BridgeEntry.TheVariants.{Gone}
 use Rattle.ring_core.specs.Statistics.{get_statistics}
 use Rattle.ring_core.specs.declared.frame.Frame.{Frame}
@@ -15,6 +16,10 @@ use Rattle.ring_core.specs.declared.entry.LocalOp.TheVariants.{RemoteGet}
 use Rattle.ring_core.specs.declared.entry.RingEntry.{RingEntry}
 use Rattle.ring_core.specs.declared.entry.RingEntry.TheVariants.{Post, Take, Local, Pass, Leave}
 use Rattle.joint_history.specs.Complete.{LeavesQuietly, SaysDone}
+use Rattle.one_order.specs.Merges.{Merged, AsNoted, AsDone}
+use Rattle.end_times.specs.EndCauses.{no_end_notes, no_end_deeds}
+use Rattle.end_times.specs.EndTimes.{IsEndInTime}
+use Rattle.end_times.proofs.Worked.{runs-by}
 use Rattle.end_laws.specs.EndKeeps.{EndKeepsOn, IsQuietSinceDone}
 use Rattle.end_laws.proofs.Rows.{each-all, leaves-more, leaves-none, leaves-push}
 use Rattle.end_laws.proofs.Rows.{quiet-more, quiet-none, quiet-push}
@@ -66,8 +71,17 @@ leaves-no = leaves-push (done ∷ answers) done
     (leaves-push [] done leaves-none (λ n is. absurd cc)))
     (λ n is. absurd cc)
 
+-- it answers at the port what it took for it
+answers-in-time : IsEndInTime 7 [] answered
+answers-in-time =
+    let w : List (Merged BridgeEntry RingEntry) =
+    AsDone done ∷ AsDone (Take 7 asks) ∷ AsDone (Local 7 call RemoteGet (Good []))
+    ∷ AsDone (Post 7 tells) ∷ AsDone done ∷ [] in
+    record { merge = w; noted = refl; done = refl; runs = runs-by no_end_notes no_end_deeds w refl }
+
 keeps : EndKeepsOn bridge net 7 [] answered false
 keeps = record {
+  in_time = answers-in-time;
   leaves = leaves-no;
   quiet = λ stays. is-quiet;
   none_out = λ stays before between node words d. refl;
@@ -79,8 +93,17 @@ abbrev left_ring : List RingEntry
 left_ring = done ∷ Take 7 asks ∷ Local 7 call RemoteGet (Good []) ∷ Post 7 tells ∷ done
     ∷ Leave 7 Ended ∷ []
 
+-- its bridge notes that it is gone behind that
+left-in-time : IsEndInTime 7 (Gone 7 ∷ []) left_ring
+left-in-time =
+    let w : List (Merged BridgeEntry RingEntry) =
+    AsDone done ∷ AsDone (Take 7 asks) ∷ AsDone (Local 7 call RemoteGet (Good []))
+    ∷ AsDone (Post 7 tells) ∷ AsDone done ∷ AsDone (Leave 7 Ended) ∷ AsNoted (Gone 7) ∷ [] in
+    record { merge = w; noted = refl; done = refl; runs = runs-by no_end_notes no_end_deeds w refl }
+
 keeps-left : EndKeepsOn bridge net 7 (Gone 7 ∷ []) left_ring true
 keeps-left = record {
+  in_time = left-in-time;
   leaves = leaves-push answered (Leave 7 Ended) leaves-no (λ n is. is-quiet);
   quiet = λ stays. absurd (let bad : true ≡ false = stays in cc);
   none_out = λ stays. absurd (let bad : true ≡ false = stays in cc);

@@ -12,6 +12,7 @@ use Rattle.ring_core.specs.declared.status.NodeStatus.TheVariants.{Gone}
 use Rattle.tied_lists.specs.Own.{own}
 use Rattle.tied_lists.specs.Waits.{status_at}
 use Rattle.joint_history.specs.Complete.{IsQuiet, SaysDone, LeavesQuietly, StandsIn}
+use Rattle.end_times.specs.EndTimes.{IsEndInTime}
 
 -- A list ends with an unbroken row of done Passes, which begins here.
 pub record EndsDone (list before : List RingEntry) (node : ℕ) (words : List ℕ)
@@ -37,10 +38,12 @@ pub record HasLeftForGood (plan : BridgePlan) (net : NetPlan) (side : ℕ) (list
   pub on_ring : status_at net ring side ≡ Gone
   pub none : none_out (end_after plan list side) ≡ true
 
--- What a complete run says of an end's Passes holds so far; as long as it has not left it was
--- quiet, and none of its calls was out, since it said done; where it left it left for good.
+-- An end is in time with its node, and what a complete run says of its Passes holds so far; as long
+-- as it has not left it was quiet, and none of its calls was out, since it said done; where it left
+-- it left for good.
 pub record EndKeepsOn (plan : BridgePlan) (net : NetPlan) (side : ℕ) (list : List BridgeEntry)
     (ring : List RingEntry) (left : Bool) : Type 0 where
+  pub in_time : IsEndInTime side list ring
   pub leaves : LeavesQuietly (own side ring)
   pub quiet : left ≡ false → IsQuietSinceDone (own side ring)
   pub none_out : left ≡ false → HasNoneOutSinceDone plan list side (own side ring)

@@ -13,13 +13,15 @@ use Rattle.comm_port.specs.HostStands.{own_side}
 use Rattle.bridge_port.specs.EndTurns.{EndTies}
 use Rattle.bridge_port.specs.EndParts.{HoldsEndTurn}
 use Rattle.bridge_port.specs.Stands.{own_bridge}
+use Rattle.joint_history.specs.Bridges.{made_at_end}
 use Rattle.joint_history.specs.Complete.{EndIsComplete}
 use Rattle.end_laws.specs.EndKeeps.{EndKeepsOn}
 
--- An end whose node has no entry yet has all that turns keep.
+-- An end of which nothing stands in either list has all that turns keep.
 abbrev pub EndsStartKeep : Type 0
 EndsStartKeep = (plan : BridgePlan) (net : NetPlan) (side : ℕ) (list : List BridgeEntry)
-    (ring : List RingEntry) → own side ring ≡ [] → EndKeepsOn plan net side list ring false
+    (ring : List RingEntry) → made_at_end side list ≡ [] → own side ring ≡ []
+    → EndKeepsOn plan net side list ring false
 
 -- A hold of the token by a bridge's end keeps it.
 abbrev pub EndTurnsKeepOn : Type 0

@@ -3,7 +3,7 @@
 ghost use Rattle.end_laws.specs.Laws.{EndsStartKeep, EndTurnsKeepOn, EndOthersKeepOn};
 ghost use Rattle.end_laws.specs.Laws.{EndsAcrossKeepOn, EndsComplete};
 
-/// An end whose node has no entry yet has all that turns keep.
+/// An end of which nothing stands in either list has all that turns keep.
 pub fn ends_start_keep()
     ensures { EndsStartKeep }
 {}

@@ -31,7 +31,7 @@ use Rattle.end_times.specs.Behind.{BackCause, OfCall, OfRefusal, OfUnsent}
 use Rattle.end_times.proofs.Counts.{none-caused}
 
 -- ---- the conditions as tests
-abbrev is-caused : EndNoted → EndDone → Bool
+abbrev pub is-caused : EndNoted → EndDone → Bool
 is-caused s d =
     leb s.accepted d.taken && (leb d.posted s.sent_on && (leb d.answered_port d.taken_port
     && (leb d.replies (s.given_back + d.answered_port)
@@ -53,12 +53,12 @@ caused-by s d is =
       goes = leb-true s.gone d.left g.1;
     }
 
-abbrev runs-test : EndNoted → EndDone → List (Merged BridgeEntry RingEntry) → Bool
+abbrev pub runs-test : EndNoted → EndDone → List (Merged BridgeEntry RingEntry) → Bool
 runs-test s d [] = true
 runs-test s d (AsNoted e ∷ w) = is-caused (end_note s e) d && runs-test (end_note s e) d w
 runs-test s d (AsDone r ∷ w) = is-caused s (end_deed d r) && runs-test s (end_deed d r) w
 
-runs-by : (s : EndNoted) (d : EndDone) (w : List (Merged BridgeEntry RingEntry))
+pub runs-by : (s : EndNoted) (d : EndDone) (w : List (Merged BridgeEntry RingEntry))
     → runs-test s d w ≡ true → Runs end_note end_deed AreEndCaused s d w
 runs-by s d [] is = tt
 runs-by s d (AsNoted e ∷ w) is =

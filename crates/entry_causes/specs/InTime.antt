@@ -1,4 +1,4 @@
--- Stations in time with their nodes, and the one order of all. This project's own.
+-- Stations in time with their nodes, and the order of a ring with its stations. This project's own.
 use Rattle.std.specs.Prelude.{◌≡◌, ◌↔◌, List, ◌∷◌}
 use Rattle.std.specs.List.{AllByRecursion as Each}
 use Rattle.controller_core.specs.declared.entry.Entry.{Entry}

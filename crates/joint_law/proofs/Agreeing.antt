@@ -32,21 +32,21 @@ use Rattle.joint_history.specs.Complete.{IsComplete}
 use Rattle.joint_history.specs.JointLaws.{IsJoint, IsLegalBridgeLog, IsLegalHostLog, IsLegalLog}
 use Rattle.joint_history.specs.JointLaws.{IsLegalRingLog, fixed_of}
 use Rattle.joint_history.specs.Nets.{noted_on_rings}
-use Rattle.joint_law.specs.Bound.{Bound, BreaksLaw, BreaksReplies, KeepsLaw, bounds_of}
-use Rattle.joint_law.specs.Bound.{controller_bound, host_bound, number_of, side_bounds}
-use Rattle.joint_law.specs.Differing.{BreaksAt, DifferAt}
-use Rattle.joint_law.specs.Failing.{AreFounded}
+use Rattle.station_laws.specs.Bound.{Bound, BreaksLaw, BreaksReplies, KeepsLaw, bounds_of}
+use Rattle.station_laws.specs.Bound.{controller_bound, host_bound, number_of, side_bounds}
+use Rattle.station_laws.specs.Differing.{BreaksAt, DifferAt}
+use Rattle.station_laws.specs.Failing.{AreFounded}
 use Rattle.joint_law.specs.Spots.{AreLegalBridgeLogs, AreLegalHostLogs, AreLegalLogs}
 use Rattle.joint_law.specs.Spots.{AreLegalRingLogs, BridgeSpot, ControllerSpot, HasSections}
 use Rattle.joint_law.specs.Spots.{HostSpot, IncompleteSpot, IsSpot, IsVerdict, LawSpot, RingSpot}
-use Rattle.joint_law.specs.declared.law.Law.{Law}
-use Rattle.joint_law.specs.declared.law.Law.TheVariants.{Asks, Answers, Replies, Ends, Downs}
+use Rattle.station_laws.specs.declared.law.Law.{Law}
+use Rattle.station_laws.specs.declared.law.Law.TheVariants.{Asks, Answers, Replies, Ends, Downs}
 use Rattle.joint_law.specs.declared.verdict.Spot.{Spot}
 use Rattle.joint_law.specs.declared.verdict.Spot.TheVariants as spots
 use Rattle.joint_law.specs.declared.verdict.Verdict.{Verdict}
 use Rattle.joint_law.specs.declared.verdict.Verdict.TheVariants.{Legal, Illegal}
 use Rattle.joint_law.proofs.CourseSteps.{same-size}
-use Rattle.joint_law.proofs.Founded.{founded-front}
+use Rattle.station_laws.proofs.Founded.{founded-front}
 use Rattle.joint_law.proofs.SideBounds.{side-nodes}
 use Rattle.joint_law.proofs.Verdicts.{bridge-front, complete-at, host-front, joint-keeps}
 use Rattle.joint_law.proofs.Verdicts.{kept-unbroken, legal-sections, no-break, ring-front}

@@ -38,25 +38,26 @@ use Rattle.joint_history.specs.Complete.{IsCompleteLog, LeavesQuietly, NodeIsCom
 use Rattle.joint_history.specs.JointLaws.{fixed_of}
 use Rattle.joint_history.specs.Nets.{noted_on_rings}
 use Rattle.joint_history.specs.Reading.{host_items_of, items_of}
+use Rattle.net_laws.specs.Standing.{status_by}
 use Rattle.net_laws.proofs.On.{IsOn, controller-on, host-on, left-on, right-on}
+use Rattle.net_laws.proofs.Standing.{is-gone}
 use Rattle.joint_law.specs.AllComplete.{AreControllersDone, AreEndsDoneOn, AreHostNodesDone}
 use Rattle.joint_law.specs.AllComplete.{IsControllerDone, IsEndDone, IsEndDoneOn, IsFollowed}
 use Rattle.joint_law.specs.AllComplete.{IsHostNodeDone, IsNodeDone, IsOutBy, IsStandingOf}
 use Rattle.joint_law.specs.AllComplete.{own_entries}
-use Rattle.joint_law.specs.Bound.{Bound, bounds_of, controller_bound, host_bound, side_bounds}
-use Rattle.joint_law.specs.Completing.{EachAllows, HostAllows}
-use Rattle.joint_law.specs.Failing.{is_fail}
+use Rattle.station_laws.specs.Bound.{Bound, bounds_of, controller_bound, host_bound, side_bounds}
+use Rattle.list_courses.specs.Completing.{EachAllows, HostAllows}
+use Rattle.station_laws.specs.Failing.{is_fail}
 use Rattle.joint_law.specs.Spots.{AreCompleteEndsAt, HasSections, IsCompleteAt}
-use Rattle.joint_law.specs.Standing.{status_by}
 use Rattle.joint_law.specs.declared.complete.Followed.{Followed}
 use Rattle.joint_law.specs.declared.complete.Standing.{Standing}
 use Rattle.joint_law.proofs.CourseSteps.{same-node, same-size, zip-all}
-use Rattle.joint_law.proofs.Fitting.{all-from, done-from, holds-from, host-each, node-each}
-use Rattle.joint_law.proofs.Fitting.{noticed-from, notices-ended, replies-from}
-use Rattle.joint_law.proofs.Founded.{fails-of, host-fails}
+use Rattle.list_courses.proofs.Fitting.{all-from, done-from, holds-from, host-each, node-each}
+use Rattle.list_courses.proofs.Fitting.{noticed-from, notices-ended, replies-from}
+use Rattle.station_laws.proofs.Founded.{fails-of, host-fails}
 use Rattle.joint_law.proofs.Outside.{out-by, out-from}
 use Rattle.joint_law.proofs.SideBounds.{sides-all}
-use Rattle.joint_law.proofs.Stands.{is-gone, stands-by}
+use Rattle.list_courses.proofs.Stands.{stands-by}
 
 -- ---- addresses
 

@@ -30,13 +30,13 @@ use Rattle.joint_history.specs.JointLaws.{IsLegalRingLog, fixed_of}
 use Rattle.joint_history.specs.Noted.{notes_by_log, notes_in}
 use Rattle.joint_history.specs.Reading.{host_items_of}
 use Rattle.joint_law.specs.AllCourses.{AreHostsDone, AreWholeCourses}
-use Rattle.joint_law.specs.Differing.{BreaksAt}
+use Rattle.station_laws.specs.Differing.{BreaksAt}
 use Rattle.joint_law.specs.Spots.{AreLegalBridgeLogs, AreLegalHostLogs, AreLegalLogs}
 use Rattle.joint_law.specs.Spots.{AreLegalRingLogs, BridgeSpot, ControllerSpot, HasSections}
 use Rattle.joint_law.specs.Spots.{HostSpot, RingSpot}
 use Rattle.joint_law.proofs.AtNodes.{item-of}
 use Rattle.joint_law.proofs.CourseSteps.{earlier-all, here-any, same-node, same-size, zip-all}
-use Rattle.joint_law.proofs.Lists.{take-push}
+use Rattle.station_laws.proofs.Lists.{take-push}
 
 -- ---- what holds of each so far, and of one more
 

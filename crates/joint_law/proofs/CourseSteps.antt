@@ -1,8 +1,6 @@
 -- Stations in their order.
-use Rattle.std.proofs.Common.{◌≡◌, ◌≢◌, ℕ, zero, suc, ◌+◌, ◌-◌, ◌<◌, ◌≤◌, Bool, true, false}
-use Rattle.std.proofs.Common.{List, [], ◌∷◌, ◌++◌, length, get_or, map, take}
+use Rattle.std.proofs.Common.{◌≡◌, ◌≢◌, ℕ, zero, suc, ◌<◌, ◌≤◌, List, [], ◌∷◌, length, get_or, map}
 use Rattle.std.proofs.Common.{refl, sym, ap, subst, ◌∙◌, ⊎_elim, arith}
-use Rattle.std.specs.Prelude.{◌↔◌}
 use Rattle.std.specs.List.{All, AllZip, Any, zip}
 use Rattle.std.specs.List.Sorted.{IsStrictlyIncreasing}
 use Rattle.std.proofs.Math.ListN.{get_or-map}
@@ -10,8 +8,6 @@ use Rattle.std.proofs.lemmas.Bool.{cases_eq, cases_lt}
 use Rattle.std.proofs.lemmas.List.{get_or_default, length-map}
 use Rattle.std.proofs.lemmas.List.Kept.{AllPairs-from_increasing}
 use Rattle.std.proofs.lemmas.Slice.Zip.{get_or-zip, length-zip}
-use Rattle.joint_law.specs.Differing.{BreaksAt}
-use Rattle.joint_law.proofs.Lists.{not-true, take-push}
 
 -- addresses of lists and of plans, in one order
 pub same-size : {P L : Type 0} (of-plan : P → ℕ) (node : L → ℕ) (plans : List P) (logs : List L)
@@ -118,18 +114,3 @@ zip-map R of-plan node same [] (h ∷ hs) all = absurd all
 zip-map R of-plan node same (q ∷ ps) [] all = absurd all
 zip-map R of-plan node same (q ∷ ps) (h ∷ hs) all =
     λ i. same q h all.0 i ∷ zip-map R of-plan node same ps hs all.1 i
-
--- an entry that may not follow makes a list no legal one
-pub follow-breaks : {E : Type 0} (Good : List E → Type 0) (entries past : List E) (place : ℕ)
-    (e : E) (may : Bool) → past ≡ take place entries → Good (take place entries)
-    → place < length entries → e ≡ get_or entries place e
-    → (may ≡ true) ↔ Good (past ++ e ∷ []) → may ≡ false → BreaksAt Good entries (place + 1)
-follow-breaks Good entries past place e may past-is legal low is told no' = record {
-  before =
-      let n : place + 1 - 1 ≡ place = omega arith in
-      subst (λ k. Good (take k entries)) (sym n) legal;
-  here = λ more.
-      let yes = told.1 (subst Good (take-push entries place e low is
-      ∙ ap (λ l. l ++ e ∷ []) (sym past-is)) more) in
-      not-true (sym no' ∙ yes);
-}

@@ -14,8 +14,8 @@ use Rattle.controller_core.specs.declared.entry.Entry.TheVariants as entries
 use Rattle.controller_core.specs.Replay.{ControllerState, apply, control_is_on, read_in, replay}
 use Rattle.controller_core.specs.Replay.{segment_solved, solved, start}
 use Rattle.joint_history.specs.Complete.{StaysOff}
+use Rattle.net_laws.proofs.Standing.{is-away, is-gone}
 use Rattle.joint_law.specs.AllComplete.{IsOutBy, powered_from, powered_next}
-use Rattle.joint_law.proofs.Stands.{is-away, is-gone}
 
 -- ---- power
 

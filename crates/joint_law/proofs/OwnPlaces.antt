@@ -6,7 +6,7 @@ use Rattle.ring_core.specs.declared.entry.RingEntry.{RingEntry}
 use Rattle.ring_core.specs.declared.entry.RingEntry.TheVariants.{Leave}
 use Rattle.own_places.specs.Places.{ArePlaces, node_numbers}
 use Rattle.own_places.proofs.Own.{entries-own, within}
-use Rattle.joint_law.specs.Picked.{AreOfNode}
+use Rattle.station_laws.specs.Picked.{AreOfNode}
 
 -- the places that were found for a node are those of its entries
 pub of-node : (whole ring : List RingEntry) (lists : List (List ℕ)) (places : List ℕ) (node : ℕ)

@@ -7,7 +7,7 @@ use Rattle.std.proofs.lemmas.List.Elements.{All-cons, All-head, All-nil, All-tai
 use Rattle.plant_types.specs.declared.net.BridgePlan.{BridgePlan}
 use Rattle.ring_core.specs.declared.entry.RingEntry.{RingEntry}
 use Rattle.joint_history.specs.declared.joint.BridgeLog.{BridgeLog}
-use Rattle.joint_law.specs.Bound.{Bound, side_bound, side_bounds}
+use Rattle.station_laws.specs.Bound.{Bound, side_bound, side_bounds}
 
 first-sides : (ring : List RingEntry) (log : BridgeLog) (logs : List BridgeLog)
     → flat_map (side_bounds ring) (log ∷ logs)

@@ -35,26 +35,27 @@ use Rattle.joint_history.specs.JointLaws.{IsLegalLog, IsLegalRingLog, IsTiedSide
 use Rattle.joint_history.specs.JointLaws.{IsTiedController, IsTiedHost, fixed_of}
 use Rattle.joint_history.specs.Nets.{noted_on_rings}
 use Rattle.joint_law.specs.AllComplete.{IsFirstIncomplete}
-use Rattle.joint_law.specs.Bound.{Bound, BreaksLaw, BreaksReplies, KeepsLaw, KeepsReplies}
-use Rattle.joint_law.specs.Bound.{bounds_of, controller_bound, host_bound, side_bound, side_bounds}
-use Rattle.joint_law.specs.Differing.{BreaksAt, DifferAt}
-use Rattle.joint_law.specs.Failing.{AreFounded}
+use Rattle.station_laws.specs.Bound.{Bound, BreaksLaw, BreaksReplies, KeepsLaw, KeepsReplies}
+use Rattle.station_laws.specs.Bound.{bounds_of, controller_bound, host_bound, side_bound}
+use Rattle.station_laws.specs.Bound.{side_bounds}
+use Rattle.station_laws.specs.Differing.{BreaksAt, DifferAt}
+use Rattle.station_laws.specs.Failing.{AreFounded}
 use Rattle.tied_lists.specs.Items.{ABridge, AController, AHost, Item, Items, Station, downs_by}
 use Rattle.tied_lists.specs.Own.{own}
 use Rattle.joint_history.specs.Bridges.{side_items}
 use Rattle.joint_law.specs.LawEnds.{AllKeep, IsFirstBreak, IsLawsEnd}
 use Rattle.joint_law.specs.Spots.{AreCompleteEndsAt, BridgeSpot, HasSections, IsCompleteAt}
 use Rattle.joint_law.specs.Spots.{IsFirstSpot, IsSpot, IsVerdict, IsWholeRun, RingSpot}
-use Rattle.joint_law.specs.declared.law.Law.{Law}
-use Rattle.joint_law.specs.declared.law.Law.TheVariants.{Asks, Answers, Replies, Ends, Downs}
+use Rattle.station_laws.specs.declared.law.Law.{Law}
+use Rattle.station_laws.specs.declared.law.Law.TheVariants.{Asks, Answers, Replies, Ends, Downs}
 use Rattle.joint_law.specs.declared.verdict.Spot.{Spot}
 use Rattle.joint_law.specs.declared.verdict.Spot.TheVariants as spots
 use Rattle.joint_law.specs.declared.verdict.Verdict.{Verdict}
 use Rattle.joint_law.specs.declared.verdict.Verdict.TheVariants.{Legal, Illegal}
 use Rattle.joint_law.proofs.AtNodes.{all-complete, bounds-low, first-part, second-part}
 use Rattle.joint_law.proofs.CourseSteps.{same-size, zip-at, zip-map}
-use Rattle.joint_law.proofs.LawSteps.{keeps-joined, same-backs}
-use Rattle.joint_law.proofs.Founded.{founded-front, founded-none, none-founded, side-fails}
+use Rattle.station_laws.proofs.LawSteps.{keeps-joined, same-backs}
+use Rattle.station_laws.proofs.Founded.{founded-front, founded-none, none-founded, side-fails}
 use Rattle.joint_law.proofs.SideBounds.{sides-all, sides-each}
 
 -- ---- sections

@@ -19,12 +19,12 @@ use Rattle.joint_history.specs.declared.joint.Joint.{Joint}
 use Rattle.joint_history.specs.Bridges.{side_items}
 use Rattle.joint_history.specs.Complete.{EndsEachCall, LeavesQuietly, is_scan_end}
 use Rattle.joint_history.specs.Reading.{host_items_of, items_of}
+use Rattle.net_laws.specs.Standing.{status_by}
 use Rattle.joint_law.specs.AllCourses.{AreDone, AreHostsDone}
-use Rattle.joint_law.specs.Completing.{EachAllows, HasNoticed, HostAllows, NodeAllows}
-use Rattle.joint_law.specs.Failing.{is_fail}
-use Rattle.joint_law.specs.Picked.{AreOfNode, picked}
+use Rattle.list_courses.specs.Completing.{EachAllows, HasNoticed, HostAllows, NodeAllows}
+use Rattle.station_laws.specs.Failing.{is_fail}
+use Rattle.station_laws.specs.Picked.{AreOfNode, picked}
 use Rattle.joint_law.specs.Spots.{IsCompleteAt}
-use Rattle.joint_law.specs.Standing.{status_by}
 use Rattle.joint_law.specs.declared.complete.Followed.{Followed}
 use Rattle.joint_law.specs.declared.complete.Standing.{Standing}
 

@@ -2,8 +2,8 @@
 use Rattle.std.specs.Prelude.{◌≡◌, ℕ, ◌+◌, ◌<◌, List, Option, Some, None}
 use Rattle.std.specs.List.{All, Any}
 use Rattle.ring_core.specs.Machine.{addresses}
-use Rattle.joint_law.specs.Bound.{Bound, BreaksLaw, KeepsLaw, number_of}
-use Rattle.joint_law.specs.declared.law.Law.{Law}
+use Rattle.station_laws.specs.Bound.{Bound, BreaksLaw, KeepsLaw, number_of}
+use Rattle.station_laws.specs.declared.law.Law.{Law}
 use Rattle.joint_law.specs.declared.verdict.Spot.{Spot}
 use Rattle.joint_law.specs.declared.verdict.Spot.TheVariants as spots
 

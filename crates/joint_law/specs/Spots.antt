@@ -22,9 +22,9 @@ use Rattle.joint_history.specs.Complete.{IsCompleteHostLog}
 use Rattle.joint_history.specs.JointLaws.{IsJoint, IsLegalBridgeLog, IsLegalHostLog, IsLegalJoint}
 use Rattle.joint_history.specs.JointLaws.{IsLegalLog, IsLegalRingLog, fixed_of, logged}
 use Rattle.joint_history.specs.Nets.{noted_on_rings}
-use Rattle.joint_law.specs.Bound.{Bound, BreaksLaw, KeepsLaw, bounds_of, number_of}
-use Rattle.joint_law.specs.Differing.{BreaksAt}
-use Rattle.joint_law.specs.declared.law.Law.{Law}
+use Rattle.station_laws.specs.Bound.{Bound, BreaksLaw, KeepsLaw, bounds_of, number_of}
+use Rattle.station_laws.specs.Differing.{BreaksAt}
+use Rattle.station_laws.specs.declared.law.Law.{Law}
 use Rattle.joint_law.specs.declared.verdict.Spot.{Spot}
 use Rattle.joint_law.specs.declared.verdict.Spot.TheVariants as spots
 use Rattle.joint_law.specs.declared.verdict.Verdict.{Verdict}

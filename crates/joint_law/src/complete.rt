@@ -8,22 +8,20 @@ ghost use Rattle.joint_law.specs.AllComplete.{IsNodeDone, IsOutBy, IsStandingOf,
 ghost use Rattle.joint_law.specs.AllComplete.{powered_from};
 ghost use Rattle.joint_law.specs.Spots.{HasSections, IsCompleteAt};
 ghost use Rattle.joint_law.specs.OnRings.{AreOnRings};
-ghost use Rattle.joint_law.specs.Picked.{AreWithin};
+ghost use Rattle.station_laws.specs.Picked.{AreWithin};
 ghost use Rattle.own_places.specs.Places.{ArePlaces};
 
-use crate::completing::{all_fit, all_fit_host, notices};
-use crate::ended::side_ends_each_call;
-use crate::failing::count_fails;
-use crate::following::count_scans;
-use crate::leaving::{has_gone, leaves_quietly};
 use crate::on_rings::OnRings;
-use crate::replying::{Replies, answers, host_answers};
-use crate::standing::status_by;
 use bridge_relay::BridgeEntry;
 use controller_core::Entry;
 use joint_history::{BridgeLog, ControllerLog, HostLog, Joint};
+use list_courses::{
+    all_fit, all_fit_host, count_scans, has_gone, leaves_quietly, notices, side_ends_each_call,
+    status_by,
+};
 use plant_types::{ADDRESSES, HostPlan, Plant};
 use ring_core::{NodeStatus, RingEntry};
+use station_laws::{Replies, answers, count_fails, host_answers};
 use std::alloc::{AllocError, Global};
 
 /// What following all lists has shown: which controllers and hosts were done.

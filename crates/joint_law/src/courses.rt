@@ -5,10 +5,11 @@ ghost use Rattle.joint_law.specs.Spots.{AreLegalBridgeLogs, AreLegalHostLogs, Ar
 ghost use Rattle.joint_law.specs.Spots.{CanBeJudged, HasSections};
 ghost use Rattle.joint_law.specs.AllCourses.{BridgesEnd, ControllersEnd, HostsEnd, RingsEnd};
 
-use crate::following::{ControllerCourse, Course, controller_course, follow_bridge, host_course};
-use crate::ring_following::follow_ring;
 use controller_core::Notes;
 use joint_history::Joint;
+use list_courses::{
+    ControllerCourse, Course, controller_course, follow_bridge, follow_ring, host_course,
+};
 use plant_types::{HostPlan, List, NetPlan, Plant};
 use std::alloc::{AllocError, Global};
 

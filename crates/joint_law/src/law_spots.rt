@@ -1,20 +1,19 @@
 //! The first law that is broken, and where.
 ghost use Rattle.std.specs.Prelude.{◌≡◌, ◌+◌, ◌^◌, ◌≤◌, ◌↔◌, IfOk, IsErr, flat_map, map};
-ghost use Rattle.joint_law.specs.Bound.{bounds_of, controller_bound, host_bound, number_of};
-ghost use Rattle.joint_law.specs.Bound.{side_bound, side_bounds};
+ghost use Rattle.station_laws.specs.Bound.{bounds_of, controller_bound, host_bound, number_of};
+ghost use Rattle.station_laws.specs.Bound.{side_bound, side_bounds};
 ghost use Rattle.joint_law.specs.LawEnds.{IsLawsEnd, IsLogEnd, IsLogsEnd, IsNodesEnd};
-ghost use Rattle.joint_law.specs.Picked.{AreOfNode};
+ghost use Rattle.station_laws.specs.Picked.{AreOfNode};
 ghost use Rattle.joint_history.specs.Nets.{noted_on_rings};
 ghost use Rattle.joint_law.specs.OnRings.{AreOnRings};
 
-use crate::law::Law;
 use crate::on_rings::{OnRings, only_entries};
-use crate::stations::{controller_breaks, host_breaks, side_breaks};
 use crate::verdict::Spot;
 use joint_history::{BridgeLog, ControllerLog, HostLog, Joint, noted_copied};
 use own_places::OwnPlaces;
 use plant_types::ADDRESSES;
 use ring_core::RingEntry;
+use station_laws::{Law, controller_breaks, host_breaks, side_breaks};
 use std::alloc::{AllocError, Global};
 
 fn number_of(law: Law) -> u8

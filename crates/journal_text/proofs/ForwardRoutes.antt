@@ -13,7 +13,7 @@ use Rattle.bridge_relay.specs.Legal.{IsBridgeHistory, IsBridgeStep, due_forward}
 use Rattle.bridge_relay.proofs.Legal.{forward_made}
 use Rattle.bridge_relay.proofs.Onward.{IsOnward, SendsOn, sends_on}
 use Rattle.bridge_relay.proofs.Parts.{all_steps}
-use Rattle.journal_text.specs.Journal.{IsPlainBridgeEntry}
+use Rattle.journal_lines.specs.Plain.{IsPlainBridgeEntry}
 
 -- the first of the requests that wait to go on has a route
 first_goes : (own : ℕ) (waiting : List Waiting) (item : Waiting)

@@ -17,17 +17,17 @@ use Rattle.bridge_relay.specs.declared.entry.BridgeEntry.TheVariants as bridge_e
 use Rattle.journal_text.specs.declared.section.Head.{Head}
 use Rattle.journal_text.specs.declared.section.Head.TheVariants as heads
 use Rattle.journal_text.specs.Journal.{ring_head}
-use Rattle.journal_text.specs.Sizes.{IsSmall}
-use Rattle.journal_text.specs.Reading.{behind, read_pair, read_small}
+use Rattle.journal_lines.specs.Sizes.{IsSmall}
+use Rattle.journal_reading.specs.Reading.{behind, read_pair, read_small}
 use Rattle.journal_text.specs.Drafts.{head_forms, numbered_ring, read_head, read_ring_head}
-use Rattle.journal_text.proofs.Ranges.{chosen, all_lie}
-use Rattle.journal_text.proofs.Cuts.{some_is, bind_some, none_some, text_is}
-use Rattle.journal_text.proofs.ReadLaws.{IsField, IsForm, two_fields, lie_in, form_of_field}
-use Rattle.journal_text.proofs.ReadLaws.{first_takes}
-use Rattle.journal_text.proofs.Numbers.{small_field}
-use Rattle.journal_text.proofs.StationLines.{entry_body, host_body}
-use Rattle.journal_text.proofs.BridgeLines.{bridge_body}
-use Rattle.journal_text.proofs.RingLines.{ring_body}
+use Rattle.journal_reading.proofs.Ranges.{chosen, all_lie}
+use Rattle.journal_reading.proofs.Cuts.{some_is, bind_some, none_some, text_is}
+use Rattle.journal_reading.proofs.ReadLaws.{IsField, IsForm, two_fields, lie_in, form_of_field}
+use Rattle.journal_reading.proofs.ReadLaws.{first_takes}
+use Rattle.journal_reading.proofs.Numbers.{small_field}
+use Rattle.journal_reading.proofs.StationLines.{entry_body, host_body}
+use Rattle.journal_reading.proofs.BridgeLines.{bridge_body}
+use Rattle.journal_reading.proofs.RingLines.{ring_body}
 
 abbrev pub head_body : Head → List ℕ
 head_body (heads.Controller node) = codes "C " ++ decimal node

@@ -50,9 +50,9 @@ use Rattle.joint_history.specs.JointLaws.{IsLegalLog, IsLegalHostLog, IsLegalBri
 use Rattle.joint_history.specs.JointLaws.{IsLegalRingLog, fixed_of}
 use Rattle.joint_history.specs.Reading.{called_of, controller_at, items_of, sort_of}
 use Rattle.joint_history.proofs.Collected.{CallLaws, collected-new}
-use Rattle.journal_text.specs.Journal.{IsPlainCall, IsPlainEntry, IsPlainFrame, IsPlainGot}
-use Rattle.journal_text.specs.Journal.{IsPlainBridgeEntry, IsPlainHostEntry, IsPlainKind}
-use Rattle.journal_text.specs.Journal.{IsPlainRing}
+use Rattle.journal_lines.specs.Plain.{IsPlainCall, IsPlainEntry, IsPlainFrame, IsPlainGot}
+use Rattle.journal_lines.specs.Plain.{IsPlainBridgeEntry, IsPlainHostEntry, IsPlainKind}
+use Rattle.journal_lines.specs.Plain.{IsPlainRing}
 use Rattle.journal_text.specs.Laws.{LegalIsPlain}
 use Rattle.journal_text.proofs.ForwardRoutes.{plain_bridge}
 

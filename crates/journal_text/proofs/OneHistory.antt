@@ -7,9 +7,9 @@ use Rattle.joint_history.specs.declared.joint.Joint.{Joint}
 use Rattle.journal_text.specs.declared.draft.Draft.{Draft}
 use Rattle.journal_text.specs.declared.draft.Draft.TheVariants as drafts
 use Rattle.journal_text.specs.Laws.{OneHistoryOfAText, OneJournalInFront}
-use Rattle.journal_text.specs.Reading.{cut}
+use Rattle.journal_reading.specs.Reading.{cut}
 use Rattle.journal_text.specs.Drafts.{ending, step}
-use Rattle.journal_text.proofs.Cuts.{some_is, cut_parts, cut_lacks, cut_line, shorter}
+use Rattle.journal_reading.proofs.Cuts.{some_is, cut_parts, cut_lacks, cut_line, shorter}
 use Rattle.journal_text.proofs.Sections.{IsHistory}
 use Rattle.journal_text.proofs.Steps.{history_of, Goes}
 use Rattle.journal_text.proofs.StepGoes.{step_goes}

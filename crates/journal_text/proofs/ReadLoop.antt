@@ -12,11 +12,11 @@ use Rattle.journal_text.specs.declared.fault.JournalFault.TheVariants.{Text, NoM
 use Rattle.journal_text.specs.declared.draft.Draft.{Draft}
 use Rattle.journal_text.specs.declared.draft.Draft.TheVariants as drafts
 use Rattle.journal_text.specs.Journal.{journal}
-use Rattle.journal_text.specs.Fronts.{IsJournalOf, IsFront, IsLine, with_feed, IsWrongLine, IsFault}
-use Rattle.journal_text.specs.Fronts.{GivesJoint}
-use Rattle.journal_text.specs.Reading.{cut}
+use Rattle.journal_text.specs.Fronts.{IsJournalOf, IsFront, IsWrongLine, IsFault, GivesJoint}
+use Rattle.journal_lines.specs.Lines.{IsLine, with_feed}
+use Rattle.journal_reading.specs.Reading.{cut}
 use Rattle.journal_text.specs.Drafts.{StopsAt, ReadsAt, ending, step}
-use Rattle.journal_text.proofs.Cuts.{some_is, none_some, cut_parts, cut_lacks}
+use Rattle.journal_reading.proofs.Cuts.{some_is, none_some, cut_parts, cut_lacks}
 use Rattle.journal_text.proofs.Sections.{IsHistory, section_text, sections_of, journal_is}
 use Rattle.journal_text.proofs.Steps.{history_of, journal_of, text_of, IsGood, good_front, Goes}
 use Rattle.journal_text.proofs.StepTakes.{step_adds}

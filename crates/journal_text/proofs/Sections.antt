@@ -22,9 +22,9 @@ use Rattle.journal_text.specs.Journal.{ring_section, journal}
 use Rattle.journal_text.specs.Drafts.{goes_before, head_of, no_sections, with_section}
 use Rattle.journal_text.proofs.Rising.{Rises}
 use Rattle.journal_text.proofs.Heads.{FitsHead}
-use Rattle.journal_text.proofs.StationLines.{IsEntry, IsHostEntry}
-use Rattle.journal_text.proofs.BridgeLines.{IsBridgeEntry}
-use Rattle.journal_text.proofs.RingLines.{IsRingEntry}
+use Rattle.journal_reading.proofs.StationLines.{IsEntry, IsHostEntry}
+use Rattle.journal_reading.proofs.BridgeLines.{IsBridgeEntry}
+use Rattle.journal_reading.proofs.RingLines.{IsRingEntry}
 
 -- a section that a journal can tell, and its text
 abbrev pub IsSection : Section → Type 0

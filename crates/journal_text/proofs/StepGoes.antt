@@ -13,20 +13,20 @@ use Rattle.journal_text.specs.declared.section.Section.{Section}
 use Rattle.journal_text.specs.declared.section.Section.TheVariants as sections
 use Rattle.journal_text.specs.declared.draft.Draft.{Draft}
 use Rattle.journal_text.specs.declared.draft.Draft.TheVariants as drafts
-use Rattle.journal_text.specs.Lines.{controller_line, host_line, bridge_line, ring_line}
+use Rattle.journal_lines.specs.Lines.{controller_line, host_line, bridge_line, ring_line, IsLine}
+use Rattle.journal_lines.specs.Lines.{with_feed}
 use Rattle.journal_text.specs.Journal.{ring_head, journal}
-use Rattle.journal_text.specs.Fronts.{IsLine, with_feed}
-use Rattle.journal_text.specs.Reading.{cut, read_as}
-use Rattle.journal_text.specs.Drafts.{read_head, head_of, new_section, no_sections}
-use Rattle.journal_text.specs.Drafts.{with_section, with_line, start_line, first_head, open_line}
-use Rattle.journal_text.specs.Drafts.{next_section, next_entry, inside_line, inside_step, step}
-use Rattle.journal_text.proofs.Ranges.{all_lie, lacks}
-use Rattle.journal_text.proofs.Cuts.{some_is, cut_line}
-use Rattle.journal_text.proofs.ReadLaws.{IsField}
-use Rattle.journal_text.proofs.StationLines.{entry_body, entry_ended, entry_field, host_body}
-use Rattle.journal_text.proofs.StationLines.{host_ended, host_field}
-use Rattle.journal_text.proofs.BridgeLines.{bridge_body, bridge_ended, bridge_field}
-use Rattle.journal_text.proofs.RingLines.{parts, ring_body, ring_ended, ring_field}
+use Rattle.journal_reading.specs.Reading.{cut, read_as}
+use Rattle.journal_text.specs.Drafts.{read_head, head_of, new_section, no_sections, with_section}
+use Rattle.journal_text.specs.Drafts.{with_line, start_line, first_head, open_line, next_section}
+use Rattle.journal_text.specs.Drafts.{next_entry, inside_line, inside_step, step}
+use Rattle.journal_reading.proofs.Ranges.{all_lie, lacks}
+use Rattle.journal_reading.proofs.Cuts.{some_is, cut_line}
+use Rattle.journal_reading.proofs.ReadLaws.{IsField}
+use Rattle.journal_reading.proofs.StationLines.{entry_body, entry_ended, entry_field, host_body}
+use Rattle.journal_reading.proofs.StationLines.{host_ended, host_field}
+use Rattle.journal_reading.proofs.BridgeLines.{bridge_body, bridge_ended, bridge_field}
+use Rattle.journal_reading.proofs.RingLines.{parts, ring_body, ring_ended, ring_field}
 use Rattle.journal_text.proofs.Heads.{head_body, head_field, head_no_end, IsEntryLine, entry_line}
 use Rattle.journal_text.proofs.Heads.{host_entry_line, bridge_entry_line, ring_entry_line}
 use Rattle.journal_text.proofs.Sections.{IsSection, section_text, head_fits, AreSections}

@@ -15,26 +15,24 @@ use Rattle.journal_text.specs.declared.section.Section.{Section}
 use Rattle.journal_text.specs.declared.section.Section.TheVariants as sections
 use Rattle.journal_text.specs.declared.draft.Draft.{Draft}
 use Rattle.journal_text.specs.declared.draft.Draft.TheVariants as drafts
-use Rattle.journal_text.specs.Lines.{controller_line, host_line, bridge_line, ring_line}
+use Rattle.journal_lines.specs.Lines.{controller_line, host_line, bridge_line, ring_line, with_feed}
 use Rattle.journal_text.specs.Journal.{ring_head, journal}
-use Rattle.journal_text.specs.Fronts.{with_feed}
-use Rattle.journal_text.specs.Reading.{read_as}
+use Rattle.journal_reading.specs.Reading.{read_as}
 use Rattle.journal_text.specs.Drafts.{read_head, head_of, new_section, goes_before, no_sections}
 use Rattle.journal_text.specs.Drafts.{with_section, with_line, start_line, first_head, open_line}
 use Rattle.journal_text.specs.Drafts.{headed, next_section, next_entry, inside_line, inside_step}
 use Rattle.journal_text.specs.Drafts.{step}
-use Rattle.journal_text.proofs.Ranges.{chosen}
-use Rattle.journal_text.proofs.Cuts.{some_is, bind_some, none_some, text_is}
-use Rattle.journal_text.proofs.ReadLaws.{IsField}
-use Rattle.journal_text.proofs.StationLines.{IsEntry, IsHostEntry, entry_ended}
-use Rattle.journal_text.proofs.StationLines.{entry_field, host_ended, host_field}
-use Rattle.journal_text.proofs.BridgeLines.{IsBridgeEntry, bridge_ended}
-use Rattle.journal_text.proofs.BridgeLines.{bridge_field}
-use Rattle.journal_text.proofs.RingLines.{IsRingEntry, parts, ring_ended, ring_field}
+use Rattle.journal_reading.proofs.Ranges.{chosen}
+use Rattle.journal_reading.proofs.Cuts.{some_is, bind_some, none_some, text_is}
+use Rattle.journal_reading.proofs.ReadLaws.{IsField}
+use Rattle.journal_reading.proofs.StationLines.{IsEntry, IsHostEntry, entry_ended, entry_field}
+use Rattle.journal_reading.proofs.StationLines.{host_ended, host_field}
+use Rattle.journal_reading.proofs.BridgeLines.{IsBridgeEntry, bridge_ended, bridge_field}
+use Rattle.journal_reading.proofs.RingLines.{IsRingEntry, parts, ring_ended, ring_field}
 use Rattle.journal_text.proofs.Heads.{FitsHead, head_body, head_field}
-use Rattle.journal_text.proofs.Sections.{IsSection, section_text, AreSections, are_more}
-use Rattle.journal_text.proofs.Sections.{same_last, last_is, sections_of, pushed}
-use Rattle.journal_text.proofs.Sections.{history_of_sections, no_history, journal_is}
+use Rattle.journal_text.proofs.Sections.{IsSection, section_text, AreSections, are_more, same_last}
+use Rattle.journal_text.proofs.Sections.{last_is, sections_of, pushed, history_of_sections}
+use Rattle.journal_text.proofs.Sections.{no_history, journal_is}
 use Rattle.journal_text.proofs.Steps.{text_of, IsGood}
 
 -- a list of texts with one more

@@ -12,19 +12,20 @@ use Rattle.journal_text.specs.declared.section.Section.{Section}
 use Rattle.journal_text.specs.declared.section.Section.TheVariants as sections
 use Rattle.journal_text.specs.declared.draft.Draft.{Draft}
 use Rattle.journal_text.specs.declared.draft.Draft.TheVariants as drafts
-use Rattle.journal_text.specs.Journal.{IsPlainEntry, IsPlainHostEntry, IsPlainBridgeEntry}
-use Rattle.journal_text.specs.Journal.{IsPlainRing, IsPlain, journal}
-use Rattle.journal_text.specs.Sizes.{FitsEntry, FitsHostEntry, FitsBridgeEntry, FitsRingEntry}
+use Rattle.journal_lines.specs.Plain.{IsPlainEntry, IsPlainHostEntry, IsPlainBridgeEntry}
+use Rattle.journal_lines.specs.Plain.{IsPlainRing}
+use Rattle.journal_text.specs.Journal.{IsPlain, journal}
+use Rattle.journal_lines.specs.Sizes.{FitsEntry, FitsHostEntry, FitsBridgeEntry, FitsRingEntry}
 use Rattle.journal_text.specs.Sizes.{FitsLog, FitsHostLog, FitsBridgeLog, FitsRingLog, FitsJoint}
-use Rattle.journal_text.specs.Fronts.{IsFront, IsJournalOf, with_feed}
+use Rattle.journal_text.specs.Fronts.{IsFront, IsJournalOf}
+use Rattle.journal_lines.specs.Lines.{with_feed}
 use Rattle.journal_text.specs.Drafts.{no_sections, with_line, with_section}
 use Rattle.journal_text.proofs.Rising.{rises_at, rises_by}
 use Rattle.journal_text.proofs.Heads.{IsEntryLine}
-use Rattle.journal_text.proofs.Ranges.{all_lie}
+use Rattle.journal_reading.proofs.Ranges.{all_lie}
 use Rattle.journal_text.proofs.Sections.{IsSection, section_text, AreSections, sections_of}
 use Rattle.journal_text.proofs.Sections.{with_sections, controller_node, host_node, left_end}
-use Rattle.journal_text.proofs.Sections.{ring_number, IsHistory, no_history}
-use Rattle.journal_text.proofs.Sections.{told_of, journal_is}
+use Rattle.journal_text.proofs.Sections.{ring_number, IsHistory, no_history, told_of, journal_is}
 
 -- parts of a list with a fact on each
 module _ {X : Type 0} (P Q : X → Type 0) where

@@ -19,9 +19,9 @@ use Rattle.journal_text.specs.declared.section.Section.{Section}
 use Rattle.journal_text.specs.declared.section.Section.TheVariants as sections
 use Rattle.journal_text.specs.declared.draft.Draft.{Draft}
 use Rattle.journal_text.specs.declared.draft.Draft.TheVariants as drafts
-use Rattle.journal_text.specs.Reading.{◌>>=◌, Form, read_first, read_as, read_pair, read_small}
-use Rattle.journal_text.specs.ReadLines.{read_entry, read_host_entry, read_bridge_entry}
-use Rattle.journal_text.specs.ReadLines.{read_ring_entry}
+use Rattle.journal_reading.specs.Reading.{◌>>=◌, Form, read_first, read_as, read_pair, read_small}
+use Rattle.journal_reading.specs.ReadLines.{read_entry, read_host_entry, read_bridge_entry}
+use Rattle.journal_reading.specs.ReadLines.{read_ring_entry}
 
 -- The line that begins a section: network 0 has no number there.
 abbrev pub read_bridge_head : List ℕ → Option Head

@@ -1,9 +1,9 @@
 -- Which bytes are a journal, which begin one, and which line is the first wrong one. This project's
 -- own.
-use Rattle.std.specs.Prelude.{◌≡◌, ◌≢◌, ℕ, ◌+◌, ◌-◌, ◌^◌, min, List, [], ◌∷◌, ◌++◌, length, Result}
-use Rattle.std.specs.Prelude.{Ok, Err}
+use Rattle.std.specs.Prelude.{◌≡◌, ℕ, ◌+◌, ◌-◌, ◌^◌, min, List, ◌++◌, length, Result, Ok, Err}
 use Rattle.std.specs.List.{All, flat_map}
 use Rattle.joint_history.specs.declared.joint.Joint.{Joint}
+use Rattle.journal_lines.specs.Lines.{IsLine, with_feed}
 use Rattle.journal_text.specs.declared.fault.JournalFault.{JournalFault}
 use Rattle.journal_text.specs.declared.fault.JournalFault.TheVariants.{Text, NoMemory}
 use Rattle.journal_text.specs.Journal.{IsPlain, journal}
@@ -22,16 +22,6 @@ IsJournal bytes = (joint : Joint) × IsJournalOf joint bytes
 
 abbrev pub IsFront : List ℕ → Type 0
 IsFront bytes = (rest : List ℕ) × IsJournal (bytes ++ rest)
-
--- A line has no line feed but the one behind it.
-abbrev pub line_feed : ℕ
-line_feed = 10
-
-abbrev pub IsLine : List ℕ → Type 0
-IsLine line = All (λ byte. byte ≢ line_feed) line
-
-abbrev pub with_feed : List ℕ → List ℕ
-with_feed line = line ++ line_feed ∷ []
 
 -- The first wrong line of bytes, counted from 1: a journal begins with the lines before it, and
 -- with them and it begins none. A line that no line feed ends, where the bytes end, is answered

@@ -1,9 +1,5 @@
-pub mod Fields
-pub mod Lines
 pub mod Journal
 pub mod Laws
 pub mod Sizes
 pub mod Fronts
-pub mod Reading
-pub mod ReadLines
 pub mod Drafts

@@ -1,13 +1,13 @@
 //! A journal that is read line by line.
 ghost use Rattle.std.specs.Prelude.{◌≡◌, Some};
-ghost use Rattle.journal_text.specs.Reading.{Reads};
+ghost use Rattle.journal_reading.specs.Reading.{Reads};
 ghost use Rattle.journal_text.specs.Drafts.{first_head, inside_line, inside_step, next_entry};
 ghost use Rattle.journal_text.specs.Drafts.{next_section, no_sections, open_line, start_line, step};
 ghost use Rattle.journal_text.specs.Drafts.{with_section};
 
-use crate::cutting::{LineFault, is_text};
 use crate::section::{Head, Section, goes_before, read_head};
 use joint_history::Joint;
+use journal_reading::{LineFault, is_text};
 use plant_types::List;
 use std::alloc::Global;
 

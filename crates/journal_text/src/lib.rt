@@ -1,25 +1,13 @@
 //! The journal: a joint history as a text that a stranger can check. This project's own.
 #![tactic(auto)]
 
-mod bridge_read;
-mod bridges;
-mod calls_read;
-mod controllers;
-mod cutting;
 mod draft;
 mod fault;
-mod fields;
-mod hosts;
 mod laws;
 mod plain;
 mod reading;
-mod ring_read;
-mod rings;
-mod routes_read;
 mod section;
 mod sizes;
-mod stations_read;
-mod words_read;
 mod writing;
 
 pub use fault::JournalFault;

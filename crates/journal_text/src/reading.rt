@@ -4,10 +4,10 @@ ghost use Rattle.joint_history.specs.declared.joint.Joint.{Joint as History};
 ghost use Rattle.journal_text.specs.Fronts.{GivesJoint, IsFault, IsJournalOf};
 ghost use Rattle.journal_text.specs.Drafts.{ReadsAt, ending, step};
 
-use crate::cutting::{LineFault, parted};
 use crate::draft::{Draft, step};
 use crate::fault::JournalFault;
 use joint_history::Joint;
+use journal_reading::{LineFault, parted};
 use std::alloc::Global;
 
 /// The number of a line as a fault tells it.

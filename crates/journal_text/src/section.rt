@@ -1,17 +1,17 @@
 //! The sections of a journal that are read.
 ghost use Rattle.std.specs.Prelude.{◌≡◌, ◌==◌, None, Some, if◌then◌else◌};
 ghost use Rattle.journal_text.specs.declared.section.Head.TheVariants as heads;
-ghost use Rattle.journal_text.specs.Reading.{Reads, read_as, read_small};
+ghost use Rattle.journal_reading.specs.Reading.{Reads, read_as, read_small};
 ghost use Rattle.journal_text.specs.Drafts.{goes_before, head_of, new_bridge_log, new_host_log};
 ghost use Rattle.journal_text.specs.Drafts.{new_log, new_ring_log, new_section, numbered_ring};
 ghost use Rattle.journal_text.specs.Drafts.{read_bridge_head, read_head, read_ring_head, with_line};
 ghost use Rattle.journal_text.specs.declared.section.Section.TheVariants as sections;
 
-use crate::bridge_read::read_bridge_entry;
-use crate::cutting::{LineFault, behind, cut, is_text, read_small};
-use crate::ring_read::read_ring_entry;
-use crate::stations_read::{read_entry, read_host_entry};
 use joint_history::{BridgeLog, ControllerLog, HostLog, RingLog};
+use journal_reading::{
+    LineFault, behind, cut, is_text, read_bridge_entry, read_entry, read_host_entry,
+    read_ring_entry, read_small,
+};
 use plant_types::List;
 use std::alloc::Global;
 

@@ -1,159 +1,18 @@
 //! That a joint history has numbers and lists of its types. A call made for the prover alone.
 ghost use Rattle.std.specs.Prelude.{All};
-ghost use Rattle.bridge_relay.specs.declared.entry.BridgeEntry.TheVariants as bridge_entries;
-ghost use Rattle.journal_text.specs.Sizes.{AreWords, FitsAnswer, FitsCall, FitsCause, FitsEntry};
-ghost use Rattle.journal_text.specs.Sizes.{FitsBridgeEntry, FitsBridgeLog, FitsFrame, FitsRelay};
-ghost use Rattle.journal_text.specs.Sizes.{FitsHostEntry, FitsHostLog, FitsJoint, FitsKind};
-ghost use Rattle.journal_text.specs.Sizes.{FitsLog, FitsOp, FitsResult, FitsRingEntry, FitsRingLog};
-ghost use Rattle.journal_text.specs.Sizes.{AreBlockWords, IsId, IsLong, IsPdu, IsRoute, IsSmall};
-ghost use Rattle.journal_text.specs.Sizes.{IsWord};
+ghost use Rattle.journal_text.specs.Sizes.{FitsBridgeLog, FitsHostLog, FitsJoint, FitsLog};
+ghost use Rattle.journal_text.specs.Sizes.{FitsRingLog};
 
-use bridge_relay::{BridgeEntry, RelayResult};
-use controller_core::{Call, CallKind, Entry};
-use host_port::{HostEntry, HostResult};
 use joint_history::{BridgeLog, ControllerLog, HostLog, Joint, RingLog};
-use mstr_block::{CallId, MstrResult};
-use plant_types::{Block, Pdu, Route};
-use ring_core::{Frame, LeaveCause, LocalOp, RingEntry};
-
-fn small(number: u8)
-    ensures { IsSmall number }
-{}
-
-fn word(number: u16)
-    ensures { IsWord number }
-{}
-
-fn long(number: u32)
-    ensures { IsLong number }
-{}
-
-fn bytes(bytes: &[u8])
-    ensures { All IsSmall bytes.now }
-{}
-
-fn words(words: &[u16])
-    ensures { AreWords words.now }
-{}
-
-fn pdu(pdu: &Pdu)
-    ensures { IsPdu pdu.now }
-{
-    bytes(pdu.bytes());
-}
-
-fn way(route: Route)
-    ensures { IsRoute route }
-{
-    bytes(route.addresses());
-}
-
-fn block(block: &Block)
-    ensures { AreBlockWords block.now }
-{
-    words(block.words());
-}
-
-fn name(id: CallId)
-    ensures { IsId id }
-{
-    small(id.node);
-    small(id.path);
-    long(id.seq);
-}
-
-fn op(op: &LocalOp)
-    ensures { FitsOp op.now }
-{
-    match op {
-        LocalOp::PutGlobal(global) => words(global.words()),
-        LocalOp::GetGlobal { node, length } => {
-            small(*node);
-            word(*length);
-        }
-        LocalOp::GetStats | LocalOp::ClearStats | LocalOp::RemoteGet | LocalOp::RemoteClear => {}
-    }
-}
-
-fn outcome(outcome: &MstrResult)
-    ensures { FitsResult outcome.now }
-{
-    match outcome {
-        MstrResult::Good(told) => block(told),
-        MstrResult::Bad(told) => word(*told),
-    }
-}
-
-fn kind(kind: &CallKind)
-    ensures { FitsKind kind.now }
-{
-    match kind {
-        CallKind::Net {
-            route,
-            pdu: request,
-        } => {
-            way(*route);
-            pdu(request);
-        }
-        CallKind::Local(local) => op(local),
-    }
-}
-
-fn call(call: &Call)
-    ensures { FitsCall call.now }
-{
-    name(call.id);
-    kind(&call.kind);
-}
-
-fn calls(calls: &[Call])
-    ensures { All FitsCall calls.now }
-{
-    for at in 0..calls.len() {
-        call(&calls[at]);
-    }
-}
-
-fn entry(entry: &Entry)
-    ensures { FitsEntry entry.now }
-{
-    match entry {
-        Entry::Begin | Entry::End | Entry::Fail | Entry::Dark => {}
-        Entry::Input(row) | Entry::Solve(row) => word(*row),
-        Entry::Output { row, words } => {
-            word(*row);
-            block(words);
-        }
-        Entry::Collect(made) => calls(made.as_slice()),
-        Entry::Peer { id, request, reply } => {
-            name(*id);
-            pdu(request);
-            pdu(reply);
-        }
-        Entry::Off { id, request } => {
-            name(*id);
-            pdu(request);
-        }
-        Entry::Finish { id, result } => {
-            name(*id);
-            outcome(result);
-        }
-    }
-}
-
-fn entries(entries: &[Entry])
-    ensures { All FitsEntry entries.now }
-{
-    for at in 0..entries.len() {
-        entry(&entries[at]);
-    }
-}
+use journal_lines::{
+    bridge_entries_fit, entries_fit, host_entries_fit, ring_entries_fit, small_fits,
+};
 
 fn log(log: &ControllerLog)
     ensures { FitsLog log.now }
 {
-    small(log.node);
-    entries(log.entries.as_slice());
+    small_fits(log.node);
+    entries_fit(log.entries.as_slice());
 }
 
 fn logs(logs: &[ControllerLog])
@@ -164,53 +23,11 @@ fn logs(logs: &[ControllerLog])
     }
 }
 
-fn answer(answer: &HostResult)
-    ensures { FitsAnswer answer.now }
-{
-    match answer {
-        HostResult::Reply(reply) => pdu(reply),
-        HostResult::Bad(told) => word(*told),
-    }
-}
-
-fn host_entry(entry: &HostEntry)
-    ensures { FitsHostEntry entry.now }
-{
-    match entry {
-        HostEntry::Ask {
-            id,
-            route,
-            pdu: request,
-        } => {
-            name(*id);
-            way(*route);
-            pdu(request);
-        }
-        HostEntry::Answer { id, result } => {
-            name(*id);
-            answer(result);
-        }
-        HostEntry::Served { id, request, reply } => {
-            name(*id);
-            pdu(request);
-            pdu(reply);
-        }
-    }
-}
-
-fn host_entries(entries: &[HostEntry])
-    ensures { All FitsHostEntry entries.now }
-{
-    for at in 0..entries.len() {
-        host_entry(&entries[at]);
-    }
-}
-
 fn host_log(log: &HostLog)
     ensures { FitsHostLog log.now }
 {
-    small(log.node);
-    host_entries(log.entries.as_slice());
+    small_fits(log.node);
+    host_entries_fit(log.entries.as_slice());
 }
 
 fn host_logs(logs: &[HostLog])
@@ -221,75 +38,12 @@ fn host_logs(logs: &[HostLog])
     }
 }
 
-fn relay(outcome: &RelayResult)
-    ensures { FitsRelay outcome.now }
-{
-    match outcome {
-        RelayResult::Reply(reply) => pdu(reply),
-        RelayResult::Bad(told) => word(*told),
-    }
-}
-
-fn forward(side: u8, old: CallId, id: CallId, route: Route, request: &Pdu)
-    ensures { FitsBridgeEntry (bridge_entries.Forward side old id route request.now) }
-{
-    small(side);
-    name(old);
-    name(id);
-    way(route);
-    pdu(request);
-}
-
-fn bridge_entry(entry: &BridgeEntry)
-    ensures { FitsBridgeEntry entry.now }
-{
-    match entry {
-        BridgeEntry::Accept {
-            side,
-            id,
-            route,
-            request,
-        } => {
-            small(*side);
-            name(*id);
-            way(*route);
-            pdu(request);
-        }
-        BridgeEntry::Forward {
-            side,
-            old,
-            id,
-            route,
-            request,
-        } => forward(*side, *old, *id, *route, request),
-        BridgeEntry::Finish { side, id, result } => {
-            small(*side);
-            name(*id);
-            relay(result);
-        }
-        BridgeEntry::Back { side, id, reply } => {
-            small(*side);
-            name(*id);
-            pdu(reply);
-        }
-        BridgeEntry::Gone { side } => small(*side),
-    }
-}
-
-fn bridge_entries(entries: &[BridgeEntry])
-    ensures { All FitsBridgeEntry entries.now }
-{
-    for at in 0..entries.len() {
-        bridge_entry(&entries[at]);
-    }
-}
-
 fn bridge_log(log: &BridgeLog)
     ensures { FitsBridgeLog log.now }
 {
-    small(log.left);
-    small(log.right);
-    bridge_entries(log.entries.as_slice());
+    small_fits(log.left);
+    small_fits(log.right);
+    bridge_entries_fit(log.entries.as_slice());
 }
 
 fn bridge_logs(logs: &[BridgeLog])
@@ -300,76 +54,11 @@ fn bridge_logs(logs: &[BridgeLog])
     }
 }
 
-fn frame(frame: &Frame)
-    ensures { FitsFrame frame.now }
-{
-    small(frame.to);
-    way(frame.rest);
-    name(frame.id);
-    pdu(&frame.pdu);
-}
-
-fn cause(cause: LeaveCause)
-    ensures { FitsCause cause }
-{
-    match cause {
-        LeaveCause::Ended | LeaveCause::Spent => {}
-        LeaveCause::Down(number) => long(number),
-    }
-}
-
-fn ring_entry(entry: &RingEntry)
-    ensures { FitsRingEntry entry.now }
-{
-    match entry {
-        RingEntry::Post { node, frame: sent } | RingEntry::Take { node, frame: sent } => {
-            small(*node);
-            frame(sent);
-        }
-        RingEntry::Send { node, .. } | RingEntry::Join { node } => small(*node),
-        RingEntry::Local {
-            node,
-            id,
-            op: local,
-            result,
-        } => {
-            small(*node);
-            name(*id);
-            op(local);
-            outcome(result);
-        }
-        RingEntry::GiveUp { id, word: told } => {
-            name(*id);
-            word(*told);
-        }
-        RingEntry::Pass {
-            node,
-            words: global,
-            ..
-        } => {
-            small(*node);
-            words(global.words());
-        }
-        RingEntry::Leave { node, cause: told } => {
-            small(*node);
-            cause(*told);
-        }
-    }
-}
-
-fn ring_entries(entries: &[RingEntry])
-    ensures { All FitsRingEntry entries.now }
-{
-    for at in 0..entries.len() {
-        ring_entry(&entries[at]);
-    }
-}
-
 fn ring_log(log: &RingLog)
     ensures { FitsRingLog log.now }
 {
-    small(log.network);
-    ring_entries(log.entries.as_slice());
+    small_fits(log.network);
+    ring_entries_fit(log.entries.as_slice());
 }
 
 fn ring_logs(logs: &[RingLog])

@@ -1,178 +1,228 @@
--- The ring's passes dealt to the nodes of plans.
-use Rattle.std.proofs.Common.{◌≡◌, ◌≢◌, ℕ, zero, suc, ◌+◌, ◌<◌, ◌≤◌, ◌||◌, ◌==◌, ◌++◌, true, false}
-use Rattle.std.proofs.Common.{cond, List, [], ◌∷◌}
-use Rattle.std.proofs.Common.{All, get_or, length, map, reverse, take, count_by, None}
-use Rattle.std.proofs.Common.{refl, sym, ap, subst, ◌∙◌, arith, eq-eqb, ne_eqb, ⊎_elim}
-use Rattle.std.proofs.lemmas.Bool.{cases_Bool}
-use Rattle.std.proofs.lemmas.List.{append_assoc, map-append, reverse-append, take_more}
-use Rattle.std.proofs.lemmas.List.Kept.{AllPairs-from_increasing}
-use Rattle.std.proofs.lemmas.List.Sorted.{sum_by-IsPermutation}
-use Rattle.turn_gate.specs.Known.{GateFacts, PassFacts, is_among, split_off}
+-- The passes of the rings dealt to the nodes of plans.
+use Rattle.std.proofs.Common.{◌≡◌, ◌≢◌, ℕ, ◌+◌, ◌<◌, ◌++◌, ◌⊎◌, true, false, List, [], ◌∷◌}
+use Rattle.std.proofs.Common.{Contains}
+use Rattle.std.proofs.Common.{Some, get_or, length, map, flat_map, reverse, take, drop}
+use Rattle.std.proofs.Common.{◌==◌, refl, sym, ap, subst, subst₂, ◌∙◌, inl, inr, ⊎_elim}
+use Rattle.std.proofs.Common.{eqb-true, eq-eqb}
+use Rattle.std.proofs.lemmas.Bool.{both_ways, false_from_ne_true, or_cases, or_left}
+use Rattle.std.proofs.lemmas.Bool.{or_right}
+use Rattle.std.proofs.lemmas.List.{append_assoc, drop_more, get_or_default, map-append}
+use Rattle.std.proofs.lemmas.List.{reverse-append, take_more}
+use Rattle.std.proofs.lemmas.List.Elements.{Contains-append_left, Contains-push}
+use Rattle.std.specs.List.{AllZip}
+use Rattle.turn_gate.specs.Known.{PassFacts, first_pass, is_among}
+use Rattle.plant_types.specs.declared.net.BridgePlan.{BridgePlan}
 use Rattle.ring_core.specs.declared.entry.RingEntry.{RingEntry}
-use Rattle.live_run.specs.Sides.{GatedRingIs}
-use Rattle.plant_types.specs.declared.net.NetPlan.{NetPlan}
-use Rattle.plant_types.specs.declared.plan.Plant.{Plant}
-use Rattle.plant_types.specs.Plans.{controller_nodes, first_net, host_nodes}
-use Rattle.one_net.specs.OneNet.{IsOneNetPlant}
-use Rattle.one_net.proofs.OneNet.{IsOnNet, on-net}
-use Rattle.effect_laws.proofs.Counts.{count_cons, once_rising}
-use Rattle.live_run.specs.Dealing.{AreNew, fresh_station}
+use Rattle.gated_sides.specs.Sides.{GatedRingIs}
+use Rattle.live_workers.proofs.Ran.{zip-both}
+use Rattle.live_run.specs.Homes.{IsSeated, KeepsFor, Purse, RingGate, is_ring_of}
+use Rattle.live_run.specs.Dealing.{CanDeal, DealsAt, IsDealt, IsFreshSide, Key}
+use Rattle.live_run.specs.Dealing.{key_of}
+use Rattle.live_run.specs.Ends.{ends_of_plan}
+use Rattle.live_run.proofs.Places.{zip-at, zip-put, zip-weaker}
 
-rev-cons : {A : Type 0} (x : A) (xs given : List A)
-    → reverse (x ∷ xs) ++ given ≡ reverse xs ++ x ∷ given
-rev-cons x xs given = ap (λ l. l ++ given) (reverse-append (x ∷ []) xs)
-    ∙ append_assoc (reverse xs) (x ∷ []) given
+among-cases : (n m : ℕ) (ms : List ℕ) → is_among n (m ∷ ms) ≡ true
+    → (n ≡ m) ⊎ (is_among n ms ≡ true)
+among-cases n m ms is = ⊎_elim
+    (λ (here : (n == m) ≡ true). inl (eqb-true n m here))
+    (λ (later : is_among n ms ≡ true). inr later) (or_cases (n == m) (is_among n ms) is)
 
--- the number at a place is none of those before it
-pub new-at : (given ns : List ℕ) (k d : ℕ) → AreNew given ns → k < length ns
-    → (get_or ns k d ≢ 0) × (is_among (get_or ns k d) (reverse (take k ns) ++ given) ≡ false)
-new-at given [] k d new within = absurd (omega (arith, within))
-new-at given (n ∷ ns) zero d new within = (new.0, new.1)
-new-at given (n ∷ ns) (suc k) d new within =
-    let r = new-at (n ∷ given) ns k d new.2 (omega (arith, within)) in
-    (r.0, ap (is_among (get_or ns k d)) (rev-cons n (take k ns) given) ∙ r.1)
+among-later : (n m : ℕ) (ms : List ℕ) → is_among n ms ≡ true → is_among n (m ∷ ms) ≡ true
+among-later n m ms is = or_right (n == m) (is_among n ms) is
 
-pub map-at : {A : Type 0} (f : A → ℕ) (xs : List A) (k d : ℕ) (e : A) → k < length xs
-    → get_or (map f xs) k d ≡ f (get_or xs k e)
-map-at f [] k d e within = absurd (omega (arith, within))
-map-at f (x ∷ xs) zero d e within = refl
-map-at f (x ∷ xs) (suc k) d e within = map-at f xs k d e (omega (arith, within))
+among-here : (n m : ℕ) (ms : List ℕ) → n ≡ m → is_among n (m ∷ ms) ≡ true
+among-here n m ms is = or_left (n == m) (is_among n ms) (eq-eqb n m is)
 
-map-long : {A B : Type 0} (f : A → B) (xs : List A) → length (map f xs) ≡ length xs
-map-long f [] = refl
-map-long f (x ∷ xs) = ap suc (map-long f xs)
+-- pass 0 of a gate can give a number that is new
+deals-for : (node : ℕ) (dealt : List ℕ) (out : List Key) → node ≢ 0 → is_among node dealt ≡ false
+    → (gate : RingGate) (purse : Purse) → DealsAt dealt out gate purse
+    → KeepsFor node gate purse
+deals-for node dealt out some new gate purse d = record {
+  keeps = record {
+    pass = d.pass;
+    kept = d.kept;
+    zero = record {
+      gate_is = ap (λ (p : PassFacts RingEntry). p.gate) d.first;
+      outside = ap (λ (p : PassFacts RingEntry). p.stay) d.first;
+      number = ap (λ (p : PassFacts RingEntry). p.number) d.first;
+    };
+  };
+  fresh = (
+    some,
+    false_from_ne_true (is_among node d.pass.given)
+        (λ is. both_ways (is_among node dealt) new (d.among node is)),
+  );
+}
 
-map-take : {A B : Type 0} (f : A → B) (xs : List A) (k : ℕ) → take k (map f xs) ≡ map f (take k xs)
-map-take f xs zero = refl
-map-take f [] (suc k) = refl
-map-take f (x ∷ xs) (suc k) = ap (λ l. f x ∷ l) (map-take f xs k)
+-- where another gate's pass 0 gave a number, nothing changes
+deals-more : (node : ℕ) (key : Key) (dealt : List ℕ) (out : List Key) (gate : RingGate)
+    (purse : Purse) → DealsAt dealt out gate purse
+    → DealsAt (node ∷ dealt) (out ++ key ∷ []) gate purse
+deals-more node key dealt out gate purse d = record {
+  pass = d.pass;
+  kept = d.kept;
+  first = d.first;
+  among = λ n is. among-later n node dealt (d.among n is);
+  sides = λ n is. Contains-append_left out (key ∷ []) (gate, n) (d.sides n is);
+}
 
--- so is the node of the plan at a place
-pub new-node : {A : Type 0} (f : A → ℕ) (given : List ℕ) (plans : List A) (k : ℕ) (e : A)
-    → AreNew given (map f plans) → k < length plans
-    → (f (get_or plans k e) ≢ 0)
-    × (is_among (f (get_or plans k e)) (reverse (map f (take k plans)) ++ given) ≡ false)
-new-node f given plans k e new within =
-    let same = map-at f plans k 0 e within in
-    let r = new-at given (map f plans) k 0 new
-    (let long = map-long f plans in omega (arith, long, within)) in (
-      subst (λ n. n ≢ 0) same r.0,
-      subst (λ n. is_among n (reverse (map f (take k plans)) ++ given) ≡ false) same
-          (subst (λ l. is_among (get_or (map f plans) k 0) (reverse l ++ given) ≡ false)
-          (map-take f plans k) r.1),
-    )
-
--- one number more was given
-pub given-next : {A : Type 0} (f : A → ℕ) (plans : List A) (given : List ℕ) (k : ℕ) (e : A)
-    → k < length plans
-    → f (get_or plans k e) ∷ (reverse (map f (take k plans)) ++ given)
-    ≡ reverse (map f (take (k + 1) plans)) ++ given
-given-next f plans given k e within =
-    let x = get_or plans k e in
-    sym (ap (λ l. reverse (map f l) ++ given) (take_more plans k e within)
-    ∙ ap (λ l. reverse l ++ given) (map-append f (take k plans) (x ∷ []))
-    ∙ ap (λ l. l ++ given) (reverse-append (map f (take k plans)) (f x ∷ [])))
-
--- and one station more made
-pub made-next : {A B : Type 0} (f : A → B) (plans : List A) (made : List B) (k : ℕ) (e : A)
-    → k < length plans → made ≡ map f (take k plans)
-    → made ++ f (get_or plans k e) ∷ [] ≡ map f (take (k + 1) plans)
-made-next f plans made k e within is =
-    ap (λ l. l ++ f (get_or plans k e) ∷ []) is
-    ∙ (sym (map-append f (take k plans) (get_or plans k e ∷ []))
-    ∙ ap (map f) (sym (take_more plans k e within)))
-
--- ---- the nodes of a plant are new one after another
-
-none-among : (m : ℕ) (xs : List ℕ) → count_by (λ n. m == n) xs ≡ 0 → is_among m xs ≡ false
-none-among m [] none = refl
-none-among m (x ∷ xs) none = ⊎_elim
-    (λ (is : (m == x) ≡ true).
-    absurd (let all = count_cons (λ n. m == n) x xs
-    ∙ ap (λ b. cond b 1 0 + count_by (λ n. m == n) xs) is in omega (arith, all, none)))
-    (λ (is : (m == x) ≡ false).
-    let all = count_cons (λ n. m == n) x xs ∙ ap (λ b. cond b 1 0 + count_by (λ n. m == n) xs) is in
-    ap (λ b. b || is_among m xs) is ∙ none-among m xs (omega (arith, all, none)))
-    (cases_Bool (m == x))
-
-new-all : (given ns : List ℕ) → All (λ n. 1 ≤ n) ns
-    → ((m : ℕ) → count_by (λ n. m == n) given + count_by (λ n. m == n) ns ≤ 1) → AreNew given ns
-new-all given [] high once = tt
-new-all given (n ∷ ns) high once = (
-  (λ is. let first = high 0 0 (omega arith) in omega (arith, is, first)),
-  none-among n given (let o = once n in let all = count_cons (λ k. n == k) n ns
-      ∙ ap (λ b. cond b 1 0 + count_by (λ k. n == k) ns) (eq-eqb n n refl) in
-      omega (arith, o, all)),
-  new-all (n ∷ given) ns (λ k d within. high (suc k) d (omega (arith, within)))
-      (λ m. let o = once m in let one = count_cons (λ k. m == k) n ns in
-      let two = count_cons (λ k. m == k) n given in omega (arith, o, one, two)),
-)
-
-new-parts : (given xs ys : List ℕ) → AreNew given (xs ++ ys)
-    → AreNew given xs × AreNew (reverse xs ++ given) ys
-new-parts given [] ys new = (tt, new)
-new-parts given (x ∷ xs) ys new =
-    let r = new-parts (x ∷ given) xs ys new.2 in
-    ((new.0, new.1, r.0), subst (λ l. AreNew l ys) (sym (rev-cons x xs given)) r.1)
-
-counted-there : (m : ℕ) (xs : List ℕ) (k d : ℕ) → k < length xs → get_or xs k d ≡ m
-    → 1 ≤ count_by (λ n. m == n) xs
-counted-there m [] k d within is = absurd (omega (arith, within))
-counted-there m (x ∷ xs) zero d within is =
-    let all = count_cons (λ n. m == n) x xs
-    ∙ ap (λ b. cond b 1 0 + count_by (λ n. m == n) xs) (eq-eqb m x (sym is)) in omega (arith, all)
-counted-there m (x ∷ xs) (suc k) d within is =
-    let all = count_cons (λ n. m == n) x xs in
-    let rest = counted-there m xs k d (omega (arith, within)) is in omega (arith, all, rest)
-
-zero-none : (xs : List ℕ) → All (λ n. 1 ≤ n) xs → count_by (λ n. 0 == n) xs ≡ 0
-zero-none [] above = refl
-zero-none (x ∷ xs) above =
-    let first = above 0 0 (omega arith) in
-    let all = count_cons (λ n. 0 == n) x xs ∙ ap (λ b. cond b 1 0 + count_by (λ n. 0 == n) xs)
-    (ne_eqb 0 x (λ is. omega (arith, is, first))) in
-    let rest = zero-none xs (λ k d within. above (suc k) d (omega (arith, within))) in
-    omega (arith, all, rest)
-
-positive : (whole : List ℕ) (k d : ℕ) → k < length whole → count_by (λ n. 0 == n) whole ≡ 0
-    → (n : ℕ) → get_or whole k d ≡ n → 1 ≤ get_or whole k d
-positive whole k d within none zero is =
-    absurd (let one = counted-there 0 whole k d within is in omega (arith, one, none))
-positive whole k d within none (suc n) is = omega (arith, is)
-
-pub plant-new : (plant : Plant) → IsOneNetPlant plant → AreNew [] (controller_nodes plant)
-    × AreNew (reverse (controller_nodes plant) ++ []) (host_nodes plant)
-plant-new plant sound =
-    new-parts [] (controller_nodes plant) (host_nodes plant)
-    (new-all [] whole high (λ m. let o = once_rising m members
-    (AllPairs-from_increasing members on.plan.members.rise) in
-    let s = same m in omega (arith, o, s)))
+-- where its own did
+deals-here : (node : ℕ) (key : Key) (dealt : List ℕ) (out : List Key) (gate : RingGate)
+    (pass : PassFacts RingEntry) → key ≡ (gate, node) → DealsAt dealt out gate (Some pass)
+    → DealsAt (node ∷ dealt) (out ++ key ∷ []) gate
+    (Some (record pass { given = node ∷ pass.given }))
+deals-here node key dealt out gate pass is d = record {
+  pass = record pass { given = node ∷ pass.given };
+  kept = refl;
+  first = ap (λ (p : PassFacts RingEntry). record p { given = node ∷ p.given }) first;
+  among = λ n in'. ⊎_elim
+      (λ (here : n ≡ node). among-here n node dealt here)
+      (λ (later : is_among n pass.given ≡ true).
+      among-later n node dealt (d.among n (given n later)))
+      (among-cases n node pass.given in');
+  sides = λ n in'. ⊎_elim
+      (λ (here : n ≡ node). subst (Contains (out ++ key ∷ []))
+      (is ∙ (λ i. (gate, sym here i))) (Contains-push out key))
+      (λ (later : is_among n pass.given ≡ true).
+      Contains-append_left out (key ∷ []) (gate, n) (d.sides n (given n later)))
+      (among-cases n node pass.given in');
+}
   where
-    on : IsOnNet plant (first_net plant)
-    on = on-net plant sound
+    same : d.pass ≡ pass
+    same = let e = sym d.kept in cc
 
-    members : List ℕ
-    members = (first_net plant).members
+    first : pass ≡ record (first_pass gate.name) { given = pass.given }
+    first = subst (λ (p : PassFacts RingEntry). p ≡ record (first_pass gate.name) {
+      given = p.given;
+    }) same d.first
 
-    whole : List ℕ
-    whole = controller_nodes plant ++ host_nodes plant
+    given : (n : ℕ) → is_among n pass.given ≡ true → is_among n d.pass.given ≡ true
+    given n is = ap (λ (p : PassFacts RingEntry). is_among n p.given) same ∙ is
 
-    same : (m : ℕ) → count_by (λ n. m == n) whole ≡ count_by (λ n. m == n) members
-    same m = sym (sum_by-IsPermutation (λ n. cond (m == n) 1 0) whole members on.members)
+module _ (gates : List RingGate) where
+  -- one pass was dealt
+  pub dealt-one : (old new : List Purse) (network node : ℕ) (side : GatedRingIs)
+      → IsSeated gates old new network node side
+      → IsDealt gates old new (node ∷ []) (key_of side ∷ [])
+  dealt-one old new network node side s dealt out all =
+      subst (AllZip (DealsAt (node ∷ dealt) (out ++ key_of side ∷ [])) gates) (sym s.now)
+      (zip-put (is_ring_of network) (DealsAt dealt out)
+      (DealsAt (node ∷ dealt) (out ++ key_of side ∷ [])) gates old s.gate
+      (Some (record s.pass { given = node ∷ s.pass.given }))
+      (deals-more node (key_of side) dealt out) all s.home
+      (deals-here node (key_of side) dealt out s.gate s.pass (ap key_of s.side_is)
+      (zip-at (is_ring_of network) (DealsAt dealt out) gates old s.gate (Some s.pass) all s.home
+      s.was)))
 
-    high : All (λ n. 1 ≤ n) whole
-    high k d within =
-        positive whole k d within (same 0 ∙ zero-none members
-        (λ k d within. (on.plan.members.each k d within).from)) (get_or whole k d) refl
+  -- some were dealt, and then others
+  pub dealt-both : (a b c : List Purse) (ns ms : List ℕ) (ks js : List Key)
+      → IsDealt gates a b ns ks → IsDealt gates b c ms js
+      → IsDealt gates a c (ns ++ ms) (ks ++ js)
+  dealt-both a b c ns ms ks js one two dealt out all =
+      subst₂ (λ d o. AllZip (DealsAt d o) gates c)
+      (sym (ap (λ l. l ++ dealt) (reverse-append ns ms)
+      ∙ append_assoc (reverse ms) (reverse ns) dealt))
+      (append_assoc out ks js) (two (reverse ns ++ dealt) (out ++ ks) (one dealt out all))
 
--- the station over a pass that was split off
-pub seat-of : {L : Type 0} (gate : GateFacts RingEntry NetPlan) (side : GatedRingIs)
-    (q p : PassFacts RingEntry) (number node : ℕ)
-    → side ≡ record { gate = gate; number = q.number; seen = q.seen } → q ≡ split_off number p
-    → p.seen ≡ gate.name.opening → number ≡ node
-    → record { ring = side; log = None } ≡ fresh_station {L = L} gate node
-seat-of {L} gate side q p number node side_is q_is seen named =
-    ap (λ (s : GatedRingIs). record { ring = s; log = None }) (side_is
-    ∙ (ap (λ (x : PassFacts RingEntry). record { gate = gate; number = x.number; seen = x.seen })
-    q_is
-    ∙ (λ i. record { gate = gate; number = named i; seen = seen i })))
+  -- the next of the passes can be given
+  pub can-seat : (purses : List Purse) (node : ℕ) (nodes : List ℕ)
+      → CanDeal gates purses (node ∷ nodes) → AllZip (KeepsFor node) gates purses
+  can-seat purses node nodes c =
+      zip-weaker (DealsAt c.dealt c.out) (KeepsFor node) gates purses
+      (deals-for node c.dealt c.out c.new.0 c.new.1) c.deals
+
+  -- and once it was, those behind it can
+  pub can-next : (old new : List Purse) (node : ℕ) (nodes : List ℕ) (key : Key)
+      → IsDealt gates old new (node ∷ []) (key ∷ []) → CanDeal gates old (node ∷ nodes)
+      → CanDeal gates new nodes
+  can-next old new node nodes key dealt c = record {
+    dealt = node ∷ c.dealt;
+    out = c.out ++ key ∷ [];
+    deals = dealt c.dealt c.out c.deals;
+    new = c.new.2;
+  }
+
+  -- the side that it made
+  pub fresh-side : (old new : List Purse) (network node : ℕ) (nodes : List ℕ) (side : GatedRingIs)
+      → IsSeated gates old new network node side → CanDeal gates old (node ∷ nodes)
+      → IsFreshSide gates network node side
+  fresh-side old new network node nodes side s c = record {
+    gate = s.gate;
+    home = s.home;
+    some = c.new.0;
+    is = s.side_is ∙ (λ i. record { gate = s.gate; number = node; seen = seen i });
+  }
+    where
+      d : DealsAt c.dealt c.out s.gate (Some s.pass)
+      d = zip-at (is_ring_of network) (DealsAt c.dealt c.out) gates old s.gate (Some s.pass)
+          c.deals s.home s.was
+
+      same : d.pass ≡ s.pass
+      same = let e = sym d.kept in cc
+
+      seen : s.pass.seen ≡ s.gate.name.opening
+      seen = ap (λ (p : PassFacts RingEntry). p.seen) (sym same ∙ d.first)
+
+-- The passes of the first of some plans were dealt. `nodes_of` are the nodes of plans, and
+-- `sides_of` the sides of stations.
+pub record Dealing {P W : Type 0} (gates : List RingGate) (nodes_of : List P → List ℕ)
+    (sides_of : List W → List GatedRingIs) (IsNew : P → W → Type 0) (plans : List P)
+    (old new : List Purse) (index : ℕ) (made : List W) : Type 0 where
+  pub ready : CanDeal gates new (nodes_of (drop index plans))
+  pub dealt : IsDealt gates old new (nodes_of (take index plans)) (map key_of (sides_of made))
+  pub each : AllZip IsNew (take index plans) made
+
+module _ {P W : Type 0} (gates : List RingGate) (nodes_of : List P → List ℕ)
+    (sides_of : List W → List GatedRingIs) (IsNew : P → W → Type 0) (plans : List P) where
+  pub dealing-next : (old mid new : List Purse) (index : ℕ) (made items : List W) (plan : P) (w : W)
+      (nodes : List ℕ) (sides : List GatedRingIs) → index < length plans
+      → plan ≡ get_or plans index plan → items ≡ made ++ w ∷ []
+      → nodes_of (take index plans ++ plan ∷ []) ≡ nodes_of (take index plans) ++ nodes
+      → sides_of (made ++ w ∷ []) ≡ sides_of made ++ sides
+      → CanDeal gates new (nodes_of (drop (index + 1) plans))
+      → IsDealt gates mid new nodes (map key_of sides) → IsNew plan w
+      → Dealing gates nodes_of sides_of IsNew plans old mid index made
+      → Dealing gates nodes_of sides_of IsNew plans old new (index + 1) items
+  dealing-next old mid new index made items plan w nodes sides within at pushed more more_sides
+      ready dealt fresh d = record {
+        ready = ready;
+        dealt = subst₂ (λ ns ks. IsDealt gates old new ns ks)
+            (sym (ap nodes_of taken ∙ more))
+            (sym (ap (map key_of) (ap sides_of pushed ∙ more_sides)
+            ∙ map-append key_of (sides_of made) sides))
+            (dealt-both gates old mid new (nodes_of (take index plans)) nodes
+            (map key_of (sides_of made)) (map key_of sides) d.dealt dealt);
+        each = subst₂ (λ l m. AllZip IsNew l m) (sym taken) (sym pushed)
+            (zip-both IsNew (take index plans) (plan ∷ []) made (w ∷ []) d.each (fresh, tt));
+      }
+    where
+      taken : take (index + 1) plans ≡ take index plans ++ plan ∷ []
+      taken = take_more plans index plan within
+          ∙ ap (λ x. take index plans ++ x ∷ []) (sym at)
+
+-- what is left of the plans begins with the next
+pub rest-is : {P : Type 0} (plans : List P) (index : ℕ) (plan : P) → index < length plans
+    → plan ≡ get_or plans index plan → drop index plans ≡ plan ∷ drop (index + 1) plans
+rest-is plans index plan within at =
+    drop_more plans index plan within ∙ ap (λ x. x ∷ drop (index + 1) plans) (sym at)
+
+-- the plan of a bridge at a place
+abbrev pub bridge-at : List BridgePlan → ℕ → BridgePlan
+bridge-at plans index =
+    get_or plans index (record { left_net = 0; left = 0; right_net = 0; right = 0 })
+
+pub bridge-same : (plans : List BridgePlan) (index : ℕ) → index < length plans
+    → bridge-at plans index ≡ get_or plans index (bridge-at plans index)
+bridge-same plans index within =
+    get_or_default plans index (record { left_net = 0; left = 0; right_net = 0; right = 0 })
+    (bridge-at plans index) within
+
+-- both ends of the next bridge, and then those of the rest, can be dealt
+pub ends-ready : (gates : List RingGate) (purses : List Purse) (plans : List BridgePlan)
+    (index : ℕ) → index < length plans
+    → CanDeal gates purses (flat_map ends_of_plan (drop index plans))
+    → CanDeal gates purses ((bridge-at plans index).left ∷ (bridge-at plans index).right
+    ∷ flat_map ends_of_plan (drop (index + 1) plans))
+ends-ready gates purses plans index within ready =
+    subst (λ l. CanDeal gates purses (flat_map ends_of_plan l))
+    (rest-is plans index (bridge-at plans index) within (bridge-same plans index within)) ready

@@ -1,129 +1,290 @@
--- The ring's passes gathered from stations.
-use Rattle.std.proofs.Common.{◌≡◌, ℕ, zero, suc, ◌&&◌, drop, take, Bool, true, false, List, [], ◌∷◌}
-use Rattle.std.proofs.Common.{◌++◌}
-use Rattle.std.proofs.Common.{All, Result, Ok, Err, OnOk, is_ok, length, map, reverse, refl, sym}
-use Rattle.std.proofs.Common.{ap, subst, ◌∙◌}
-use Rattle.std.proofs.Common.{arith}
-use Rattle.std.proofs.lemmas.List.{append_assoc, append-nil, drop_all, length-reverse, map-append}
-use Rattle.std.proofs.lemmas.List.{reverse-append, reverse-reverse, take_all}
-use Rattle.std.proofs.lemmas.List.Elements.{All-append}
-use Rattle.std.specs.List.{AllZip}
-use Rattle.turn_gate.specs.Known.{GateFacts, IsPassReady, PassFacts, longer, made_by, with_pass}
-use Rattle.plant_types.specs.declared.net.NetPlan.{NetPlan}
+-- The passes of the rings gathered from stations.
+use Rattle.std.proofs.Common.{◌≡◌, ℕ, zero, suc, ◌+◌, ◌<◌, ◌≤◌, ◌++◌, ◌⊎◌, ◌==◌, ◌&&◌, Bool, true}
+use Rattle.std.proofs.Common.{false, List, [], ◌∷◌, Some, Contains, slice_get, Result, Ok, Err}
+use Rattle.std.proofs.Common.{OnOk, is_ok, get_or, length, map, reverse, take, drop}
+use Rattle.std.proofs.Common.{refl, sym, ap, subst, ◌∙◌, arith, inl, inr, ⊎_elim, eq-eqb}
+use Rattle.std.proofs.lemmas.Bool.{and_parts, both_ways, cases_lt, or_cases, or_left, or_right}
+use Rattle.std.proofs.lemmas.List.{append_assoc, append-nil, drop_all, drop_more, length-reverse}
+use Rattle.std.proofs.lemmas.List.{map-append, reverse-append, reverse-reverse, take_all}
+use Rattle.std.proofs.lemmas.List.Elements.{Contains-append_left, Contains-append_right}
+use Rattle.std.proofs.lemmas.List.Elements.{Contains-push_cases}
+use Rattle.std.specs.List.{All, AllZip}
+use Rattle.turn_gate.specs.Known.{IsPassReady, PassFacts, is_among, made_by, numbers, own_lists}
+use Rattle.turn_gate.specs.Known.{with_pass}
 use Rattle.ring_core.specs.declared.entry.RingEntry.{RingEntry}
 use Rattle.ring_core.specs.Words.{maker}
-use Rattle.live_run.specs.Dealing.{GatheredInto, HasLog, IsAtGate, IsLogged, Seat, brought, seen_by}
-use Rattle.live_run.proofs.Ran.{all-left, all-right, zip-both}
+use Rattle.gated_sides.specs.Sides.{GatedRingIs}
+use Rattle.live_workers.specs.declared.stations.Station.{Station}
+use Rattle.live_workers.proofs.Ran.{zip-both}
+use Rattle.live_run.specs.Homes.{AreApart, IsAtHome, IsUnseated, IsZero, KeepsZero, Purse, RingGate}
+use Rattle.live_run.specs.Homes.{is_ring_of, place_in}
+use Rattle.live_run.specs.Dealing.{GathersAt, HasBrought, HasLog, IsGathered, IsLogged, Key, key_of}
+use Rattle.live_run.proofs.Places.{find-there, got, zip-at, zip-put, zip-put-apart, zero-kept}
 
--- some of the stations were taken in, and the rest are left in a stack
-pub record Gathering {L : Type 0} (gate : GateFacts RingEntry NetPlan) (all : List (Seat L))
-    (old p : PassFacts RingEntry)
-    (left : List (Seat L)) (logs : List L) (done : Bool) : Type 0 where
-  pub taken : List (Seat L)
-  pub all_is : all ≡ taken ++ reverse left
-  pub at : All (IsAtGate gate) left
-  pub into : GatheredInto taken old p
-  pub logged : done ≡ true → AllZip HasLog taken logs
+-- one of a list's first, or of its rest
+first-cases : {A : Type 0} (x y : A) (xs : List A) → Contains (x ∷ xs) y → (x ≡ y) ⊎ Contains xs y
+first-cases x y xs (zero, low, is) = inl is
+first-cases x y xs (suc k, low, is) = inr (k, omega (arith, low), is)
 
-all-one : {A : Type 0} (P : A → Type 0) (x : A) → P x → All P (x ∷ [])
-all-one P x p zero d low = p
-all-one P x p (suc k) d low = absurd (omega (arith, low))
+among-append : (n : ℕ) (ms ns : List ℕ) → is_among n ms ≡ true → is_among n (ms ++ ns) ≡ true
+among-append n [] ns is = absurd (let no' : false ≡ true = is in cc)
+among-append n (m ∷ ms) ns is = ⊎_elim
+    (λ (here : (n == m) ≡ true). or_left (n == m) (is_among n (ms ++ ns)) here)
+    (λ (later : is_among n ms ≡ true).
+    or_right (n == m) (is_among n (ms ++ ns)) (among-append n ms ns later))
+    (or_cases (n == m) (is_among n ms) is)
 
-all-reverse : {A : Type 0} (P : A → Type 0) (xs : List A) → All P xs → All P (reverse xs)
-all-reverse P [] all = all
-all-reverse P (x ∷ xs) all =
-    subst (All P) (sym (reverse-append (x ∷ []) xs))
-    (All-append P (reverse xs) (x ∷ []) (all-reverse P xs (all-right P (x ∷ []) xs all))
-    (all-one P x (all 0 x (omega arith))))
+among-behind : (n : ℕ) (ms ns : List ℕ) → is_among n ns ≡ true → is_among n (ms ++ ns) ≡ true
+among-behind n [] ns is = is
+among-behind n (m ∷ ms) ns is =
+    or_right (n == m) (is_among n (ms ++ ns)) (among-behind n ms ns is)
 
-pub gather-init : {L : Type 0} (gate : GateFacts RingEntry NetPlan) (all left : List (Seat L))
-    (p : PassFacts RingEntry) (logs : List L) → left ≡ reverse all
-    → logs ≡ [] → All (IsAtGate gate) all → Gathering gate all p p left logs true
-gather-init {L} gate all left p logs is none at = record {
-  taken = [];
-  all_is = sym (ap reverse is ∙ reverse-reverse all);
-  at = subst (All (IsAtGate gate)) (sym is) (all-reverse (IsAtGate gate) all at);
-  into = λ i. record p { joined = sym (append-nil p.joined) i; heard = sym (append-nil p.heard) i };
-  logged = λ yes'. subst (AllZip HasLog []) (sym none) tt;
+-- the numbers of both passes
+numbers-both : (p q : PassFacts RingEntry) → numbers (with_pass p q) ≡ numbers p ++ numbers q
+numbers-both p q =
+    ap (λ l. p.number ∷ l) (map-append (λ (x : ℕ × List RingEntry). x.0) p.joined (own_lists q))
+
+brought-more : (p q : PassFacts RingEntry) (side : GatedRingIs) → HasBrought p side
+    → HasBrought (with_pass p q) side
+brought-more p q side b = record {
+  own_is = Contains-append_left p.joined (own_lists q)
+      (side.number, made_by maker side.number side.seen) b.own_is;
+  heard_is = Contains-append_left p.heard (q.seen ∷ q.heard) side.seen b.heard_is;
 }
 
-both-true : (a b : Bool) → (a && b) ≡ true → (a ≡ true) × (b ≡ true)
-both-true true b e = (refl, e)
-both-true false b e = absurd (let no' : false ≡ true = e in cc)
-
--- the station that comes back next is at the gate
-pub next-at : {L : Type 0} (gate : GateFacts RingEntry NetPlan) (left rest : List (Seat L))
-    (w : Seat L) → left ≡ rest ++ w ∷ [] → All (IsAtGate gate) left
-    → IsAtGate gate w
-next-at gate left rest w is at =
-    all-right (IsAtGate gate) rest (w ∷ []) (subst (All (IsAtGate gate)) is at) 0 w (omega arith)
-
-pub gather-next : {L : Type 0} (gate : GateFacts RingEntry NetPlan) (all : List (Seat L))
-    (old p q p' : PassFacts RingEntry) (left rest : List (Seat L)) (w : Seat L)
-    (logs logs' : List L) (done kept : Bool) → gate.name.opening ≡ [] → left ≡ rest ++ w ∷ []
-    → IsPassReady maker w.ring.number w.ring.gate.name q
-    → q.seen ≡ w.ring.seen → p' ≡ with_pass p q → (kept ≡ true → IsLogged w.log logs logs')
-    → Gathering gate all old p left logs done
-    → Gathering gate all old p' rest logs' (done && kept)
-gather-next {L} gate all old p q p' left rest w logs logs' done kept unopened is ready seen joins
-    keeps g = record {
-      taken = g.taken ++ w ∷ [];
-      all_is = g.all_is ∙ (ap (λ l. g.taken ++ l) (ap reverse is ∙ reverse-append rest (w ∷ []))
-          ∙ sym (append_assoc g.taken (w ∷ []) (reverse rest)));
-      at = all-left (IsAtGate gate) rest (w ∷ []) (subst (All (IsAtGate gate)) is g.at);
-      into = subst (GatheredInto (g.taken ++ w ∷ []) old) (sym joins) into;
-      logged = λ yes'.
-          let both = both-true done kept yes' in
-          let k = keeps both.1 in
-          subst (AllZip HasLog (g.taken ++ w ∷ [])) (sym k.grown)
-          (zip-both HasLog g.taken (w ∷ []) logs (k.item ∷ []) (g.logged both.0) (k.log_is, tt));
-    }
+-- what the pass of a side brings to pass 0
+brought-here : (p q : PassFacts RingEntry) (side : GatedRingIs) → side.gate.name.opening ≡ []
+    → IsPassReady maker side.number side.gate.name q → q.seen ≡ side.seen
+    → HasBrought (with_pass p q) side
+brought-here p q side unused ready seen = record {
+  own_is = Contains-append_right p.joined (own_lists q)
+      (side.number, made_by maker side.number side.seen)
+      (0, omega arith, λ i. (ready.number_is i, mine i));
+  heard_is = Contains-append_right p.heard (q.seen ∷ q.heard) side.seen (0, omega arith, seen);
+}
   where
-    at : IsAtGate gate w
-    at = next-at gate left rest w is g.at
+    made : ready.own_is.made ≡ side.seen
+    made = sym (sym seen ∙ ready.own_is.all_is ∙ ap (λ l. l ++ ready.own_is.made)
+        (ap (λ n. n.opening) ready.gate_is ∙ unused))
 
-    mine : (q.number, q.mine) ≡ brought w
-    mine =
-        let o = ready.own_is in
-        let made : o.made ≡ w.ring.seen =
-        sym (sym seen ∙ o.all_is ∙ ap (λ l. l ++ o.made)
-        (ap (λ n. n.opening) ready.gate_is ∙ ap (λ f. f.name.opening) at.gate_is ∙ unopened)) in
-        λ i.
-        (ready.number_is i, (o.mine_is ∙ ((λ j. made_by maker (ready.number_is j) (made j)))) i)
+    mine : q.mine ≡ made_by maker side.number side.seen
+    mine = ready.own_is.mine_is ∙ (λ i. made_by maker (ready.number_is i) (made i))
 
-    joined : (old.joined ++ map brought g.taken) ++ ((q.number, q.mine) ∷ q.joined)
-        ≡ old.joined ++ map brought (g.taken ++ w ∷ [])
-    joined =
-        (λ i. (old.joined ++ map brought g.taken) ++ (mine i ∷ ready.unjoined i))
-        ∙ (append_assoc old.joined (map brought g.taken) (brought w ∷ [])
-        ∙ ap (λ l. old.joined ++ l) (sym (map-append brought g.taken (w ∷ []))))
+module _ (key : Key) (side : GatedRingIs) (out : List Key) (back : List GatedRingIs) where
+  -- at another gate nothing changes
+  gathers-other : key ≡ key_of side → (gate : RingGate) (purse : Purse)
+      → (side.gate ≡ gate → ⊥) → GathersAt (key ∷ out) back gate purse
+      → GathersAt out (back ++ side ∷ []) gate purse
+  gathers-other is gate purse other d = record {
+    pass = d.pass;
+    kept = d.kept;
+    zero = d.zero;
+    owed = λ n given. ⊎_elim
+        (λ (in' : is_among n (numbers d.pass) ≡ true). inl in')
+        (λ (left : Contains (key ∷ out) (gate, n)). ⊎_elim
+        (λ (here : key ≡ (gate, n)).
+        absurd (other (ap (λ (k : Key). k.0) (sym is ∙ here))))
+        (λ (later : Contains out (gate, n)). inr later)
+        (first-cases key (gate, n) out left))
+        (d.owed n given);
+    brought = λ s in' at. ⊎_elim
+        (λ (before : Contains back s). d.brought s before at)
+        (λ (here : side ≡ s). absurd (other (ap (λ (x : GatedRingIs). x.gate) here ∙ at)))
+        (Contains-push_cases back side s in');
+  }
 
-    heard : (old.heard ++ map seen_by g.taken) ++ (q.seen ∷ q.heard)
-        ≡ old.heard ++ map seen_by (g.taken ++ w ∷ [])
-    heard =
-        (λ i. (old.heard ++ map seen_by g.taken) ++ (seen i ∷ ready.unheard i))
-        ∙ (append_assoc old.heard (map seen_by g.taken) (seen_by w ∷ [])
-        ∙ ap (λ l. old.heard ++ l) (sym (map-append seen_by g.taken (w ∷ []))))
+  -- where its pass came back
+  gathers-here : key ≡ key_of side → (pass q : PassFacts RingEntry) → side.gate.name.opening ≡ []
+      → IsPassReady maker side.number side.gate.name q → q.seen ≡ side.seen
+      → GathersAt (key ∷ out) back side.gate (Some pass)
+      → GathersAt out (back ++ side ∷ []) side.gate (Some (with_pass pass q))
+  gathers-here is pass q unused ready seen d = record {
+    pass = with_pass pass q;
+    kept = refl;
+    zero = record { gate_is = zero.gate_is; outside = zero.outside; number = zero.number };
+    owed = λ n given. ⊎_elim
+        (λ (in' : is_among n (numbers d.pass) ≡ true). inl (joined n
+        (ap (λ (p : PassFacts RingEntry). is_among n (numbers p)) (sym same) ∙ in')))
+        (λ (left : Contains (key ∷ out) (side.gate, n)). ⊎_elim
+        (λ (here : key ≡ (side.gate, n)).
+        inl (own n (ap (λ (k : Key). k.1) (sym is ∙ here))))
+        (λ (later : Contains out (side.gate, n)). inr later)
+        (first-cases key (side.gate, n) out left))
+        (d.owed n (ap (λ (p : PassFacts RingEntry). is_among n p.given) same ∙ given));
+    brought = λ s in' at. ⊎_elim
+        (λ (before : Contains back s). brought-more pass q s
+        (subst (λ p. HasBrought p s) same (d.brought s before at)))
+        (λ (here : side ≡ s). subst (HasBrought (with_pass pass q)) here
+        (brought-here pass q side unused ready seen))
+        (Contains-push_cases back side s in');
+  }
+    where
+      same : d.pass ≡ pass
+      same = let e = sym d.kept in cc
 
-    into : GatheredInto (g.taken ++ w ∷ []) old (with_pass p q)
-    into = ap (λ (x : PassFacts RingEntry). with_pass x q) g.into
-        ∙ (λ i. record old { seen = longer p.seen q.seen; joined = joined i; heard = heard i })
+      zero : IsZero side.gate pass
+      zero = subst (IsZero side.gate) same d.zero
+
+      joined : (n : ℕ) → is_among n (numbers pass) ≡ true
+          → is_among n (numbers (with_pass pass q)) ≡ true
+      joined n in' = ap (is_among n) (numbers-both pass q)
+          ∙ among-append n (numbers pass) (numbers q) in'
+
+      own : (n : ℕ) → side.number ≡ n → is_among n (numbers (with_pass pass q)) ≡ true
+      own n named = ap (is_among n) (numbers-both pass q)
+          ∙ among-behind n (numbers pass) (numbers q)
+          (or_left (n == q.number) (is_among n (map (λ x. x.0) q.joined))
+          (eq-eqb n q.number (sym (ready.number_is ∙ named))))
+
+module _ (gates : List RingGate) (apart : AreApart gates) where
+  -- the pass of one side is joined
+  pub gathered-one : (old new : List Purse) (network : ℕ) (side : GatedRingIs)
+      → All (λ gate. gate.name.opening ≡ []) gates → IsAtHome gates network side
+      → IsUnseated gates old new network side → IsGathered gates old new (side ∷ [])
+  gathered-one old new network side unused at u out back all =
+      subst (AllZip (GathersAt out (back ++ side ∷ [])) gates) (sym u.now)
+      (zip-put-apart (is_ring_of network) (GathersAt (key_of side ∷ out) back)
+      (GathersAt out (back ++ side ∷ [])) gates old side.gate (Some (with_pass u.pass u.joins))
+      (λ gate purse off. gathers-other (key_of side) side out back refl gate purse
+      (λ same. both_ways (is_ring_of network gate) off
+      (ap (is_ring_of network) (sym same) ∙ there.1)))
+      (apart network) all at.home
+      (gathers-here (key_of side) side out back refl u.pass u.joins opening u.ready u.seen
+      (zip-at (is_ring_of network) (GathersAt (key_of side ∷ out) back) gates old side.gate
+      (Some u.pass) all at.home u.was)))
+    where
+      there : (slice_get gates (place_in gates network) ≡ Some side.gate)
+          × (is_ring_of network side.gate ≡ true)
+      there = find-there (is_ring_of network) gates side.gate at.home
+
+      opening : side.gate.name.opening ≡ []
+      opening =
+          let g = got gates (place_in gates network) side.gate side.gate there.0 in
+          ap (λ (gate : RingGate). gate.name.opening) (sym g.0)
+          ∙ unused (place_in gates network) side.gate g.1
+
+-- pass 0 of each gate is still kept
+pub still-kept : (gates : List RingGate) (old new : List Purse) (network : ℕ) (side : GatedRingIs)
+    → AllZip KeepsZero gates old → IsAtHome gates network side
+    → IsUnseated gates old new network side → AllZip KeepsZero gates new
+still-kept gates old new network side all at u =
+    subst (AllZip KeepsZero gates) (sym u.now)
+    (zip-put (is_ring_of network) KeepsZero KeepsZero gates old side.gate
+    (Some (with_pass u.pass u.joins)) (λ gate purse k. k) all at.home
+    (record {
+      pass = with_pass u.pass u.joins;
+      kept = refl;
+      zero = record { gate_is = zero.gate_is; outside = zero.outside; number = zero.number };
+    }))
+  where
+    zero : IsZero side.gate u.pass
+    zero = zero-kept side.gate u.pass (zip-at (is_ring_of network) KeepsZero gates old side.gate
+        (Some u.pass) all at.home u.was)
+
+pub gathered-none : (gates : List RingGate) (purses : List Purse)
+    → IsGathered gates purses purses []
+gathered-none gates purses out back all =
+    subst (λ b. AllZip (GathersAt out b) gates purses) (sym (append-nil back)) all
+
+-- the passes of some sides are joined, and then those of others
+pub gathered-both : (gates : List RingGate) (a b c : List Purse) (ss ts : List GatedRingIs)
+    → IsGathered gates a b ss → IsGathered gates b c ts → IsGathered gates a c (ss ++ ts)
+gathered-both gates a b c ss ts one two out back all =
+    subst (λ l. AllZip (GathersAt out l) gates c) (append_assoc back ss ts)
+    (two out (back ++ ss) (one (map key_of ts ++ out) back
+    (subst (λ l. AllZip (GathersAt l back) gates a)
+    (ap (λ l. l ++ out) (map-append key_of ss ts)
+    ∙ append_assoc (map key_of ss) (map key_of ts) out) all)))
+
+-- Some of the stations were taken in, and the rest are left in a stack. `sides_of` are the sides of
+-- stations.
+pub record Gathering {P S L : Type 0} (gates : List RingGate)
+    (sides_of : List (Station S L) → List GatedRingIs) (IsAt : P → Station S L → Type 0)
+    (plans : List P) (all : List (Station S L)) (old new : List Purse) (left : List (Station S L))
+    (logs : List L) (done : Bool) (place : ℕ) : Type 0 where
+  pub taken : List (Station S L)
+  pub all_is : all ≡ taken ++ reverse left
+  pub at : AllZip IsAt (drop place plans) (reverse left)
+  pub keeps : AllZip KeepsZero gates new
+  pub back : IsGathered gates old new (sides_of taken)
+  pub logged : done ≡ true → AllZip HasLog taken logs
+
+module _ {P S L : Type 0} (gates : List RingGate)
+    (sides_of : List (Station S L) → List GatedRingIs) (IsAt : P → Station S L → Type 0)
+    (plans : List P) (all : List (Station S L)) where
+  pub gathering-init : (old : List Purse) (left : List (Station S L)) (logs : List L)
+      → sides_of [] ≡ [] → left ≡ reverse all → logs ≡ [] → AllZip KeepsZero gates old
+      → AllZip IsAt plans all → Gathering gates sides_of IsAt plans all old old left logs true 0
+  gathering-init old left logs no_sides is none keeps at = record {
+    taken = [];
+    all_is = sym back;
+    at = subst (AllZip IsAt plans) (sym back) at;
+    keeps = keeps;
+    back = subst (IsGathered gates old old) (sym no_sides) (gathered-none gates old);
+    logged = λ yes'. subst (AllZip (HasLog {S = S} {L = L}) []) (sym none) tt;
+  }
+    where
+      back : reverse left ≡ all
+      back = ap reverse is ∙ reverse-reverse all
+
+  -- the plan of the station that comes next, with which it is at home
+  pub next-at : (left rest : List (Station S L)) (w : Station S L) (place : ℕ) (d : P)
+      → left ≡ rest ++ w ∷ [] → AllZip IsAt (drop place plans) (reverse left)
+      → (place < length plans) × IsAt (get_or plans place d) w
+      × AllZip IsAt (drop (place + 1) plans) (reverse rest)
+  next-at left rest w place d is at = ⊎_elim
+      (λ (low : place < length plans).
+      let both = subst (λ l. AllZip IsAt l (w ∷ reverse rest)) (drop_more plans place d low) here in
+      (low, both.0, both.1))
+      (λ (past : length plans ≤ place).
+      absurd (subst (λ l. AllZip IsAt l (w ∷ reverse rest)) (drop_all place plans past) here))
+      (cases_lt place (length plans))
+    where
+      here : AllZip IsAt (drop place plans) (w ∷ reverse rest)
+      here = subst (AllZip IsAt (drop place plans)) (ap reverse is ∙ reverse-append rest (w ∷ []))
+          at
+
+  pub gathering-next : (old mid new : List Purse) (left rest : List (Station S L))
+      (w : Station S L) (logs more : List L) (done kept : Bool) (place : ℕ)
+      (sides : List GatedRingIs) (d : P)
+      → left ≡ rest ++ w ∷ [] → ((ws : List (Station S L))
+      → sides_of (ws ++ w ∷ []) ≡ sides_of ws ++ sides)
+      → (kept ≡ true → IsLogged w.log logs more)
+      → AllZip KeepsZero gates new → IsGathered gates mid new sides
+      → Gathering gates sides_of IsAt plans all old mid left logs done place
+      → Gathering gates sides_of IsAt plans all old new rest more (done && kept) (place + 1)
+  gathering-next old mid new left rest w logs more done kept place sides d is step keeps zeros
+      joined g = record {
+        taken = g.taken ++ w ∷ [];
+        all_is = g.all_is ∙ (ap (λ l. g.taken ++ l) (ap reverse is ∙ reverse-append rest (w ∷ []))
+            ∙ sym (append_assoc g.taken (w ∷ []) (reverse rest)));
+        at = (next-at left rest w place d is g.at).2;
+        keeps = zeros;
+        back = subst (IsGathered gates old new) (sym (step g.taken))
+            (gathered-both gates old mid new (sides_of g.taken) sides g.back joined);
+        logged = λ yes'.
+            let both = and_parts done kept yes' in
+            let k = keeps both.1 in
+            subst (AllZip HasLog (g.taken ++ w ∷ [])) (sym k.grown)
+            (zip-both HasLog g.taken (w ∷ []) logs (k.item ∷ []) (g.logged both.0) (k.log_is, tt));
+      }
+
+  pub gathering-end : (old new : List Purse) (left : List (Station S L)) (logs : List L)
+      (done : Bool) (place : ℕ) → left ≡ []
+      → Gathering gates sides_of IsAt plans all old new left logs done place
+      → IsGathered gates old new (sides_of all) × (done ≡ true → AllZip HasLog all logs)
+  gathering-end old new left logs done place none g = (
+    subst (λ l. IsGathered gates old new (sides_of l)) (sym whole) g.back,
+    λ yes'. subst (λ l. AllZip HasLog l logs) (sym whole) (g.logged yes'),
+  )
+    where
+      whole : all ≡ g.taken
+      whole = g.all_is ∙ (ap (λ l. g.taken ++ reverse l) none ∙ append-nil g.taken)
 
 pub on-ok : {T X : Type 0} (r : Result T X) (P : Type 0) (b : Bool) → b ≡ is_ok r → OnOk r P
     → b ≡ true → P
 on-ok (Ok x) P b is p yes' = p
 on-ok (Err x) P b is p yes' = absurd (let no' : true ≡ false = sym yes' ∙ is in cc)
-
--- pass 0 stays where and which it was
-pub into-gate : {L : Type 0} (seats : List (Seat L)) (old p : PassFacts RingEntry)
-    → GatheredInto seats old p
-    → (p.gate ≡ old.gate) × (p.stay ≡ old.stay) × (p.number ≡ old.number) × (p.given ≡ old.given)
-into-gate seats old p into = (
-  ap (λ (x : PassFacts RingEntry). x.gate) into,
-  ap (λ (x : PassFacts RingEntry). x.stay) into,
-  ap (λ (x : PassFacts RingEntry). x.number) into,
-  ap (λ (x : PassFacts RingEntry). x.given) into,
-)
 
 -- a list that was reversed where it stands
 pub reversed-is : {A : Type 0} (items slice new : List A) (n : ℕ) → slice ≡ items

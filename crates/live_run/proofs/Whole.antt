@@ -1,184 +1,210 @@
--- All stations ran and all passes of the ring are back.
-use Rattle.std.proofs.Common.{◌≡◌, ℕ, ◌&&◌, Bool, true, false, List, [], ◌++◌, All, Contains}
-use Rattle.std.proofs.Common.{map, reverse, refl, sym, ap, subst, ◌∙◌, ◌≤◌}
-use Rattle.std.proofs.lemmas.List.{map-append}
-use Rattle.std.proofs.lemmas.List.Elements.{Contains-append_left, Contains-append_right}
-use Rattle.std.proofs.lemmas.List.Sorted.{Contains-permutation}
-use Rattle.std.specs.List.{AllZip}
-use Rattle.turn_gate.specs.Known.{GateFacts, PassFacts, first_pass}
+-- The closed lists of a run all of whose stations came to their ends.
+use Rattle.std.proofs.Common.{◌≡◌, ℕ, Bool, true, List, map, subst, sym}
+use Rattle.std.specs.List.{AllZip, Contains}
+use Rattle.std.proofs.lemmas.List.Elements.{All-contains, All-contains_itself}
+use Rattle.plant_types.specs.declared.net.BridgePlan.{BridgePlan}
 use Rattle.plant_types.specs.declared.net.HostPlan.{HostPlan}
-use Rattle.plant_types.specs.declared.net.NetPlan.{NetPlan}
 use Rattle.plant_types.specs.declared.plan.ControllerPlan.{ControllerPlan}
 use Rattle.plant_types.specs.declared.plan.Plant.{Plant}
-use Rattle.plant_types.specs.Plans.{controller_nodes, first_net, host_nodes}
-use Rattle.one_net.specs.OneNet.{IsOneNetPlant}
-use Rattle.one_net.proofs.OneNet.{on-net}
-use Rattle.ring_core.specs.declared.entry.RingEntry.{RingEntry}
-use Rattle.ring_core.specs.Legal.{IsMember}
-use Rattle.std.proofs.lemmas.List.Elements.{All-contains_itself}
+use Rattle.plant_types.specs.Plans.{IsBridgeOf, IsBridgePlan, IsPlant}
+use Rattle.tied_lists.specs.Own.{own}
+use Rattle.joint_history.specs.declared.joint.BridgeLog.{BridgeLog}
 use Rattle.joint_history.specs.declared.joint.HostLog.{HostLog}
-use Rattle.live_run.specs.Dealing.{GatheredInto, HasLog, IsAtGate, Seat, brought, fresh_station}
-use Rattle.live_run.specs.Dealing.{seen_by}
-use Rattle.joint_history.specs.Runnable.{CanRunPlant}
-use Rattle.live_run.specs.Runs.{IsThrough}
-use Rattle.live_run.specs.declared.stations.NotedLog.{NotedLog}
-use Rattle.live_run.specs.Stations.{CameNoted, CanRunAll, HasRun, HostCameToEnd, HostHasRun}
-use Rattle.live_run.specs.Stations.{RanEach}
-use Rattle.live_run.proofs.Dealt.{plant-new}
-use Rattle.live_run.proofs.Gathering.{into-gate}
-use Rattle.live_run.proofs.Through.{IsSeatOf, are-brought, back-all, more-brought}
-use Rattle.live_run.proofs.Through.{seat-numbers, seat_seen, seat_side, seated, seats-at}
+use Rattle.joint_history.specs.declared.joint.Joint.{Joint}
+use Rattle.joint_history.specs.declared.joint.RingLog.{RingLog}
+use Rattle.joint_history.specs.declared.noted.Noted.{Noted}
+use Rattle.joint_history.specs.Complete.{IsComplete, IsCompleteBridgeLog, IsCompleteHostLog}
+use Rattle.joint_history.specs.Complete.{IsCompleteLog}
+use Rattle.joint_history.specs.JointLaws.{IsJoint, IsLegalBridgeLog, IsLegalHostLog, IsLegalJoint}
+use Rattle.joint_history.specs.JointLaws.{IsLegalLog, IsLegalRingLog, IsTiedBridge}
+use Rattle.joint_history.specs.JointLaws.{IsTiedController, IsTiedHost}
+use Rattle.joint_history.specs.Nets.{entries_of_rings, noted_on_rings}
+use Rattle.entry_causes.specs.Joint.{IsControllerInTime, IsHostInTime, StationsAreInTime}
+use Rattle.turn_laws.specs.KeepsOn.{NoneSpent}
+use Rattle.turn_laws.specs.Laws.{ControllersComplete, HostsComplete}
+use Rattle.end_times.specs.Joint.{AreBridgesInTime, IsBridgeInTime}
+use Rattle.net_laws.proofs.On.{IsOn, controller-on, host-on, left-on, right-on}
+use Rattle.live_workers.specs.declared.stations.NotedLog.{NotedLog}
+use Rattle.live_workers.specs.Stations.{CameNoted, EndCameToEnd, HostCameToEnd}
+use Rattle.live_run.specs.Closing.{AllClosed}
+use Rattle.live_run.specs.Homes.{Purse, RingGate}
+use Rattle.live_run.specs.Runs.{AreBrought, IsBridgeBrought, IsBrought, IsMadeOf, IsThrough}
+use Rattle.live_run.specs.Runs.{log_part}
+use Rattle.live_run.proofs.Ended.{BridgeEnded, ControllerEnded, EndEnded, HostEnded}
+use Rattle.live_run.proofs.Ended.{bridge-ended, controller-ended, end-ended, host-ended}
+use Rattle.live_run.proofs.Heard.{low-node, noted-own}
+use Rattle.live_run.proofs.Places.{zip-weaker}
+use Rattle.live_run.proofs.Zipped.{all-there, zip-map, zip-second, zip-with}
+use Rattle.live_run.proofs.Unspent.{at-nodes, none-spent}
 
-all-parts : {A : Type 0} (P : A → Type 0) (xs : List A) → ((x : A) → Contains xs x → P x) → All P xs
-all-parts P xs f k d low =
-    f (Rattle.std.proofs.Common.get_or xs k d) (All-contains_itself xs k d low)
+-- all that the closed lists are
+pub record Closes (plant : Plant) (scans : ℕ) (joint : Joint) : Type 0 where
+  pub legal : IsLegalJoint plant scans joint
+  pub ties : IsJoint joint
+  pub timely : StationsAreInTime joint
+  pub complete : IsComplete plant scans joint
+  pub bridges_in_time : AreBridgesInTime joint
+  pub unspent : NoneSpent (noted_on_rings joint)
 
-pub controllers-members : (plant : Plant) → IsOneNetPlant plant
-    → All (λ n. IsMember (first_net plant) n) (controller_nodes plant)
-controllers-members plant sound =
-    let net = first_net plant in
-    all-parts (λ n. IsMember net n) (controller_nodes plant)
-    (λ n there. Contains-permutation (controller_nodes plant ++ host_nodes plant) net.members
-    n (on-net plant sound).members
-    (Contains-append_left (controller_nodes plant) (host_nodes plant) n there))
+-- all that is told of stations, of bridges and of rings
+pub record AllEnded (plant : Plant) (scans : ℕ) (joint : Joint) : Type 0 where
+  pub controllers : AllZip (ControllerEnded plant scans (noted_on_rings joint)) plant.controllers
+      joint.controllers
+  pub hosts : AllZip (HostEnded plant (noted_on_rings joint)) plant.hosts joint.hosts
+  pub bridges : AllZip (BridgeEnded plant (noted_on_rings joint)) plant.bridges joint.bridges
+  pub rings : AllZip IsLegalRingLog plant.nets joint.rings
 
-pub hosts-members : (plant : Plant) → IsOneNetPlant plant
-    → All (λ n. IsMember (first_net plant) n) (host_nodes plant)
-hosts-members plant sound =
-    let net = first_net plant in
-    all-parts (λ n. IsMember net n) (host_nodes plant)
-    (λ n there. Contains-permutation (controller_nodes plant ++ host_nodes plant) net.members
-    n (on-net plant sound).members
-    (Contains-append_right (controller_nodes plant) (host_nodes plant) n there))
-
--- the stations of controllers after their run
-pub controllers-seated : (plant : Plant) (scans : ℕ) (gate : GateFacts RingEntry NetPlan)
-    (old new : List (Seat NotedLog))
-    → old ≡ map (λ (plan : ControllerPlan). fresh_station gate plan.node) plant.controllers
-    → RanEach seat_side (HasRun seat_seen plant scans) plant.controllers old new
-    → AllZip (λ (plan : ControllerPlan) (seat : Seat NotedLog). IsSeatOf gate plan.node seat)
-    plant.controllers new
-controllers-seated plant scans gate old new is r =
-    seated gate (λ plan. plan.node) plant.controllers new
-    (r.sides ∙ ap (Rattle.live_run.specs.Stations.sides_of seat_side) is)
-
-pub hosts-seated : (plant : Plant) (gate : GateFacts RingEntry NetPlan)
-    (old new : List (Seat HostLog))
-    → old ≡ map (λ (plan : HostPlan). fresh_station gate plan.node) plant.hosts
-    → RanEach seat_side (HostHasRun seat_seen plant) plant.hosts old new
-    → AllZip (λ (plan : HostPlan) (seat : Seat HostLog). IsSeatOf gate plan.node seat)
-    plant.hosts new
-hosts-seated plant gate old new is r =
-    seated gate (λ plan. plan.node) plant.hosts new
-    (r.sides ∙ ap (Rattle.live_run.specs.Stations.sides_of seat_side) is)
-
-pub controllers-at : (plant : Plant) (scans : ℕ) (gate : GateFacts RingEntry NetPlan)
-    (old new : List (Seat NotedLog)) → IsOneNetPlant plant
-    → old ≡ map (λ (plan : ControllerPlan). fresh_station gate plan.node) plant.controllers
-    → RanEach seat_side (HasRun seat_seen plant scans) plant.controllers old new
-    → All (IsAtGate gate) new
-controllers-at plant scans gate old new sound is r =
-    seats-at gate (λ plan. plan.node) [] plant.controllers new (plant-new plant sound).0
-    (controllers-seated plant scans gate old new is r)
-
-pub hosts-at : (plant : Plant) (gate : GateFacts RingEntry NetPlan) (old new : List (Seat HostLog))
-    → IsOneNetPlant plant
-    → old ≡ map (λ (plan : HostPlan). fresh_station gate plan.node) plant.hosts
-    → RanEach seat_side (HostHasRun seat_seen plant) plant.hosts old new → All (IsAtGate gate) new
-hosts-at plant gate old new sound is r =
-    seats-at gate (λ plan. plan.node) (reverse (controller_nodes plant) ++ []) plant.hosts new
-    (plant-new plant sound).1 (hosts-seated plant gate old new is r)
-
-both-true : (a b : Bool) → (a && b) ≡ true → (a ≡ true) × (b ≡ true)
-both-true true b e = (refl, e)
-both-true false b e = absurd (let no' : false ≡ true = e in cc)
-
-pub through-all : (plant : Plant) (scans : ℕ) (gate : GateFacts RingEntry NetPlan)
-    (zero one two three four : PassFacts RingEntry)
-    (old new : List (Seat NotedLog)) (host_old host_new : List (Seat HostLog))
-    (logs : List NotedLog) (host_logs : List HostLog) (done host_done : Bool)
-    → zero ≡ first_pass gate.name
-    → one ≡ record zero { given = reverse (controller_nodes plant) ++ zero.given }
-    → two ≡ record one { given = reverse (host_nodes plant) ++ one.given }
-    → old ≡ map (λ (plan : ControllerPlan). fresh_station gate plan.node) plant.controllers
-    → host_old ≡ map (λ (plan : HostPlan). fresh_station gate plan.node) plant.hosts
-    → RanEach seat_side (HasRun seat_seen plant scans) plant.controllers old new
-    → RanEach seat_side (HostHasRun seat_seen plant) plant.hosts host_old host_new
-    → GatheredInto new two three → (done ≡ true → AllZip HasLog new logs)
-    → GatheredInto host_new three four → (host_done ≡ true → AllZip HasLog host_new host_logs)
-    → IsThrough plant scans gate four logs host_logs (done && host_done)
-through-all plant scans gate zero one two three four old new host_old host_new logs host_logs done
-    host_done z o t old_is host_is ran served into logged host_into host_logged =
+closes : (plant : Plant) (scans : ℕ) (joint : Joint) → IsPlant plant → AllEnded plant scans joint
+    → Closes plant scans joint
+closes plant scans joint sound all =
+    let noted = noted_on_rings joint in
+    let ran = ControllerEnded plant scans noted in
+    let served = HostEnded plant noted in
+    let crossed = BridgeEnded plant noted in
     record {
-      gate_is = (into-gate host_new three four host_into).0 ∙ (into-gate new two three into).0
-          ∙ ap (λ (p : PassFacts RingEntry). p.gate) base;
-      outside = (into-gate host_new three four host_into).1 ∙ (into-gate new two three into).1
-          ∙ ap (λ (p : PassFacts RingEntry). p.stay) base;
-      is_zero = (into-gate host_new three four host_into).2 ∙ (into-gate new two three into).2
-          ∙ ap (λ (p : PassFacts RingEntry). p.number) base;
-      all_back = back-all (controller_nodes plant) (host_nodes plant) four
-          ((into-gate host_new three four host_into).3 ∙ (into-gate new two three into).3
-          ∙ ap (λ (p : PassFacts RingEntry). p.given) base)
-          (ap (map (λ (q : ℕ × List RingEntry). q.0)) joined
-          ∙ map-append (λ (q : ℕ × List RingEntry). q.0) (map brought new) (map brought host_new)
-          ∙ (λ i. seat-numbers gate (λ plan. plan.node) plant.controllers new seats i
-          ++ seat-numbers gate (λ plan. plan.node) plant.hosts host_new host_seats i));
-      ran = λ yes'.
-          more-brought gate (λ plan. plan.node) (CameNoted plant scans)
-          (map brought new) four.joined (map seen_by new) four.heard
-          (λ x there. subst (λ l. Contains l x) (sym joined)
-          (Contains-append_left (map brought new) (map brought host_new) x there))
-          (λ x there. subst (λ l. Contains l x) (sym heard)
-          (Contains-append_left (map seen_by new) (map seen_by host_new) x there))
-          plant.controllers logs
-          (are-brought gate (λ plan. plan.node) (CameNoted plant scans) plant.controllers new logs
-          ran.ran seats (logged (both-true done host_done yes').0));
-      served = λ yes'.
-          more-brought gate (λ plan. plan.node) (HostCameToEnd plant)
-          (map brought host_new) four.joined (map seen_by host_new) four.heard
-          (λ x there. subst (λ l. Contains l x) (sym joined)
-          (Contains-append_right (map brought new) (map brought host_new) x there))
-          (λ x there. subst (λ l. Contains l x) (sym heard)
-          (Contains-append_right (map seen_by new) (map seen_by host_new) x there))
-          plant.hosts host_logs
-          (are-brought gate (λ plan. plan.node) (HostCameToEnd plant) plant.hosts host_new host_logs
-          served.ran host_seats
-          (host_logged (both-true done host_done yes').1));
+      legal = record {
+        controllers = zip-weaker ran (IsLegalLog plant scans) plant.controllers
+            joint.controllers (λ a b e. e.legal) all.controllers;
+        hosts = zip-weaker served IsLegalHostLog plant.hosts joint.hosts (λ a b e. e.legal)
+            all.hosts;
+        bridges = zip-weaker crossed IsLegalBridgeLog plant.bridges joint.bridges
+            (λ a b e. e.legal) all.bridges;
+        rings = all.rings;
+      };
+      ties = record {
+        controllers = zip-second ran (IsTiedController noted) (λ a b e. e.tied)
+            plant.controllers joint.controllers all.controllers;
+        hosts = zip-second served (IsTiedHost noted) (λ a b e. e.tied) plant.hosts joint.hosts
+            all.hosts;
+        bridges = zip-second crossed (IsTiedBridge noted) (λ a b e. e.tied) plant.bridges
+            joint.bridges all.bridges;
+      };
+      timely = record {
+        controllers = zip-second ran (IsControllerInTime noted) (λ a b e. e.timely)
+            plant.controllers joint.controllers all.controllers;
+        hosts = zip-second served (IsHostInTime noted) (λ a b e. e.timely) plant.hosts
+            joint.hosts all.hosts;
+      };
+      complete = record {
+        controllers = zip-weaker ran (IsCompleteLog plant scans noted) plant.controllers
+            joint.controllers (λ a b e. e.complete) all.controllers;
+        hosts = zip-weaker served (IsCompleteHostLog plant noted) plant.hosts joint.hosts
+            (λ a b e. e.complete) all.hosts;
+        bridges = zip-weaker crossed (IsCompleteBridgeLog plant noted) plant.bridges
+            joint.bridges (λ a b e. e.complete) all.bridges;
+      };
+      bridges_in_time = zip-second crossed (IsBridgeInTime noted) (λ a b e. e.timely)
+          plant.bridges joint.bridges all.bridges;
+      unspent = none-spent plant joint.rings sound all.rings
+          (at-nodes plant (λ (n : ℕ). NoneSpent (own n noted)) ran served crossed
+          joint.controllers joint.hosts joint.bridges (λ a b e. e.unspent) (λ a b e. e.unspent)
+          (λ a b e. (e.left, e.right)) all.controllers all.hosts all.bridges);
     }
-  where
-    base : two ≡ record (first_pass gate.name) {
-      given = reverse (host_nodes plant)
-          ++ (reverse (controller_nodes plant) ++ []);
-    }
-    base = t ∙ ap
-        (λ (p : PassFacts RingEntry). record p { given = reverse (host_nodes plant) ++ p.given })
-        (o ∙ ap (λ (p : PassFacts RingEntry).
-        record p { given = reverse (controller_nodes plant) ++ p.given }) z)
 
-    seats : AllZip (λ (plan : ControllerPlan) (seat : Seat NotedLog). IsSeatOf gate plan.node seat)
-        plant.controllers new
-    seats = controllers-seated plant scans gate old new old_is ran
+module _ (law : ControllersComplete) (host_law : HostsComplete) (plant : Plant) (scans : ℕ)
+    (sound : IsPlant plant) (gates : List RingGate) (purses : List Purse) (rings : List RingLog)
+    (closed : AllClosed gates purses rings)
+    (legal : AllZip IsLegalRingLog plant.nets rings) where
+  ran-ended : (logs : List NotedLog)
+      → AreBrought gates purses (λ (p : ControllerPlan). p.network)
+      (λ (p : ControllerPlan). p.node) (CameNoted plant scans) plant.controllers logs
+      → AllZip (ControllerEnded plant scans (entries_of_rings rings)) plant.controllers
+      (map log_part logs)
+  ran-ended logs all =
+      let noted = entries_of_rings rings in
+      zip-map (ControllerEnded plant scans noted) log_part plant.controllers logs
+      (zip-with (λ (p : ControllerPlan). IsOn plant p.network p.node)
+      (λ (p : ControllerPlan) (l : NotedLog).
+      IsBrought gates purses p.network p.node (CameNoted plant scans p l))
+      (λ (p : ControllerPlan) (l : NotedLog). ControllerEnded plant scans noted p l.log)
+      (λ p l on b. controller-ended law plant scans p l.log b.side.seen noted
+      (low-node plant p.network p.node on)
+      (noted-own plant gates purses rings sound closed legal p.network p.node
+      (CameNoted plant scans p l) on b) b.holds.came)
+      plant.controllers logs
+      (all-there (λ (p : ControllerPlan). IsOn plant p.network p.node) plant.controllers
+      (λ p there. controller-on plant p sound there)) all)
 
-    host_seats : AllZip (λ (plan : HostPlan) (seat : Seat HostLog). IsSeatOf gate plan.node seat)
-        plant.hosts host_new
-    host_seats = hosts-seated plant gate host_old host_new host_is served
+  served-ended : (logs : List HostLog)
+      → AreBrought gates purses (λ (p : HostPlan). p.network) (λ (p : HostPlan). p.node)
+      (HostCameToEnd plant) plant.hosts logs
+      → AllZip (HostEnded plant (entries_of_rings rings)) plant.hosts logs
+  served-ended logs all =
+      let noted = entries_of_rings rings in
+      zip-with (λ (p : HostPlan). IsOn plant p.network p.node)
+      (λ (p : HostPlan) (l : HostLog).
+      IsBrought gates purses p.network p.node (HostCameToEnd plant p l))
+      (HostEnded plant noted)
+      (λ p l on b. host-ended host_law plant p l b.side.seen noted
+      (low-node plant p.network p.node on)
+      (noted-own plant gates purses rings sound closed legal p.network p.node
+      (HostCameToEnd plant p l) on b) b.holds)
+      plant.hosts logs
+      (all-there (λ (p : HostPlan). IsOn plant p.network p.node) plant.hosts
+      (λ p there. host-on plant p sound there)) all
 
-    joined : four.joined ≡ map brought new ++ map brought host_new
-    joined = ap (λ (p : PassFacts RingEntry). p.joined) host_into
-        ∙ ap (λ l. l ++ map brought host_new) (ap (λ (p : PassFacts RingEntry). p.joined) into
-        ∙ ap (λ (p : PassFacts RingEntry). p.joined ++ map brought new) base)
+  brought-end : (plan : BridgePlan) (log : BridgeLog) (network side : ℕ) → IsBridgePlan plan
+      → IsOn plant network side
+      → IsBrought gates purses network side (EndCameToEnd plant plan side log.entries)
+      → EndEnded plant (entries_of_rings rings) log side
+  brought-end plan log network side good on b =
+      end-ended plant plan log side b.side.seen (entries_of_rings rings) good
+      (low-node plant network side on)
+      (noted-own plant gates purses rings sound closed legal network side
+      (EndCameToEnd plant plan side log.entries) on b) b.holds
 
-    heard : four.heard ≡ map seen_by new ++ map seen_by host_new
-    heard = ap (λ (p : PassFacts RingEntry). p.heard) host_into
-        ∙ ap (λ l. l ++ map seen_by host_new) (ap (λ (p : PassFacts RingEntry). p.heard) into
-        ∙ ap (λ (p : PassFacts RingEntry). p.heard ++ map seen_by new) base)
+  crossed-ended : (logs : List BridgeLog)
+      → AllZip (IsBridgeBrought plant gates purses) plant.bridges logs
+      → AllZip (BridgeEnded plant (entries_of_rings rings)) plant.bridges logs
+  crossed-ended logs all =
+      zip-with (Contains plant.bridges) (IsBridgeBrought plant gates purses)
+      (BridgeEnded plant (entries_of_rings rings))
+      (λ p l there b.
+      let good = (All-contains (IsBridgeOf plant) plant.bridges p sound.bridges there).plan in
+      bridge-ended plant (entries_of_rings rings) p l b.legal
+      (brought-end p l p.left_net p.left good (left-on plant p sound there) b.left)
+      (brought-end p l p.right_net p.right good (right-on plant p sound there) b.right))
+      plant.bridges logs (All-contains_itself plant.bridges) all
 
--- each controller of a plant that can run can run
-pub can-run : (plant : Plant) (scans : ℕ) → CanRunPlant plant → scans ≤ 2000
-    → CanRunAll plant scans plant.controllers
-can-run plant scans can few k d within = record {
-  plan = can.controllers k d within;
-  scan_time = can.sound.scan_time.to;
-  watchdog = can.sound.watchdog.from;
-  scans = few;
-}
+  pub run-closes : (logs : List NotedLog) (host_logs : List HostLog)
+      (bridge_logs : List BridgeLog) (done : Bool) → done ≡ true
+      → IsThrough plant scans gates purses logs host_logs bridge_logs done
+      → Closes plant scans (record {
+        controllers = map log_part logs;
+        hosts = host_logs;
+        bridges = bridge_logs;
+        rings = rings;
+      })
+  run-closes logs host_logs bridge_logs done is through =
+      closes plant scans (record {
+        controllers = map log_part logs;
+        hosts = host_logs;
+        bridges = bridge_logs;
+        rings = rings;
+      }) sound (record {
+        controllers = ran-ended logs (through.ran is);
+        hosts = served-ended host_logs (through.served is);
+        bridges = crossed-ended bridge_logs (through.crossed is);
+        rings = legal;
+      })
+
+  -- so it is of the joint history that is made of them
+  pub made-closes : (logs : List NotedLog) (host_logs : List HostLog)
+      (bridge_logs : List BridgeLog) (done : Bool) → done ≡ true
+      → IsThrough plant scans gates purses logs host_logs bridge_logs done
+      → (noted : Noted) → IsMadeOf logs host_logs bridge_logs rings noted
+      → Closes plant scans noted.joint
+  made-closes logs host_logs bridge_logs done is through noted made =
+      let same : noted.joint ≡ record {
+        controllers = map log_part logs;
+        hosts = host_logs;
+        bridges = bridge_logs;
+        rings = rings;
+      } = λ i. record {
+        controllers = made.controllers_are i;
+        hosts = made.hosts_are i;
+        bridges = made.bridges_are i;
+        rings = made.rings_are i;
+      } in
+      subst (Closes plant scans) (sym same)
+      (run-closes logs host_logs bridge_logs done is through)

@@ -1,9 +1,5 @@
-pub mod Flags
-pub mod Cells
-pub mod Sides
-pub mod Scanning
-pub mod Talking
-pub mod Pairs
-pub mod Stations
+pub mod Homes
 pub mod Dealing
+pub mod Ends
+pub mod Closing
 pub mod Runs

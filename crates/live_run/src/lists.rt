@@ -2,9 +2,9 @@
 ghost use Rattle.std.specs.Prelude.{◌≡◌, IfOk, map};
 ghost use Rattle.live_run.specs.Runs.{IsMadeOf, log_part, notes_part};
 
-use crate::stations::NotedLog;
 use controller_core::Notes;
-use joint_history::{ControllerLog, HostLog, Joint, Noted, RingLog};
+use joint_history::{BridgeLog, ControllerLog, HostLog, Joint, Noted, RingLog};
+use live_workers::NotedLog;
 use plant_types::List;
 use std::alloc::{AllocError, Global};
 
@@ -31,16 +31,17 @@ pub(crate) fn noted_of(
     alloc: Global,
     controllers: Vec<NotedLog>,
     hosts: Vec<HostLog>,
-    rings: List<RingLog>,
+    bridges: Vec<BridgeLog>,
+    rings: Vec<RingLog>,
 ) -> Result<Noted, AllocError>
-    ensures { IfOk result (IsMadeOf controllers.items hosts.items rings) }
+    ensures { IfOk result (IsMadeOf controllers.items hosts.items bridges.items rings.items) }
 {
     let (logs, notes) = apart(alloc, controllers)?;
     let joint = Joint {
         controllers: List::from_vec(logs),
         hosts: List::from_vec(hosts),
-        bridges: List::new(alloc),
-        rings,
+        bridges: List::from_vec(bridges),
+        rings: List::from_vec(rings),
     };
     Ok(Noted {
         joint,

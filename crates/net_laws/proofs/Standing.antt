@@ -1,10 +1,9 @@
 -- Whether a node is away from its ring, or gone from it, is told by its own entries.
-use Rattle.std.proofs.Common.{◌≡◌, ℕ, suc, ◌<◌, true, false, cond, List, [], ◌∷◌, length, map}
-use Rattle.std.proofs.Common.{set, replicate, refl, sym, ap, subst, ◌∙◌, ⊎_elim, get_or-set_same}
+use Rattle.std.proofs.Common.{◌≡◌, ℕ, ◌<◌, true, false, cond, List, [], ◌∷◌, length, map}
+use Rattle.std.proofs.Common.{set, refl, sym, ap, subst, ◌∙◌, ⊎_elim, get_or-set_same}
 use Rattle.std.specs.Prelude.{◌==◌}
 use Rattle.std.proofs.lemmas.Bool.{cases_Bool, cond_both, eq-eqb, eqb-true}
-use Rattle.std.proofs.lemmas.List.{length-set}
-use Rattle.plant_types.specs.declared.net.Fate.{Fate}
+use Rattle.std.proofs.lemmas.List.{length-map, length-set}
 use Rattle.plant_types.specs.declared.net.NetPlan.{NetPlan}
 use Rattle.ring_core.specs.declared.frame.Frame.{Frame}
 use Rattle.ring_core.specs.declared.entry.LeaveCause.{LeaveCause}
@@ -16,33 +15,23 @@ use Rattle.ring_core.specs.declared.status.NodeStatus.{NodeStatus}
 use Rattle.ring_core.specs.declared.status.NodeStatus.TheVariants.{In, Away, Asking, Gone}
 use Rattle.ring_core.specs.Words.{maker}
 use Rattle.ring_core.specs.Machine.{NodeIs, RingIs, addresses, fresh, part_of, ring_node, after}
-use Rattle.ring_core.specs.Machine.{after_all, opening, with_members, arrived}
-use Rattle.ring_core.specs.Machine.{arrival, arrives, fate_at, sent_head, admitted}
+use Rattle.ring_core.specs.Machine.{after_all, opening, fate_at, sent_head, admitted}
 use Rattle.ring_core.specs.Machine.{admitted_status, gone_by}
 use Rattle.ring_core.specs.Machine.{after_pass, is_held, made_asking, with_status}
+use Rattle.ring_core.proofs.Sound.{opening-sound}
 use Rattle.ring_core.proofs.Stability.{admitted-part, out, status-sent, status-set}
 use Rattle.tied_lists.specs.Own.{own}
 use Rattle.tied_lists.specs.Waits.{status_at}
+use Rattle.tied_lists.proofs.Histories.{length-arrived}
+use Rattle.net_laws.specs.Standing.{status_from, status_left, status_next}
 
 -- ---- no entry makes nodes more or fewer
-
-length-admitted : (nodes : List NodeIs) → length (map admitted nodes) ≡ length nodes
-length-admitted [] = refl
-length-admitted (c ∷ cs) = ap suc (length-admitted cs)
-
-length-arrived : (net : NetPlan) (nodes : List NodeIs) (fate : Fate) (f : Frame)
-    → length (arrived nodes f (arrival net nodes fate f)) ≡ length nodes
-length-arrived net nodes fate f =
-    cond_both (arrives net nodes fate f) _ _ (λ fall. length (arrived nodes f fall) ≡ length nodes)
-    (λ _. length-set nodes f.to _) (λ _. refl)
 
 length-sent : (net : NetPlan) (r : RingIs) (n : ℕ) (box : List Frame)
     → length (sent_head net r n box).nodes ≡ length r.nodes
 length-sent net r n [] = refl
 length-sent net r n (f ∷ fs) =
-    let fate = fate_at net.fates r.sent in
-    length-set (arrived r.nodes f (arrival net r.nodes fate f)) n _
-    ∙ length-arrived net r.nodes fate f
+    length-set _ n _ ∙ length-arrived net r.nodes (fate_at net.fates r.sent) f
 
 length-after : (net : NetPlan) (r : RingIs) (e : RingEntry)
     → length (after net r e).nodes ≡ length r.nodes
@@ -51,30 +40,15 @@ length-after net r (Send m heard) = length-sent net r m (ring_node r m).outbox
 length-after net r (Take m f) = length-set r.nodes m _
 length-after net r (Local m id op result) = refl
 length-after net r (GiveUp id word) = length-set r.nodes id.node _
-length-after net r (Pass m done words) = length-admitted _ ∙ length-set r.nodes m _
-length-after net r (Leave m cause) = length-admitted _ ∙ length-set r.nodes m _
+length-after net r (Pass m done words) = length-map _ admitted ∙ length-set r.nodes m _
+length-after net r (Leave m cause) = length-map _ admitted ∙ length-set r.nodes m _
 length-after net r (Join m) =
     cond_both (is_held r) _ _ (λ (x : RingIs). length x.nodes ≡ length r.nodes)
     (λ _. length-set r.nodes m _) (λ _. length-set r.nodes m _)
 
 -- ---- how a node stands, where who asks to come in stands as one who is in
 
--- by the node's own entry
-abbrev left_as : LeaveCause → NodeStatus
-left_as Ended = Gone
-left_as Spent = Gone
-left_as (Down number) = Away
-
-abbrev stands_next : NodeStatus → RingEntry → NodeStatus
-stands_next s (Leave m cause) = left_as cause
-stands_next s (Join m) = In
-stands_next s _ = s
-
-abbrev stands_after : NodeStatus → List RingEntry → NodeStatus
-stands_after s [] = s
-stands_after s (e ∷ es) = stands_after (stands_next s e) es
-
-abbrev stands : NodeIs → NodeStatus
+abbrev pub stands : NodeIs → NodeStatus
 stands c = admitted_status c.status
 
 admitted-twice : (s : NodeStatus) → admitted_status (admitted_status s) ≡ admitted_status s
@@ -83,7 +57,7 @@ admitted-twice Away = refl
 admitted-twice Asking = refl
 admitted-twice Gone = refl
 
-left-stands : (c : NodeIs) (cause : LeaveCause) → stands (gone_by cause c) ≡ left_as cause
+left-stands : (c : NodeIs) (cause : LeaveCause) → stands (gone_by cause c) ≡ status_left cause
 left-stands c Ended = refl
 left-stands c Spent = refl
 left-stands c (Down number) = refl
@@ -104,7 +78,7 @@ set-here nodes n c range = get_or-set_same nodes n c (fresh false) range
 -- an own entry changes it as this says
 own-stands : (net : NetPlan) (r : RingIs) (n : ℕ) (e : RingEntry) → maker e ≡ n
     → n < length r.nodes
-    → stands (ring_node (after net r e) n) ≡ stands_next (stands (ring_node r n)) e
+    → stands (ring_node (after net r e) n) ≡ status_next (stands (ring_node r n)) e
 own-stands net r n (Post m f) own range = same-stands r.nodes m n _ refl
 own-stands net r n (Send m heard) own range =
     ap admitted_status (status-sent net r m (ring_node r m).outbox n)
@@ -115,7 +89,7 @@ own-stands net r n (Pass m done words) own range =
     handed-stands (set r.nodes m (after_pass (ring_node r m) done)) n
     ∙ same-stands r.nodes m n (after_pass (ring_node r m) done) refl
 own-stands net r n (Leave m cause) own range =
-    subst (λ (k : ℕ). stands (ring_node (after net r (Leave k cause)) n) ≡ left_as cause)
+    subst (λ (k : ℕ). stands (ring_node (after net r (Leave k cause)) n) ≡ status_left cause)
     (sym own)
     (handed-stands (set r.nodes n (gone_by cause (ring_node r n))) n
     ∙ ap stands (set-here r.nodes n (gone_by cause (ring_node r n)) range)
@@ -146,8 +120,9 @@ other-stands net r n (Join m) other = cond_both (is_held r) _ _
     (λ _. ap stands (out r.nodes n m (with_status (ring_node r m) Asking) other))
     (λ _. ap stands (out r.nodes n m (with_status (ring_node r m) In) other))
 
-all-stand : (net : NetPlan) (r : RingIs) (n : ℕ) (es : List RingEntry) → n < length r.nodes
-    → stands (ring_node (after_all net r es) n) ≡ stands_after (stands (ring_node r n)) (own n es)
+-- where a node stands behind a list, by its own entries of it
+pub all-stand : (net : NetPlan) (r : RingIs) (n : ℕ) (es : List RingEntry) → n < length r.nodes
+    → stands (ring_node (after_all net r es) n) ≡ status_from (stands (ring_node r n)) (own n es)
 all-stand net r n [] range = refl
 all-stand net r n (e ∷ es) range =
     let next = after net r e in
@@ -157,43 +132,35 @@ all-stand net r n (e ∷ es) range =
     ⊎_elim
     (λ (mine : (maker e == n) ≡ true).
     rest
-    ∙ ap (λ s. stands_after s (own n es)) (own-stands net r n e (eqb-true (maker e) n mine) range)
-    ∙ sym (ap (λ b. stands_after was (cond b (e ∷ own n es) (own n es))) mine))
+    ∙ ap (λ s. status_from s (own n es)) (own-stands net r n e (eqb-true (maker e) n mine) range)
+    ∙ sym (ap (λ b. status_from was (cond b (e ∷ own n es) (own n es))) mine))
     (λ (other : (maker e == n) ≡ false).
     rest
-    ∙ ap (λ s. stands_after s (own n es)) (other-stands net r n e (λ same.
+    ∙ ap (λ s. status_from s (own n es)) (other-stands net r n e (λ same.
     let no' : false ≡ true = sym other ∙ eq-eqb (maker e) n same in absurd cc))
-    ∙ sym (ap (λ b. stands_after was (cond b (e ∷ own n es) (own n es))) other))
+    ∙ sym (ap (λ b. status_from was (cond b (e ∷ own n es) (own n es))) other))
     (cases_Bool (maker e == n))
 
 -- ---- behind whole lists
-
-length-members : (nodes : List NodeIs) (ms : List ℕ)
-    → length (with_members nodes ms) ≡ length nodes
-length-members nodes [] = refl
-length-members nodes (m ∷ ms) =
-    length-members (set nodes m (fresh true)) ms ∙ length-set nodes m (fresh true)
-
-length-opening : (net : NetPlan) → length (opening net).nodes ≡ addresses
-length-opening net = length-members (replicate addresses (fresh false)) net.members
 
 -- lists that are the same to a node leave it standing as one
 same-standing : (net : NetPlan) (n : ℕ) (one two : List RingEntry) → n < addresses
     → own n one ≡ own n two
     → admitted_status (status_at net one n) ≡ admitted_status (status_at net two n)
 same-standing net n one two low same =
-    let range = subst (λ (size : ℕ). n < size) (sym (length-opening net)) low in
+    let range = subst (λ (size : ℕ). n < size) (sym (opening-sound net).size) low in
     all-stand net (opening net) n one range
-    ∙ ap (stands_after (stands (ring_node (opening net) n))) same
+    ∙ ap (status_from (stands (ring_node (opening net) n))) same
     ∙ sym (all-stand net (opening net) n two range)
 
-is-gone : (s : NodeStatus) → admitted_status s ≡ Gone → s ≡ Gone
+-- one that counts as gone is gone, and one that counts as away is away
+pub is-gone : (s : NodeStatus) → admitted_status s ≡ Gone → s ≡ Gone
 is-gone In is = absurd cc
 is-gone Away is = absurd cc
 is-gone Asking is = absurd cc
 is-gone Gone is = refl
 
-is-away : (s : NodeStatus) → admitted_status s ≡ Away → s ≡ Away
+pub is-away : (s : NodeStatus) → admitted_status s ≡ Away → s ≡ Away
 is-away In is = absurd cc
 is-away Away is = refl
 is-away Asking is = absurd cc

@@ -9,6 +9,7 @@ pub mod EndParts
 pub mod EndTurn
 pub mod Places
 pub mod Written
+pub mod Between
 pub mod Runs
 pub mod Serial
 pub mod Whole

@@ -32,8 +32,9 @@ use Rattle.serial_run.specs.Serial.{members_on, scanned, visits_of}
 use Rattle.serial_run.specs.Turns.{MakesTurns, nothing_made}
 use Rattle.one_run.proofs.Meets.{Behind, endings}
 use Rattle.one_run.proofs.Places.{at-map, at-zip, map-at, some-same, zip-at}
-use Rattle.one_run.proofs.Runs.{Fine, Grows, Kept, OneJoint, events-behind, fine-front}
-use Rattle.one_run.proofs.Runs.{grows-none, grows-then, kept-at-first, turns-grow, turns-one}
+use Rattle.one_run.proofs.Between.{Fine, Grows, Kept, OneJoint, events-behind, fine-front}
+use Rattle.one_run.proofs.Between.{grows-none, grows-then}
+use Rattle.one_run.proofs.Runs.{kept-at-first, turns-grow, turns-one}
 
 -- ---- whole scans
 

@@ -14,7 +14,8 @@ use Rattle.joint_history.specs.declared.joint.Joint.{Joint}
 use Rattle.serial_run.specs.Turns.{nothing_made}
 use Rattle.one_run.proofs.Meets.{May, behind-tied, meets-tied}
 use Rattle.one_run.proofs.HostTurn.{host-same}
-use Rattle.one_run.proofs.Runs.{Fine, fine-at-last, kept-at-first, turns-one}
+use Rattle.one_run.proofs.Between.{Fine}
+use Rattle.one_run.proofs.Runs.{fine-at-last, kept-at-first, turns-one}
 use Rattle.one_run.proofs.Serial.{serial-one}
 use Rattle.one_run.proofs.Turn.{turn-same, visit-same}
 
@@ -51,7 +52,8 @@ fine-of plant scans joint sound run = fine-at-last plant scans joint sound run.l
 
 pub turns-run : CallLaws → OneTurnsRun
 turns-run laws plant scans order one other sound m run m' run' =
-    (turns-one plant scans sound laws order (nothing_made plant) one other (kept-at-first plant scans)
+    (turns-one plant scans sound laws order (nothing_made plant) one other
+    (kept-at-first plant scans)
     (fine-of plant scans one sound run)
     (fine-of plant scans other sound run') m m').is
 

@@ -8,8 +8,8 @@ use Rattle.serial_run.specs.declared.order.Turn.{Turn}
 use Rattle.serial_run.specs.Serial.{IsSerial}
 use Rattle.serial_run.specs.Turns.{IsTurns}
 
--- A joint history whose lists are legal ones of a plant's stations, of its bridges and of its rings,
--- for so many scans, and keep the laws between them.
+-- A joint history whose lists are legal ones of a plant's stations, of its bridges and of its
+-- rings, for so many scans, and keep the laws between them.
 pub record IsRunOf (plant : Plant) (scans : ℕ) (joint : Joint) : Type 0 where
   pub legal : IsLegalJoint plant scans joint
   pub ties : IsJoint joint

@@ -1,7 +1,6 @@
 // The live top call: the plant runs in threads, and may wait.
 ghost use Rattle.std.specs.Prelude.{◌≡◌, IfOk, map, string_bytes};
 ghost use Rattle.joint_history.specs.Runnable.{CanRunPlant};
-ghost use Rattle.one_net.specs.OneNet.{IsOfOneNet};
 ghost use Rattle.command_words.specs.Words.{IsNumberOfScans, SpellsLive};
 ghost use Rattle.command_answers.specs.Due.{IsLiveDue, IsLiveShown, as_due};
 ghost use Rattle.plant984.specs.Promise.{AsksInput, PromisedLive, WritesNothing, always};
@@ -30,7 +29,6 @@ fn show_live<M: Meet + Sync, R: Threads + Wait + Clock + Sync>(
 ) -> Result<Answer, AllocError>
     requires scans { IsNumberOfScans scans }
     requires plant { CanRunPlant plant.now }
-    requires one { IsOfOneNet plant.now }
     ensures { IfOk result (λ answer. IsLiveShown scans plant.now (as_due answer)) }
 {
     let noted = live_noted(rt, alloc, plant, scans, meet)?;
@@ -49,7 +47,7 @@ fn answer_live<M: Meet + Sync, R: Threads + Wait + Clock + Sync>(
     requires { IsNumberOfScans scans }
     ensures { IfOk result (λ answer. IsLiveDue scans input.now (as_due answer)) }
 {
-    match load(alloc, Version::One, input) {
+    match load(alloc, Version::Two, input) {
         Ok(plant) => show_live(rt, alloc, scans, &plant, meet),
         Err(LoadEnd::Refused(fault, place)) => refused(alloc, fault, place),
         Err(LoadEnd::NoMemory) => Err(AllocError),

@@ -79,6 +79,36 @@ S 2 N 5
 "
 }
 
+/// A plant of two networks: node 2 reads two registers of node 5 over a bridge.
+pub fn bridged() -> &'static str {
+    r#"version = 2
+bridges = ["1 9 2 12"]
+[net]
+rounds = 8
+[[network]]
+number = 1
+[[network]]
+number = 2
+[[controller]]
+node = 2
+network = 1
+coils = 16
+registers = 20
+panel = ["40002","40011","40012","00001","00002","00003"]
+orders = ["1 - - -"]
+[[controller.segment]]
+networks = ["1,1 ADD 2 0 40001; 4,1 ADD 2 0 40003","1,1 ADD 1 0 40004; 4,1 ADD 9 0 40005",
+"1,1 ADD 5 0 40006","1,1 H; 1,2 MSTR 40001 40011 10; 1,3 CO 00001; 2,3 CO 00002; 3,3 CO 00003"]
+[[controller]]
+node = 5
+network = 2
+registers = 4
+orders = ["1 - - -"]
+[[controller.segment]]
+networks = ["1,1 ADD 41 1 40001; 4,1 ADD 43 0 40002"]
+"#
+}
+
 /// A plant of two pumps' controllers that read each other's registers, and a host that reads them.
 pub fn pumps() -> &'static str {
     r#"version = 1

@@ -1,7 +1,7 @@
 // Live runs of plants in threads: their journals are judged, and their panels replayed.
 ghost use Rattle.command_words.specs.Words.{IsNumberOfScans};
 
-use crate::nets::{pumps, read2};
+use crate::nets::{bridged, pumps, read2};
 use crate::tests::{Call, Outcome, call_over, ends_so};
 use crate::top::plant_top;
 use command_answers::Status;
@@ -130,7 +130,7 @@ fn parted(alloc: Global, text: &[u8]) -> Result<(String, String), Fail> {
 fn judged_legal(alloc: Global, plant: &str, scans: u32, journal: &str) -> Result<Joint, Fail>
     requires { IsNumberOfScans scans }
 {
-    let plant = load(alloc, Version::One, plant.as_bytes()).map_err(|_| "the plant")?;
+    let plant = load(alloc, Version::Two, plant.as_bytes()).map_err(|_| "the plant")?;
     let joint = read_journal(alloc, journal.as_bytes()).map_err(|_| "the journal")?;
     match judge(alloc, &plant, &joint, scans)? {
         Verdict::Legal => Ok(joint),
@@ -206,10 +206,10 @@ fn a_scan_and_a_host_meet(rt: HostRuntime) -> Result<(), Fail> {
     Ok(())
 }
 
-// Whether the journal of a live run of the pumps is legal, and its replay is this panel.
-fn replays(alloc: Global, journal: &str, panel: &str) -> Result<bool, Fail> {
-    judged_legal(alloc, pumps(), 6, journal)?;
-    let input = format!(in alloc; "{}{journal}", pumps())?;
+// Whether the journal of a live run of a plant is legal, and its replay is this panel.
+fn replays(alloc: Global, plant: &str, journal: &str, panel: &str) -> Result<bool, Fail> {
+    judged_legal(alloc, plant, 6, journal)?;
+    let input = format!(in alloc; "{plant}{journal}")?;
     Ok(ends_so(alloc, "replay 6", input.as_bytes(), Status::Ok, panel)?)
 }
 
@@ -218,7 +218,18 @@ fn pumps_run_live(rt: HostRuntime) -> Result<(), Fail> {
     let alloc = rt.alloc();
     let (journal, panel) = live_texts(&rt, alloc, "live 6", pumps(), &NoMeet)?;
     assert!(rt;
-        replays(alloc, journal.as_str(), panel.as_str())?,
+        replays(alloc, pumps(), journal.as_str(), panel.as_str())?,
+        "{journal}"
+    );
+    Ok(())
+}
+
+#[test]
+fn two_networks_run_live(rt: HostRuntime) -> Result<(), Fail> {
+    let alloc = rt.alloc();
+    let (journal, panel) = live_texts(&rt, alloc, "live 6", bridged(), &NoMeet)?;
+    assert!(rt;
+        replays(alloc, bridged(), journal.as_str(), panel.as_str())?,
         "{journal}"
     );
     Ok(())

@@ -38,6 +38,7 @@ use Rattle.plant_loader.specs.Drops.{or_zeros, drop_from, drop_with, drop_behind
 use Rattle.plant_loader.proofs.Common.{ok_value, at_place-ok, both-hold, placed-hold}
 use Rattle.plant_loader.proofs.KeyLemmas.{number_at_key-within, texts_at-few}
 use Rattle.plant_loader.proofs.TestLemmas.{each_behind-tests, each_from-tests, each_from-length}
+use Rattle.plant_loader.proofs.TestLemmas.{one-test}
 
 -- a module that is read passes its tests
 module_of-passes : (sizes : Sizes) (place : Place) (text : List ℕ) (io_module : Module)
@@ -72,11 +73,6 @@ modules-pass owner drop position texts modules h =
     (module_tests (held_of owner.sizes io_module) io_module)
     (module_of-passes owner.sizes (module_place owner.position drop n) text io_module e))
     texts 1 modules h
-
--- a test alone
-one-test : {F : Type 0} (test : Bool) (fault : F) → test ≡ true
-    → first_failed ((test, fault) ∷ []) ≡ Ok tt
-one-test test fault h = rw h refl
 
 -- a row that fits at its place
 row-holds : (modules : List Module) (position : ℕ) (before : List ScriptRow) (row : ScriptRow)

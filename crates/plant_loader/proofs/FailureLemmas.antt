@@ -1,6 +1,5 @@
 -- Power rows that are read pass their tests.
-use Rattle.std.proofs.Common.{◌≡◌, ℕ, ◌+◌, Bool, true, ◌&&◌, List, [], ◌∷◌, length, Some, Ok}
-use Rattle.std.proofs.Common.{refl}
+use Rattle.std.proofs.Common.{◌≡◌, ℕ, ◌+◌, true, ◌&&◌, List, [], ◌∷◌, length, Some, Ok}
 use Rattle.std.specs.Prelude.{nat_le}
 use Rattle.std.proofs.lemmas.Bool.{and_parts, and_from}
 use Rattle.plant_types.specs.declared.plan.ControllerPlan.{ControllerPlan}
@@ -21,7 +20,7 @@ use Rattle.plant_loader.specs.Requests.{is_numeral_within, numeral_within}
 use Rattle.plant_loader.specs.Failures.{power_words, power_from, last_row, power_row}
 use Rattle.plant_loader.specs.Failures.{power_rows_of}
 use Rattle.plant_loader.proofs.Common.{ok_value, some_value, placed-hold}
-use Rattle.plant_loader.proofs.TestLemmas.{each_behind-tests}
+use Rattle.plant_loader.proofs.TestLemmas.{each_behind-tests, one-test}
 
 -- a number that reads is from the lowest to the highest
 pub numeral-tests : (low high : ℕ) (word : List ℕ) (n : ℕ) → numeral_within low high word ≡ Some n
@@ -32,11 +31,6 @@ numeral-tests low high word n h =
     let tests = and_parts (is_numeral word)
     (nat_le low (value_of word) && nat_le (value_of word) high) found.0 in
     rw (← same) tests.1
-
--- a test alone
-one-test : {F : Type 0} (test : Bool) (fault : F) → test ≡ true
-    → first_failed ((test, fault) ∷ []) ≡ Ok tt
-one-test test fault h = rw h refl
 
 -- a row that is read passes the tests of a plan of so many order rows
 power_row-passes : (owner : Owner) (plan : ControllerPlan) (before : List PowerRow)

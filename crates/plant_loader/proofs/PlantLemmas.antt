@@ -58,7 +58,7 @@ use Rattle.plant_loader.proofs.KeyLemmas.{discrete_size_at-is_discrete_size, tex
 use Rattle.plant_loader.proofs.KeyLemmas.{tables_at-few}
 use Rattle.plant_loader.proofs.TestLemmas.{each_behind-keeps, each_behind-all, each_from-tests}
 use Rattle.plant_loader.proofs.TestLemmas.{each_from-length, with_positions-count, none-node}
-use Rattle.plant_loader.proofs.TestLemmas.{distinct-push}
+use Rattle.plant_loader.proofs.TestLemmas.{distinct-push, one-test}
 use Rattle.plant_loader.proofs.NetLemmas.{IsOn, network-is}
 use Rattle.plant_loader.proofs.SegmentLemmas.{segments-pass, segments-count}
 use Rattle.plant_loader.proofs.DropLemmas.{drops-pass}
@@ -77,11 +77,6 @@ panel_item-held owner number text at h =
     (λ held. Ok found.0) at found.1.1 in
     let same : found.0 ≡ at = ok_value found.0 at held.1 in
     rw (← same) held.0
-
--- a test alone
-one-test : {F : Type 0} (test : Bool) (fault : F) → test ≡ true
-    → first_failed ((test, fault) ∷ []) ≡ Ok tt
-one-test test fault h = rw h refl
 
 -- so do all references of a panel
 panel-pass : (owner : Owner) (texts : List (List ℕ)) (panel : List Ref)

@@ -129,8 +129,8 @@ pub route-leads : (node : ℕ) (word : List ℕ) (numbers : List ℕ) → number
 route-leads node word [] all nodes other some = absurd (omega (arith, some))
 route-leads node word (first ∷ rest) all nodes other some =
     let leads : leads_from node (first ∷ rest) ≡ true =
-    and_from (list_all (is_up_to most_address) (first ∷ rest)) (begins_elsewhere node (first ∷ rest))
-    nodes (ap not other) in
+    and_from (list_all (is_up_to most_address) (first ∷ rest))
+    (begins_elsewhere node (first ∷ rest)) nodes (ap not other) in
     rw (← all, leads) refl
 
 -- a route has a word at least

@@ -1,6 +1,6 @@
 -- Items that are read pass their tests.
-use Rattle.std.proofs.Common.{◌≡◌, ℕ, ◌+◌, ◌==◌, false, List, [], ◌∷◌, ◌++◌, length, map, Result, Ok}
-use Rattle.std.proofs.Common.{refl, ap, ◌∙◌, length-append, append_assoc, arith}
+use Rattle.std.proofs.Common.{◌≡◌, ℕ, ◌+◌, ◌==◌, Bool, true, false, List, [], ◌∷◌, ◌++◌, length}
+use Rattle.std.proofs.Common.{map, Result, Ok, refl, ap, ◌∙◌, length-append, append_assoc, arith}
 use Rattle.std.specs.Prelude.{nat_eq}
 use Rattle.std.specs.List.{list_any, AllByRecursion, IsDistinct}
 use Rattle.std.proofs.lemmas.Cmp.{nat_eq_equiv}
@@ -41,6 +41,11 @@ pub each_behind-all : {A B E : Type 0} (P : B → Type 0) (read : List B → A �
     → each_behind read before xs ≡ Ok ys → AllByRecursion P ys
 each_behind-all P read holds = each_behind-keeps (AllByRecursion P) read
     (λ before x y h all. all-push P before y all (holds before x y h))
+
+-- a test alone
+pub one-test : {F : Type 0} (test : Bool) (fault : F) → test ≡ true
+    → first_failed ((test, fault) ∷ []) ≡ Ok tt
+one-test test fault h = rw h refl
 
 -- tests of one more item
 pub tests-push : {B F : Type 0} (tests : List B → B → List (Test F)) (xs : List B) (x : B)

@@ -59,7 +59,8 @@ all-map P f (x ∷ xs) h = (h.0, all-map P f xs h.1)
 -- some items are some of all
 some-step : {A B : Type 0} (P : B → Type 0) (f : A → B) (p : A → Bool) (x : A) (xs : List A)
     (b : Bool) → p x ≡ b
-    → P (f x) → AllByRecursion P (map f (filter p xs)) → AllByRecursion P (map f (filter p (x ∷ xs)))
+    → P (f x) → AllByRecursion P (map f (filter p xs))
+    → AllByRecursion P (map f (filter p (x ∷ xs)))
 some-step P f p x xs true is here h = rw is (here, h)
 some-step P f p x xs false is here h = rw is h
 
@@ -241,7 +242,8 @@ nodes-stations controllers hosts =
 -- what holds of the nodes of all addresses
 ends-all : (P : ℕ → Type 0) (bridges : List BridgePlan)
     → AllByRecursion (λ (b : BridgePlan). P b.left) bridges
-    → AllByRecursion (λ (b : BridgePlan). P b.right) bridges → AllByRecursion P (nodes_of_ends bridges)
+    → AllByRecursion (λ (b : BridgePlan). P b.right) bridges
+    → AllByRecursion P (nodes_of_ends bridges)
 ends-all P [] left right = tt
 ends-all P (b ∷ bridges) left right = (left.0, (right.0, ends-all P bridges left.1 right.1))
 
@@ -582,8 +584,8 @@ module _ (scan_time watchdog : ℕ) (nets : Nets) (controllers : List Controller
   moved-bridges : IsPermutation bridges plant.bridges
   moved-bridges = by_node-moved (λ (b : BridgePlan). b.left) bridges left-nodes
 
-  pub each-controller : (P : ControllerPlan → Type 0) → ((plan : ControllerPlan) → IsRead plan → P plan)
-      → All P plant.controllers
+  pub each-controller : (P : ControllerPlan → Type 0)
+      → ((plan : ControllerPlan) → IsRead plan → P plan) → All P plant.controllers
   each-controller P h = All-permutation P controllers plant.controllers moved-controllers
       (to-all P controllers (all-of IsRead P h controllers parts.controllers_read))
 

@@ -27,8 +27,8 @@ abbrev pub bridge_words_from : List ℕ → List ℕ → List ℕ → List ℕ �
 bridge_words_from left_net left right_net right =
     record { left_net = left_net; left = left; right_net = right_net; right = right }
 
-abbrev pub bridge_in : FoundWords → BridgeWords
-bridge_in found =
+abbrev pub words_of_bridge : FoundWords → BridgeWords
+words_of_bridge found =
     bridge_words_from found.left_net.now found.left.now found.right_net.now found.right.now
 
 -- Each of the four is a number without a leading zero.

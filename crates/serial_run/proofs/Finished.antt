@@ -45,11 +45,11 @@ use Rattle.serial_run.specs.declared.stations.HostStation.{HostStation}
 use Rattle.serial_run.specs.declared.stations.Stations.{Stations}
 use Rattle.serial_run.specs.Scans.{have_ended, KeepScans}
 use Rattle.serial_run.specs.Stations.{StandAll, host_log_of, joint_of, log_of, log_of_ring}
-use Rattle.serial_run.specs.Stations.{log_of_site, plain_ram_side, ring_in}
+use Rattle.serial_run.specs.Stations.{log_of_site, plain_ram_side, station_ring}
 use Rattle.serial_run.specs.Held.{AllHave, IsOffAway, IsVisited, stations_here, status_in}
 use Rattle.serial_run.proofs.Laws.{controllers-each, hosts-each, own-noted, sites-each}
 use Rattle.serial_run.proofs.Networks.{NodeOn, contains-at, low-members, noted-is, rings-legal}
-use Rattle.serial_run.proofs.Rounds.{all-at, controller-left, host-left, left-out, site-left}
+use Rattle.serial_run.proofs.Repeats.{all-at, controller-left, host-left, left-out, site-left}
 use Rattle.serial_run.proofs.TurnsMade.{at-place, host-at-place, site-at-place}
 
 -- ---- who has ended has
@@ -101,7 +101,7 @@ module _ (law : ControllersComplete) (host_law : HostsComplete) (plant : Plant) 
 
   -- a node that is gone from its ring, or away, is so behind the entries of all rings
   gone-noted : (network node : ℕ) → NodeOn plant run.rings.items network node
-      → status_at (net_of plant node) (ring_in run network).history node ≡ Gone
+      → status_at (net_of plant node) (station_ring run network).history node ≡ Gone
       → status_at (net_of plant node) noted node ≡ Gone
   gone-noted network node on gone =
       subst (λ (net : NetPlan). status_at net noted node ≡ Gone) (sym on.on.is)
@@ -109,10 +109,11 @@ module _ (law : ControllersComplete) (host_law : HostsComplete) (plant : Plant) 
       (rings-legal plant.nets run.rings.items all.rings) on.on.net node on.on.there on.on.member
       (ap (λ (l : List RingEntry). status_at on.on.net l node)
       (noted-is run.rings.items on.on.net.number)
-      ∙ ((λ i. status_at (sym on.on.is i) (ring_in run (on.on.number i)).history node) ∙ gone)))
+      ∙ ((λ i. status_at (sym on.on.is i) (station_ring run (on.on.number i)).history node)
+      ∙ gone)))
 
   away-noted : (network node : ℕ) → NodeOn plant run.rings.items network node
-      → status_at (net_of plant node) (ring_in run network).history node ≡ Away
+      → status_at (net_of plant node) (station_ring run network).history node ≡ Away
       → status_at (net_of plant node) noted node ≡ Away
   away-noted network node on away =
       subst (λ (net : NetPlan). status_at net noted node ≡ Away) (sym on.on.is)
@@ -120,25 +121,26 @@ module _ (law : ControllersComplete) (host_law : HostsComplete) (plant : Plant) 
       (rings-legal plant.nets run.rings.items all.rings) on.on.net node on.on.there on.on.member
       (ap (λ (l : List RingEntry). status_at on.on.net l node)
       (noted-is run.rings.items on.on.net.number)
-      ∙ ((λ i. status_at (sym on.on.is i) (ring_in run (on.on.number i)).history node) ∙ away)))
+      ∙ ((λ i. status_at (sym on.on.is i) (station_ring run (on.on.number i)).history node)
+      ∙ away)))
 
   -- a visit that is not due has nothing to collect
   none-started : (s : ControllerStation) → has_ended s.controller ≡ true
-      → is_out_of_ring (is_off s.controller) (status_in (ring_in run s.network) s.node) ≡ true
-      → IsVisited (ring_in run s.network) s → has_started s.controller ≡ false
+      → is_out_of_ring (is_off s.controller) (status_in (station_ring run s.network) s.node) ≡ true
+      → IsVisited (station_ring run s.network) s → has_started s.controller ≡ false
   none-started s ended out' visited =
       sym (ap (λ b. is_out_of_ring (b && is_off s.controller)
-      (status_in (ring_in run s.network) s.node) && has_started s.controller) ended
+      (status_in (station_ring run s.network) s.node) && has_started s.controller) ended
       ∙ ap (λ b. b && has_started s.controller) out') ∙ visited
 
   complete-at : (k : ℕ) (s : ControllerStation) (is : slice_get run.controllers.items k ≡ Some s)
-      → s.left ≡ true → has_ended s.controller ≡ true → IsOffAway (ring_in run s.network) s
-      → IsVisited (ring_in run s.network) s
+      → s.left ≡ true → has_ended s.controller ≡ true → IsOffAway (station_ring run s.network) s
+      → IsVisited (station_ring run s.network) s
       → IsCompleteLog plant scans noted (at-place plant scans run k s all is).plan (log_of s)
   complete-at k s is left ended off visited =
       let p = at-place plant scans run k s all is in
       let st = p.stands in
-      let ring = ring_in run s.network in
+      let ring = station_ring run s.network in
       let home = net_of plant p.plan.node in
       let fixed = fixed_of plant scans p.plan in
       let known = s.controller.history in
@@ -187,7 +189,7 @@ module _ (law : ControllersComplete) (host_law : HostsComplete) (plant : Plant) 
   host-complete-at k s is =
       let p = host-at-place plant scans run k s all is in
       let st = p.stands in
-      let ring = ring_in run s.network in
+      let ring = station_ring run s.network in
       let home = net_of plant p.plan.node in
       let known = s.host.history in
       let tied : HostStandsTied p.plan home known ring.history =
@@ -207,12 +209,13 @@ module _ (law : ControllersComplete) (host_law : HostsComplete) (plant : Plant) 
 
   end-complete-at : (site : BridgeSite) (home side other : ℕ)
       → IsBridgePlan site.station.bridge.plan → NodeOn plant run.rings.items home side
-      → side ≡ other → StandsEnd side site.station (net_of plant side) (ring_in run home).history
+      → side ≡ other
+      → StandsEnd side site.station (net_of plant side) (station_ring run home).history
       → end_has_left side site.station ≡ true
       → EndIsComplete (net_of plant other) noted site.station.bridge.history other
   end-complete-at site home side other sound on same st left =
       let list = site.station.bridge.history in
-      let ring = (ring_in run home).history in
+      let ring = (station_ring run home).history in
       let plan = site.station.bridge.plan in
       let net = net_of plant side in
       let each = end-complete plan net side list ring sound st.ready.ties
@@ -253,9 +256,9 @@ module _ (law : ControllersComplete) (host_law : HostsComplete) (plant : Plant) 
         (λ k s is. complete-at k s is (controller-left run here k s is)
         (list-all-at (λ (x : ControllerStation). has_ended x.controller)
         run.controllers.items k s ended is)
-        (all-at (λ (x : ControllerStation). IsOffAway (ring_in run x.network) x)
+        (all-at (λ (x : ControllerStation). IsOffAway (station_ring run x.network) x)
         run.controllers.items k s off is)
-        (all-at (λ (x : ControllerStation). IsVisited (ring_in run x.network) x)
+        (all-at (λ (x : ControllerStation). IsVisited (station_ring run x.network) x)
         run.controllers.items k s visited is)));
     hosts = zip-map-at (IsCompleteHostLog plant noted) host_log_of plant.hosts run.hosts.items
         (hosts-each plant scans run all

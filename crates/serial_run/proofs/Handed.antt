@@ -14,6 +14,7 @@ use Rattle.controller_core.specs.Notes.{NotesAskNoScans, notes_of}
 use Rattle.controller_core.specs.Replay.{ControllerState, apply, replay, start}
 use Rattle.route_laws.specs.Effects.{EffectsAreRight}
 use Rattle.entry_causes.specs.Joint.{IsInOneOrder}
+use Rattle.end_times.specs.Joint.{AreBridgesInTime}
 use Rattle.joint_history.specs.declared.joint.Joint.{Joint}
 use Rattle.joint_history.specs.declared.noted.Noted.{Noted}
 use Rattle.summary_text.specs.Coils.{all_coils, coils_at_end, coils_by_log}
@@ -26,7 +27,7 @@ use Rattle.serial_run.specs.Over.{AreOver, IsNotedRun}
 use Rattle.serial_run.specs.Serial.{IsSerial}
 use Rattle.serial_run.specs.Stations.{StandAll, StandsOn, joint_of, log_of}
 use Rattle.serial_run.specs.Stations.{station_coils, station_notes}
-use Rattle.serial_run.proofs.Laws.{stand-joint, stand-legal}
+use Rattle.serial_run.proofs.Laws.{stand-bridges-in-time, stand-joint, stand-legal}
 
 -- ---- what the controllers noted
 
@@ -125,6 +126,8 @@ noted-run plant scans run noted over effects in_time law is notes = record {
   joint = subst IsJoint (sym is) (stand-joint plant scans run over.stand);
   effects = subst EffectsAreRight (sym is) effects;
   in_time = subst (IsInOneOrder plant) (sym is) in_time;
+  bridges_in_time = subst AreBridgesInTime (sym is)
+      (stand-bridges-in-time plant scans run over.stand);
   complete = subst (IsComplete plant scans) (sym is) over.complete;
   notes = notes ∙ stand-noted law plant scans run over.stand
       ∙ ap (λ (j : Joint). notes_in plant j) (sym is);

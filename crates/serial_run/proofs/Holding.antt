@@ -26,12 +26,12 @@ use Rattle.serial_run.specs.declared.stations.Stations.{Stations}
 use Rattle.serial_run.specs.Turns.{node_has_left}
 use Rattle.comm_port.specs.HostTurns.{HoldsHostTurn}
 use Rattle.serial_run.specs.Scans.{KeepScans}
-use Rattle.serial_run.specs.Stations.{StandAll, ring_in}
+use Rattle.serial_run.specs.Stations.{StandAll, station_ring}
 use Rattle.serial_run.specs.Held.{HasToken, HeldController, HeldHost, KnowsLeft}
 use Rattle.serial_run.specs.Held.{VisitedController, VisitedWhere, failures_of, is_visit_due}
 use Rattle.serial_run.specs.Held.{site_turns, turns_in, turns_left, turns_of}
 use Rattle.turn_laws.proofs.Holders.{in-of}
-use Rattle.serial_run.proofs.Did.{IsEndOn, IsLeftOn, IsRightOn, end-grew, end-turn}
+use Rattle.serial_run.proofs.HoldsDid.{IsEndOn, IsLeftOn, IsRightOn, end-grew, end-turn}
 use Rattle.serial_run.proofs.Lists.{set-there}
 use Rattle.serial_run.proofs.Grown.{Further}
 use Rattle.serial_run.proofs.HeldTurns.{end-turn-ended, hold-less, host-turn-ended}
@@ -49,22 +49,22 @@ in-left status there = ap has_left (in-of status there)
 
 pub here-left : (plant : Plant) (scans : ℕ) (run : Stations) (at : ℕ) (s : ControllerStation)
     → StandAll plant scans run → slice_get run.controllers.items at ≡ Some s
-    → HasToken s.worker.node (ring_in run s.network) → s.left ≡ false
+    → HasToken s.worker.node (station_ring run s.network) → s.left ≡ false
 here-left plant scans run at s all is token =
     let p = at-place plant scans run at s all is in
-    p.stands.left ∙ ((λ i. node_has_left (sym p.ring.net_is i) (ring_in run s.network).history
+    p.stands.left ∙ ((λ i. node_has_left (sym p.ring.net_is i) (station_ring run s.network).history
     (sym p.stands.worker_node i)) ∙ in-left _ token.here)
 
 module _ (old new : Stations) (at : ℕ) (s t : ControllerStation)
     (is : slice_get old.controllers.items at ≡ Some s)
     (items : new.controllers.items ≡ set old.controllers.items at t)
     (budget : s.worker.budget ≡ true)
-    (held : HeldController s t (ring_in old s.network) (ring_in new s.network)) where
+    (held : HeldController s t (station_ring old s.network) (station_ring new s.network)) where
   abbrev ring : KeptRing
-  ring = ring_in old s.network
+  ring = station_ring old s.network
 
   abbrev new_ring : KeptRing
-  new_ring = ring_in new s.network
+  new_ring = station_ring new s.network
 
   pub held-turn : HoldsTurn true true s.controller.fixed ring.net s.worker.node true
       s.controller.history t.controller.history ring.history new_ring.history held.end
@@ -123,13 +123,13 @@ pub host-hold-lessens : (plant : Plant) (scans : ℕ) (old new : Stations) (at :
     (controllers : new.controllers.items ≡ old.controllers.items)
     (bridges : new.bridges.items ≡ old.bridges.items)
     (turned : Turned s.network old.rings.items new.rings.items)
-    → HasToken s.worker.node (ring_in old s.network)
-    → HeldHost s t (ring_in old s.network) (ring_in new s.network)
+    → HasToken s.worker.node (station_ring old s.network)
+    → HeldHost s t (station_ring old s.network) (station_ring new s.network)
     → turns_left new < turns_left old
 host-hold-lessens plant scans old new at s t all is items controllers bridges turned token held =
     let p = host-at-place plant scans old at s all is in
-    let ring = ring_in old s.network in
-    let new_ring = ring_in new s.network in
+    let ring = station_ring old s.network in
+    let new_ring = station_ring new s.network in
     let n = s.worker.node in
     let turn : HoldsHostTurn true ring.net n s.host.plan true s.host.history t.host.history
     ring.history new_ring.history t.left =
@@ -162,13 +162,14 @@ module _ (old new : Stations) (at : ℕ) (s t : BridgeSite)
     (hosts : new.hosts.items ≡ old.hosts.items) (same-plan : t.plan ≡ s.plan)
     (network n : ℕ) (side : IsEndOn s.plan n network)
     (turned : Turned network old.rings.items new.rings.items)
-    (held : HeldByEnd n s.station t.station (ring_in old network) (ring_in new network))
-    (moved : MovedByEnd n s.station t.station (ring_in old network) (ring_in new network)) where
+    (held : HeldByEnd n s.station t.station (station_ring old network) (station_ring new network))
+    (moved : MovedByEnd n s.station t.station (station_ring old network)
+    (station_ring new network)) where
   abbrev end_ring : KeptRing
-  end_ring = ring_in old network
+  end_ring = station_ring old network
 
   abbrev new_end_ring : KeptRing
-  new_end_ring = ring_in new network
+  new_end_ring = station_ring new network
 
   -- the turn leaves the end fewer turns
   end-less : (plant : Plant) (scans : ℕ) (all : StandAll plant scans old)
@@ -189,16 +190,16 @@ module _ (old new : Stations) (at : ℕ) (s t : BridgeSite)
   -- and the other end as many
   far-same : (plant : Plant) (scans : ℕ) (all : StandAll plant scans old) (home node : ℕ)
       → node ≢ n → NodeOn plant old.rings.items home node
-      → StandsEnd node s.station (net_of plant node) (ring_in old home).history
-      → turns_in (ring_in new home) node 0 (end_has_left node t.station)
-      ≡ turns_in (ring_in old home) node 0 (end_has_left node s.station)
+      → StandsEnd node s.station (net_of plant node) (station_ring old home).history
+      → turns_in (station_ring new home) node 0 (end_has_left node t.station)
+      ≡ turns_in (station_ring old home) node 0 (end_has_left node s.station)
   far-same plant scans all home node other on st =
       let net = net_of plant node in
-      let history = (ring_in old home).history in
+      let history = (station_ring old home).history in
       let same : end_has_left node t.station ≡ end_has_left node s.station =
       end-knows node t.station net history (moved.others node net history other st)
       ∙ sym (end-knows node s.station net history st) in
-      ap (λ (b : Bool). turns_in (ring_in new home) node 0 b) same
+      ap (λ (b : Bool). turns_in (station_ring new home) node 0 b) same
       ∙ other-on n old.rings.items new.rings.items
       (end-grew old new at s t is items controllers hosts same-plan network n side turned held
       moved) home node 0 (end_has_left node s.station) other
@@ -230,20 +231,22 @@ module _ (old new : Stations) (at : ℕ) (s t : BridgeSite)
       (λ (left : IsLeftOn plan n network).
       let on = p.left in
       let net : end_ring.net ≡ net_of plant plan.left =
-      ap (λ (k : ℕ). (ring_in old k).net) (sym left.1) ∙ on.net_is in
+      ap (λ (k : ℕ). (station_ring old k).net) (sym left.1) ∙ on.net_is in
       let low : All (λ m. m < addresses) end_ring.net.members =
       subst (λ (q : NetPlan). All (λ m. m < addresses) q.members) (sym net)
       (low-members (net_of plant plan.left) on.sound) in
       let was : end_has_left n s.station ≡ false =
       ap (λ (k : ℕ). end_has_left k s.station) left.0
       ∙ (end-knows plan.left s.station (net_of plant plan.left)
-      (ring_in old plan.left_net).history p.stands.left
-      ∙ ((λ i. has_left (status_at (sym net i) (ring_in old (left.1 i)).history (sym left.0 i)))
+      (station_ring old plan.left_net).history p.stands.left
+      ∙ ((λ i. has_left
+      (status_at (sym net i) (station_ring old (left.1 i)).history (sym left.0 i)))
       ∙ in-left _ token.here)) in
-      let near : turns_in (ring_in new plan.left_net) plan.left 0 (end_has_left plan.left t.station)
-      < turns_in (ring_in old plan.left_net) plan.left 0 (end_has_left plan.left s.station) =
-      subst (λ (k : ℕ). turns_in (ring_in new k) plan.left 0 (end_has_left plan.left t.station)
-      < turns_in (ring_in old k) plan.left 0 (end_has_left plan.left s.station)) (sym left.1)
+      let near : turns_in (station_ring new plan.left_net) plan.left 0
+      (end_has_left plan.left t.station)
+      < turns_in (station_ring old plan.left_net) plan.left 0 (end_has_left plan.left s.station) =
+      subst (λ (k : ℕ). turns_in (station_ring new k) plan.left 0 (end_has_left plan.left t.station)
+      < turns_in (station_ring old k) plan.left 0 (end_has_left plan.left s.station)) (sym left.1)
       (subst (λ (k : ℕ). turns_in new_end_ring k 0 (end_has_left k t.station)
       < turns_in end_ring k 0 (end_has_left k s.station)) left.0
       (end-less plant scans all low was)) in
@@ -255,21 +258,24 @@ module _ (old new : Stations) (at : ℕ) (s t : BridgeSite)
       (λ (right : IsRightOn plan n network).
       let on = p.right in
       let net : end_ring.net ≡ net_of plant plan.right =
-      ap (λ (k : ℕ). (ring_in old k).net) (sym right.1) ∙ on.net_is in
+      ap (λ (k : ℕ). (station_ring old k).net) (sym right.1) ∙ on.net_is in
       let low : All (λ m. m < addresses) end_ring.net.members =
       subst (λ (q : NetPlan). All (λ m. m < addresses) q.members) (sym net)
       (low-members (net_of plant plan.right) on.sound) in
       let was : end_has_left n s.station ≡ false =
       ap (λ (k : ℕ). end_has_left k s.station) right.0
       ∙ (end-knows plan.right s.station (net_of plant plan.right)
-      (ring_in old plan.right_net).history p.stands.right
-      ∙ ((λ i. has_left (status_at (sym net i) (ring_in old (right.1 i)).history
+      (station_ring old plan.right_net).history p.stands.right
+      ∙ ((λ i. has_left (status_at (sym net i) (station_ring old (right.1 i)).history
       (sym right.0 i))) ∙ in-left _ token.here)) in
-      let near : turns_in (ring_in new plan.right_net) plan.right 0
+      let near : turns_in (station_ring new plan.right_net) plan.right 0
       (end_has_left plan.right t.station)
-      < turns_in (ring_in old plan.right_net) plan.right 0 (end_has_left plan.right s.station) =
-      subst (λ (k : ℕ). turns_in (ring_in new k) plan.right 0 (end_has_left plan.right t.station)
-      < turns_in (ring_in old k) plan.right 0 (end_has_left plan.right s.station)) (sym right.1)
+      < turns_in (station_ring old plan.right_net) plan.right 0
+      (end_has_left plan.right s.station) =
+      subst (λ (k : ℕ). turns_in (station_ring new k) plan.right 0
+      (end_has_left plan.right t.station)
+      < turns_in (station_ring old k) plan.right 0 (end_has_left plan.right s.station))
+      (sym right.1)
       (subst (λ (k : ℕ). turns_in new_end_ring k 0 (end_has_left k t.station)
       < turns_in end_ring k 0 (end_has_left k s.station)) right.0
       (end-less plant scans all low was)) in
@@ -310,8 +316,8 @@ visit-scans old new at s t ring new_ring is items visited = by (is_visit_due rin
 
 pub knows-left : (plant : Plant) (scans : ℕ) (run : Stations) (at : ℕ) (s : ControllerStation)
     → StandAll plant scans run
-    → slice_get run.controllers.items at ≡ Some s → KnowsLeft s (ring_in run s.network)
+    → slice_get run.controllers.items at ≡ Some s → KnowsLeft s (station_ring run s.network)
 knows-left plant scans run at s all is =
     let p = at-place plant scans run at s all is in
-    p.stands.left ∙ (λ i. node_has_left (sym p.ring.net_is i) (ring_in run s.network).history
+    p.stands.left ∙ (λ i. node_has_left (sym p.ring.net_is i) (station_ring run s.network).history
     (sym p.stands.worker_node i))

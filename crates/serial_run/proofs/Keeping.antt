@@ -33,7 +33,7 @@ use Rattle.serial_run.specs.declared.stations.ControllerStation.{ControllerStati
 use Rattle.serial_run.specs.declared.stations.HostStation.{HostStation}
 use Rattle.serial_run.specs.declared.stations.Stations.{Stations}
 use Rattle.serial_run.specs.Turns.{node_has_left}
-use Rattle.serial_run.specs.Stations.{StandAll, plain_ram_side, ring_in}
+use Rattle.serial_run.specs.Stations.{StandAll, plain_ram_side, station_ring}
 use Rattle.serial_run.specs.Held.{HasToken, HostKeepsBeside, IsOffAway, KeepsBeside, is_away_status}
 use Rattle.serial_run.proofs.Grown.{Further, others-away}
 use Rattle.serial_run.proofs.Holding.{in-left}
@@ -67,7 +67,7 @@ stands-behind w u v x ring new_ring member legal worker fixed net s =
 pub no-bridge-beside : (plant : Plant) (scans : ℕ) (run : Stations) (at : ℕ)
     (s : ControllerStation) → StandAll plant scans run
     → slice_get run.controllers.items at ≡ Some s
-    → IsNoBridge (ring_in run s.network).net s.worker.node
+    → IsNoBridge (station_ring run s.network).net s.worker.node
 no-bridge-beside plant scans run at s all is =
     let p = at-place plant scans run at s all is in
     let on = p.ring.on in
@@ -79,7 +79,7 @@ no-bridge-beside plant scans run at s all is =
 pub host-no-bridge-beside : (plant : Plant) (scans : ℕ) (run : Stations) (at : ℕ)
     (s : HostStation) → StandAll plant scans run
     → slice_get run.hosts.items at ≡ Some s
-    → IsNoBridge (ring_in run s.network).net s.worker.node
+    → IsNoBridge (station_ring run s.network).net s.worker.node
 host-no-bridge-beside plant scans run at s all is =
     let p = host-at-place plant scans run at s all is in
     let on = p.ring.on in
@@ -91,11 +91,11 @@ host-no-bridge-beside plant scans run at s all is =
 -- what a station keeps, beside its ring alone
 pub keeps-beside : (plant : Plant) (scans : ℕ) (run : Stations) (at : ℕ) (s : ControllerStation)
     → StandAll plant scans run
-    → slice_get run.controllers.items at ≡ Some s → KeepsBeside s (ring_in run s.network)
+    → slice_get run.controllers.items at ≡ Some s → KeepsBeside s (station_ring run s.network)
 keeps-beside plant scans run at s all is =
     let p = at-place plant scans run at s all is in
     let home = net_of plant p.plan.node in
-    let history = (ring_in run s.network).history in
+    let history = (station_ring run s.network).history in
     let answer = p.ring.sound.numbers.answer.from in
     record {
       member = subst (λ (net : NetPlan). IsMemberWorker net s.worker.node) (sym p.ring.net_is)
@@ -105,7 +105,7 @@ keeps-beside plant scans run at s all is =
             answer = omega (arith, answer);
           }));
       legal = p.stands.legal;
-      keeps = subst (λ (f : Fixed). KeepsOn f (ring_in run s.network).net s.worker.node
+      keeps = subst (λ (f : Fixed). KeepsOn f (station_ring run s.network).net s.worker.node
           s.controller.history history s.left) (sym p.stands.fixed)
           (subst (λ (net : NetPlan). KeepsOn (fixed_of plant scans p.plan) net s.worker.node
           s.controller.history history s.left) (sym p.ring.net_is)
@@ -117,10 +117,10 @@ keeps-beside plant scans run at s all is =
 
 pub host-keeps-beside : (plant : Plant) (scans : ℕ) (run : Stations) (at : ℕ) (s : HostStation)
     → StandAll plant scans run
-    → slice_get run.hosts.items at ≡ Some s → HostKeepsBeside s (ring_in run s.network)
+    → slice_get run.hosts.items at ≡ Some s → HostKeepsBeside s (station_ring run s.network)
 host-keeps-beside plant scans run at s all is =
     let p = host-at-place plant scans run at s all is in
-    let ring = ring_in run s.network in
+    let ring = station_ring run s.network in
     subst (λ (plan : HostPlan). HostKeepsOn plan ring.net s.host.history ring.history
     s.left) (sym p.stands.plan_is)
     (subst (λ (net : NetPlan). HostKeepsOn p.plan net s.host.history ring.history s.left)
@@ -129,11 +129,11 @@ host-keeps-beside plant scans run at s all is =
 -- who holds the token has not left
 pub host-is-here : (plant : Plant) (scans : ℕ) (run : Stations) (at : ℕ) (s : HostStation)
     → StandAll plant scans run
-    → slice_get run.hosts.items at ≡ Some s → HasToken s.worker.node (ring_in run s.network)
+    → slice_get run.hosts.items at ≡ Some s → HasToken s.worker.node (station_ring run s.network)
     → s.left ≡ false
 host-is-here plant scans run at s all is token =
     let p = host-at-place plant scans run at s all is in
-    p.stands.left ∙ ((λ i. node_has_left (sym p.ring.net_is i) (ring_in run s.network).history
+    p.stands.left ∙ ((λ i. node_has_left (sym p.ring.net_is i) (station_ring run s.network).history
     (sym p.stands.worker_node i)) ∙ in-left _ token.here)
 
 -- ---- a host's worker behind a turn

@@ -27,6 +27,8 @@ use Rattle.joint_history.specs.Reading.{items_of, host_items_of}
 use Rattle.entry_causes.specs.InTime.{InTime, HostInTime}
 use Rattle.entry_causes.specs.Joint.{IsControllerInTime, IsHostInTime, StationsAreInTime}
 use Rattle.net_laws.proofs.Rings.{own-on}
+use Rattle.end_times.specs.EndTimes.{EndInTime, IsEndInTime}
+use Rattle.end_times.specs.Joint.{AreBridgesInTime, IsBridgeInTime}
 use Rattle.serial_run.specs.declared.order.Turn.{Turn}
 use Rattle.serial_run.specs.declared.stations.BridgeSite.{BridgeSite}
 use Rattle.serial_run.specs.declared.stations.ControllerStation.{ControllerStation}
@@ -34,7 +36,7 @@ use Rattle.serial_run.specs.declared.stations.HostStation.{HostStation}
 use Rattle.serial_run.specs.declared.stations.Stations.{Stations}
 use Rattle.serial_run.specs.Turns.{MakesTurn, MakesTurns}
 use Rattle.serial_run.specs.Stations.{HostStandsOn, StandAll, StandsOn, StandsSite, host_log_of}
-use Rattle.serial_run.specs.Stations.{joint_of, log_of, log_of_ring, log_of_site, ring_in}
+use Rattle.serial_run.specs.Stations.{joint_of, log_of, log_of_ring, log_of_site, station_ring}
 use Rattle.serial_run.proofs.Lists.{zip-map, zip-other}
 use Rattle.serial_run.proofs.Networks.{NodeOn, noted-is, rings-legal}
 use Rattle.serial_run.proofs.TurnsMade.{at-place, host-at-place, site-at-place}
@@ -79,12 +81,12 @@ stand-legal plant scans run all = record {
 -- what a node noted on any ring is what it noted on the ring of its network
 pub own-noted : (plant : Plant) (scans : ℕ) (run : Stations) → StandAll plant scans run
     → (network node : ℕ) → NodeOn plant run.rings.items network node
-    → own node (noted_on_rings (joint_of run)) ≡ own node (ring_in run network).history
+    → own node (noted_on_rings (joint_of run)) ≡ own node (station_ring run network).history
 own-noted plant scans run all network node on =
     own-on plant (map log_of_ring run.rings.items) all.sound
     (rings-legal plant.nets run.rings.items all.rings) on.on.net node on.on.there on.on.member
     ∙ ap (own node) (noted-is run.rings.items on.on.net.number
-    ∙ ap (λ (k : ℕ). (ring_in run k).history) on.on.number)
+    ∙ ap (λ (k : ℕ). (station_ring run k).history) on.on.number)
 
 module _ (plant : Plant) (scans : ℕ) (run : Stations) (all : StandAll plant scans run) where
   abbrev noted : List RingEntry
@@ -132,7 +134,7 @@ module _ (plant : Plant) (scans : ℕ) (run : Stations) (all : StandAll plant sc
       subst (λ (n : ℕ). Tied AController items (own n noted)) (sym p.stands.node)
       (subst (Tied AController items) (sym (own-noted plant scans run all s.network p.plan.node
       p.ring))
-      (subst (λ (n : ℕ). Tied AController items (own n (ring_in run s.network).history))
+      (subst (λ (n : ℕ). Tied AController items (own n (station_ring run s.network).history))
       p.stands.worker_node p.stands.standing.tied))
 
   host-tied-at : (k : ℕ) (s : HostStation) → slice_get run.hosts.items k ≡ Some s
@@ -145,7 +147,7 @@ module _ (plant : Plant) (scans : ℕ) (run : Stations) (all : StandAll plant sc
       p.stands.ties.tied)
 
   side-tied-at : (s : BridgeSite) (home side other : ℕ) → NodeOn plant run.rings.items home side
-      → side ≡ other → StandsEnd side s.station (net_of plant side) (ring_in run home).history
+      → side ≡ other → StandsEnd side s.station (net_of plant side) (station_ring run home).history
       → IsTiedSide noted (log_of_site s) other
   side-tied-at s home side other on same st =
       subst (IsTiedSide noted (log_of_site s)) same
@@ -207,6 +209,33 @@ module _ (plant : Plant) (scans : ℕ) (run : Stations) (all : StandAll plant sc
         (hosts-each (λ plan s. IsHostInTime noted (host_log_of s)) host-in-time-at)
         (λ plan s timely. timely);
   }
+
+  side-in-time-at : (s : BridgeSite) (home side other : ℕ)
+      → NodeOn plant run.rings.items home side → side ≡ other
+      → StandsEnd side s.station (net_of plant side) (station_ring run home).history
+      → IsEndInTime other s.station.bridge.history noted
+  side-in-time-at s home side other on same st =
+      subst (λ (n : ℕ). IsEndInTime n s.station.bridge.history noted) same
+      (subst (EndInTime side s.station.bridge.history)
+      (sym (own-noted plant scans run all home side on)) st.keeps.in_time)
+
+  site-in-time-at : (k : ℕ) (s : BridgeSite) → slice_get run.bridges.items k ≡ Some s
+      → IsBridgeInTime noted (log_of_site s)
+  site-in-time-at k s is =
+      let p = site-at-place plant scans run k s all is in
+      record {
+        left = side-in-time-at s p.plan.left_net p.plan.left s.station.bridge.plan.left p.left
+            (sym (ap (λ (q : BridgePlan). q.left) p.stands.bridge_is)) p.stands.left;
+        right = side-in-time-at s p.plan.right_net p.plan.right s.station.bridge.plan.right p.right
+            (sym (ap (λ (q : BridgePlan). q.right) p.stands.bridge_is)) p.stands.right;
+      }
+
+  pub stand-bridges-in-time : AreBridgesInTime (joint_of run)
+  stand-bridges-in-time =
+      zip-all (λ plan s. IsBridgeInTime noted (log_of_site s)) (IsBridgeInTime noted)
+      log_of_site plant.bridges run.bridges.items
+      (sites-each (λ plan s. IsBridgeInTime noted (log_of_site s)) site-in-time-at)
+      (λ plan s timely. timely)
 
 -- turns one after another, and one more
 pub one-more-turn : (plant : Plant) (scans : ℕ) (turns : List Turn) (turn : Turn)

@@ -6,12 +6,14 @@ pub mod Members
 pub mod Standings
 pub mod HeldTurns
 pub mod TurnsMade
+pub mod HoldsDid
 pub mod Did
 pub mod Measures
 pub mod Holding
 pub mod Starting
 pub mod Laws
 pub mod Rounds
+pub mod Repeats
 pub mod AllScans
 pub mod Keeping
 pub mod Off

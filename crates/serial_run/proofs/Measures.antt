@@ -43,9 +43,9 @@ use Rattle.serial_run.specs.declared.stations.RingStation.{RingStation}
 use Rattle.serial_run.specs.declared.stations.Stations.{Stations}
 use Rattle.serial_run.specs.Scans.{KeepScans}
 use Rattle.serial_run.specs.Stations.{HostStandsOn, StandAll, StandsOn, StandsSite, ring_if}
-use Rattle.serial_run.specs.Stations.{ring_in, ring_on, station_on}
+use Rattle.serial_run.specs.Stations.{station_ring, ring_on, station_on}
 use Rattle.serial_run.specs.Held.{IsHeld, failures_of, host_turns, is_in_ring, members_if}
-use Rattle.serial_run.specs.Held.{members_in, members_now, site_has_left, site_turns}
+use Rattle.serial_run.specs.Held.{members_in, members_of_ring, site_has_left, site_turns}
 use Rattle.serial_run.specs.Held.{station_turns, stations_here, turns_in, turns_left, turns_of}
 use Rattle.serial_run.specs.Held.{unnoticed_of}
 use Rattle.serial_run.proofs.Grown.{Further, others-own}
@@ -232,17 +232,17 @@ pub controller-less : (plant : Plant) (scans : ℕ) (old new : Stations) (at : �
     → new.hosts.items ≡ old.hosts.items → new.bridges.items ≡ old.bridges.items
     → t.node ≡ s.node → t.network ≡ s.network
     → GrewBy s.node old.rings.items new.rings.items
-    → turns_in (ring_in new s.network) s.node (failures_of t) t.left
-    < turns_in (ring_in old s.network) s.node (failures_of s) s.left
+    → turns_in (station_ring new s.network) s.node (failures_of t) t.left
+    < turns_in (station_ring old s.network) s.node (failures_of s) s.left
     → turns_left new < turns_left old
 controller-less plant scans old new at s t all is items hosts bridges node network grew less =
     let mine = at-place plant scans old at s all is in
     let was = old.rings.items in
     let now = new.rings.items in
     let own : station_turns now t < station_turns was s =
-    subst (λ (k : ℕ). turns_in (ring_in new k) t.node (failures_of t) t.left
+    subst (λ (k : ℕ). turns_in (station_ring new k) t.node (failures_of t) t.left
     < station_turns was s) (sym network)
-    (subst (λ (m : ℕ). turns_in (ring_in new s.network) m (failures_of t) t.left
+    (subst (λ (m : ℕ). turns_in (station_ring new s.network) m (failures_of t) t.left
     < station_turns was s) (sym node) less) in
     let controllers : sum_by (station_turns now) (set old.controllers.items at t)
     < sum_by (station_turns was) old.controllers.items =
@@ -285,16 +285,18 @@ pub host-less : (plant : Plant) (scans : ℕ) (old new : Stations) (at : ℕ) (s
     → new.controllers.items ≡ old.controllers.items → new.bridges.items ≡ old.bridges.items
     → t.node ≡ s.node → t.network ≡ s.network
     → GrewBy s.node old.rings.items new.rings.items
-    → turns_in (ring_in new s.network) s.node 0 t.left
-    < turns_in (ring_in old s.network) s.node 0 s.left
+    → turns_in (station_ring new s.network) s.node 0 t.left
+    < turns_in (station_ring old s.network) s.node 0 s.left
     → turns_left new < turns_left old
 host-less plant scans old new at s t all is items controllers bridges node network grew less =
     let mine = host-at-place plant scans old at s all is in
     let was = old.rings.items in
     let now = new.rings.items in
     let own : host_turns now t < host_turns was s =
-    subst (λ (k : ℕ). turns_in (ring_in new k) t.node 0 t.left < host_turns was s) (sym network)
-    (subst (λ (m : ℕ). turns_in (ring_in new s.network) m 0 t.left < host_turns was s) (sym node)
+    subst (λ (k : ℕ). turns_in (station_ring new k) t.node 0 t.left < host_turns was s)
+    (sym network)
+    (subst (λ (m : ℕ). turns_in (station_ring new s.network) m 0 t.left < host_turns was s)
+    (sym node)
     less) in
     let hosts : sum_by (host_turns now) (set old.hosts.items at t)
     < sum_by (host_turns was) old.hosts.items =
@@ -421,17 +423,17 @@ pub record SomebodyOn (plant : Plant) (run : Stations) : Type 0 where
   pub net : NetPlan
   pub there : Contains plant.nets net
   pub node : ℕ
-  pub here : node_has_left net (ring_in run net.number).history node ≡ false
+  pub here : node_has_left net (station_ring run net.number).history node ≡ false
 
 somebody-on : (plant : Plant) (run : Stations) (network node : ℕ)
     → NodeOn plant run.rings.items network node
-    → node_has_left (net_of plant node) (ring_in run network).history node ≡ false
+    → node_has_left (net_of plant node) (station_ring run network).history node ≡ false
     → SomebodyOn plant run
 somebody-on plant run network node on here = record {
   net = on.on.net;
   there = on.on.there;
   node = node;
-  here = sym (λ i. node_has_left (on.on.is i) (ring_in run (sym on.on.number i)).history node)
+  here = sym (λ i. node_has_left (on.on.is i) (station_ring run (sym on.on.number i)).history node)
       ∙ here;
 }
 
@@ -459,12 +461,12 @@ some-there plant scans run all some = ⊎_elim
     (λ (left : end_has_left c.1.plan.left c.1.station ≡ false).
     somebody-on plant run its.plan.left_net its.plan.left its.left
     (sym (end-knows its.plan.left c.1.station (net_of plant its.plan.left)
-    (ring_in run its.plan.left_net).history its.stands.left)
+    (station_ring run its.plan.left_net).history its.stands.left)
     ∙ (ap of (sym (ap (λ (p : BridgePlan). p.left) plan)) ∙ left)))
     (λ (right : end_has_left c.1.plan.right c.1.station ≡ false).
     somebody-on plant run its.plan.right_net its.plan.right its.right
     (sym (end-knows its.plan.right c.1.station (net_of plant its.plan.right)
-    (ring_in run its.plan.right_net).history its.stands.right)
+    (station_ring run its.plan.right_net).history its.stands.right)
     ∙ (ap of (sym (ap (λ (p : BridgePlan). p.right) plan)) ∙ right)))
     (one-open (end_has_left c.1.plan.left c.1.station) (end_has_left c.1.plan.right c.1.station)
     c.3))
@@ -504,12 +506,12 @@ module _ (law : SomebodyHolds) (plant : Plant) (scans : ℕ) (run : Stations)
       sym (ap (λ (r : KeptRing). node_has_left net r.history somebody.node) of.ring_is)
       ∙ somebody.here in
       let sound = (net-sound plant net all.sound somebody.there).plan in
-      let some : 0 < members_now of.station = ⊎_elim
+      let some : 0 < members_of_ring of.station = ⊎_elim
       (λ (in' : status_at net history holder ≡ In).
       let member = there-member net history holder st.legal (ap is_in in') in
       let count = count-there (λ (n : ℕ). is_in (status_at net history n)) net.members member.0
       holder member.1 member.2 (ap is_in in') in
-      let same : members_now of.station
+      let same : members_of_ring of.station
       ≡ count_by (λ (n : ℕ). is_in (status_at net history n)) net.members =
       λ i. count_by (λ (n : ℕ). is_in (status_at (st.net_is i) history n)) (st.members i) in
       omega (arith, count, same))
@@ -562,8 +564,8 @@ module _ (law : SomebodyHolds) (plant : Plant) (scans : ℕ) (run : Stations)
       let history = station.ring.history in
       let n = (ring_of station.ring).holder in
       let net_is = at.stands.net_is in
-      let ring : ring_in run network ≡ station.ring =
-      ap (λ (k : ℕ). ring_in run k) (sym on) ∙ ap ring_if at.found in
+      let ring : station_ring run network ≡ station.ring =
+      ap (λ (k : ℕ). station_ring run k) (sym on) ∙ ap ring_if at.found in
       let here : is_in (status_at station.ring.net history n) ≡ true =
       sym (ap (λ (r : KeptRing). is_held (ring_of r)) ring) ∙ held in
       let legal : IsLegalRing station.ring.net history =

@@ -23,14 +23,15 @@ use Rattle.serial_run.specs.declared.stations.HostStation.{HostStation}
 use Rattle.serial_run.specs.declared.stations.RingStation.{RingStation}
 use Rattle.serial_run.specs.declared.stations.Stations.{Stations}
 use Rattle.serial_run.specs.Scans.{KeepScans}
-use Rattle.serial_run.specs.Stations.{StandAll, ring_in, ring_on}
+use Rattle.serial_run.specs.Stations.{StandAll, station_ring, ring_on}
 use Rattle.serial_run.specs.Turns.{may_visit}
 use Rattle.serial_run.specs.Held.{AllHave}
 use Rattle.serial_run.specs.Held.{CameBack, GainFor, HeldController, HeldHost, IsOffAway, IsVisited}
 use Rattle.serial_run.specs.Held.{Stay, VisitedController, is_away_status, site_has_left}
 use Rattle.serial_run.specs.Held.{stations_here, status_in}
 use Rattle.turn_laws.proofs.Holders.{left-others}
-use Rattle.serial_run.proofs.Did.{came-further, host-further, visit-further}
+use Rattle.serial_run.proofs.Did.{came-further, visit-further}
+use Rattle.serial_run.proofs.HoldsDid.{host-further}
 use Rattle.serial_run.proofs.Gained.{gains-with, stays-all, stays-turn}
 use Rattle.serial_run.proofs.Grown.{Further, further-none, others-none}
 use Rattle.serial_run.proofs.Holding.{held-further, visit-keeps}
@@ -39,7 +40,7 @@ use Rattle.serial_run.proofs.Keeping.{left-asks, other-away, own-away, same-off}
 use Rattle.serial_run.proofs.Lists.{from-places, position-none}
 use Rattle.serial_run.proofs.Measures.{scans-with}
 use Rattle.serial_run.proofs.Networks.{GrewBy, Turned, turned-grew}
-use Rattle.serial_run.proofs.Rounds.{all-at, open-out}
+use Rattle.serial_run.proofs.Repeats.{all-at, open-out}
 use Rattle.serial_run.proofs.TurnsMade.{at-place, host-at-place}
 
 -- a station of another node has what it had of its power
@@ -55,8 +56,8 @@ same-off-all : (old new : Stations) (n : ℕ) → new.controllers.items ≡ old.
     → ((k : ℕ) (x : ControllerStation) → slice_get old.controllers.items k ≡ Some x → x.node ≢ n)
     → Stay IsOffAway old new
 same-off-all old new n controllers grew other =
-    subst (AllZip (λ (a b : ControllerStation). IsOffAway (ring_in old a.network) a
-    → IsOffAway (ring_in new b.network) b) old.controllers.items) (sym controllers)
+    subst (AllZip (λ (a b : ControllerStation). IsOffAway (station_ring old a.network) a
+    → IsOffAway (station_ring new b.network) b) old.controllers.items) (sym controllers)
     (stays-all IsOffAway old.rings.items new.rings.items old.controllers.items
     (λ k x at-x. other-off n old.rings.items new.rings.items x (other k x at-x) grew))
 
@@ -64,11 +65,12 @@ pub hold-off : (plant : Plant) (scans : ℕ) (old new : Stations) (at : ℕ) (s 
     → StandAll plant scans old → slice_get old.controllers.items at ≡ Some s
     → new.controllers.items ≡ set old.controllers.items at t
     → Turned s.network old.rings.items new.rings.items
-    → HeldController s t (ring_in old s.network) (ring_in new s.network) → Stay IsOffAway old new
+    → HeldController s t (station_ring old s.network) (station_ring new s.network)
+    → Stay IsOffAway old new
 hold-off plant scans old new at s t all is items turned held =
     let p = at-place plant scans old at s all is in
-    let ring = ring_in old s.network in
-    let new_ring = ring_in new s.network in
+    let ring = station_ring old s.network in
+    let new_ring = station_ring new s.network in
     let n = s.worker.node in
     let same : n ≡ s.node = p.stands.worker_node ∙ sym p.stands.node in
     let further = held-further old new at s t is items p.stands.budget held in
@@ -82,7 +84,7 @@ hold-off plant scans old new at s t all is items turned held =
     ((λ i. is_away_status (status_at (sym held.stays.net i) new_ring.history (sym there i)))
     ∙ away) in
     stays-turn IsOffAway plant scans old new at s t all is items
-    (λ was. subst (λ (k : ℕ). IsOffAway (ring_in new k) t) (sym held.stays.network) it)
+    (λ was. subst (λ (k : ℕ). IsOffAway (station_ring new k) t) (sym held.stays.network) it)
     (λ x other. other-off n old.rings.items new.rings.items x (λ e. other (e ∙ same)) grew)
 
 pub host-hold-off : (plant : Plant) (scans : ℕ) (old new : Stations) (at : ℕ) (s t : HostStation)
@@ -90,7 +92,7 @@ pub host-hold-off : (plant : Plant) (scans : ℕ) (old new : Stations) (at : ℕ
     → new.controllers.items ≡ old.controllers.items
     → new.bridges.items ≡ old.bridges.items
     → Turned s.network old.rings.items new.rings.items
-    → HeldHost s t (ring_in old s.network) (ring_in new s.network)
+    → HeldHost s t (station_ring old s.network) (station_ring new s.network)
     → new.hosts.items ≡ set old.hosts.items at t
     → Stay IsOffAway old new
 host-hold-off plant scans old new at s t all is controllers bridges turned held hosts =
@@ -120,7 +122,7 @@ pub came-gains : (plant : Plant) (scans : ℕ) (old new : Stations) (node at : �
     → new.controllers.items ≡ set old.controllers.items at t
     → new.hosts.items ≡ old.hosts.items → new.bridges.items ≡ old.bridges.items
     → Turned s.network old.rings.items new.rings.items
-    → CameBack s t (ring_in old s.network) (ring_in new s.network)
+    → CameBack s t (station_ring old s.network) (station_ring new s.network)
     → GainFor IsOffAway node old new
 came-gains plant scans old new node at s t all is named items hosts bridges turned came =
     let p = at-place plant scans old at s all is in
@@ -128,7 +130,7 @@ came-gains plant scans old new node at s t all is named items hosts bridges turn
     let grew = turned-grew s.network old.rings.items new.rings.items turned s.worker.node
     (came-further old new at s t is items hosts bridges turned came) came.stays.net in
     gains-with IsOffAway plant scans old new node at s t all is named items
-    (subst (λ (k : ℕ). IsOffAway (ring_in new k) t) (sym came.stays.network) came.off)
+    (subst (λ (k : ℕ). IsOffAway (station_ring new k) t) (sym came.stays.network) came.off)
     (λ x other. other-off s.worker.node old.rings.items new.rings.items x
     (λ e. other (e ∙ same)) grew)
 
@@ -201,13 +203,13 @@ module _ (plant : Plant) (scans : ℕ) (old new : Stations) (at : ℕ) (s t : Co
     (hosts : new.hosts.items ≡ old.hosts.items)
     (bridges : new.bridges.items ≡ old.bridges.items)
     (turned : Turned s.network old.rings.items new.rings.items)
-    (visited : VisitedController s t (ring_in old s.network) (ring_in new s.network))
+    (visited : VisitedController s t (station_ring old s.network) (station_ring new s.network))
   where
     abbrev ring : KeptRing
-    ring = ring_in old s.network
+    ring = station_ring old s.network
 
     abbrev new_ring : KeptRing
-    new_ring = ring_in new s.network
+    new_ring = station_ring new s.network
 
     same : s.worker.node ≡ s.node
     same =
@@ -228,7 +230,7 @@ module _ (plant : Plant) (scans : ℕ) (old new : Stations) (at : ℕ) (s t : Co
 
     pub visit-off : Stay IsOffAway old new
     visit-off = stays-turn IsOffAway plant scans old new at s t all is items
-        (λ was. subst (λ (k : ℕ). IsOffAway (ring_in new k) t) (sym visited.stays.network)
+        (λ was. subst (λ (k : ℕ). IsOffAway (station_ring new k) t) (sym visited.stays.network)
         (λ away. same-off s.controller t.controller keeps
         ∙ was (sym (ap is_away_status own-status) ∙ away)))
         (λ x other. other-off s.worker.node old.rings.items new.rings.items x
@@ -236,9 +238,9 @@ module _ (plant : Plant) (scans : ℕ) (old new : Stations) (at : ℕ) (s t : Co
 
     pub visit-gains : (node : ℕ) → (s.node == node) ≡ true → GainFor IsVisited node old new
     visit-gains node named = gains-with IsVisited plant scans old new node at s t all is named items
-        (subst (λ (k : ℕ). IsVisited (ring_in new k) t) (sym visited.stays.network)
+        (subst (λ (k : ℕ). IsVisited (station_ring new k) t) (sym visited.stays.network)
         visited.visited)
-        (λ x other was. other-visited (ring_in old x.network) (ring_in new x.network)
+        (λ x other was. other-visited (station_ring old x.network) (station_ring new x.network)
         s.worker.node x (grew.net x.network) (λ e. other (e ∙ same)) (grew.further x.network) was)
 
 -- nobody is away where all are here
@@ -246,10 +248,10 @@ pub nobody-away : (plant : Plant) (scans : ℕ) (run : Stations) → StandAll pl
     → All (λ (s : ControllerStation). s.left ≡ false) run.controllers.items
     → AllHave IsOffAway run
 nobody-away plant scans run all here =
-    from-places (λ (x : ControllerStation). IsOffAway (ring_in run x.network) x)
+    from-places (λ (x : ControllerStation). IsOffAway (station_ring run x.network) x)
     run.controllers.items (λ k x at-x away.
     let p = at-place plant scans run k x all at-x in
-    let ring = ring_in run x.network in
+    let ring = station_ring run x.network in
     let present : x.left ≡ false =
     all-at (λ (s : ControllerStation). s.left ≡ false) run.controllers.items k x here at-x in
     absurd (let no' : true ≡ false =

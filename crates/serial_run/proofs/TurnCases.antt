@@ -25,17 +25,18 @@ use Rattle.serial_run.specs.declared.stations.Stations.{Stations}
 use Rattle.serial_run.specs.declared.order.Turn.TheVariants.{Away, Visit}
 use Rattle.serial_run.specs.Turns.{MakesTurn, is_end_of}
 use Rattle.serial_run.specs.Scans.{KeepScans}
-use Rattle.serial_run.specs.Stations.{Did, StandAll, no_ring, ring_if, ring_in, station_on}
+use Rattle.serial_run.specs.Stations.{Did, StandAll, no_ring, ring_if, station_ring, station_on}
 use Rattle.serial_run.specs.Held.{HasToken, HeldController, HeldHost, HeldOn, HostKeepsBeside}
 use Rattle.serial_run.specs.Held.{CameBack, GainFor, HostStandsBeside, IsOffAway, IsVisited}
 use Rattle.serial_run.specs.Held.{KeepsBeside}
 use Rattle.serial_run.specs.Held.{KnowsLeft, StandsBeside, Stay, VisitedController}
 use Rattle.serial_run.specs.Held.{stations_here}
-use Rattle.serial_run.specs.Held.{IsHeld, members_if, members_in, members_now, turns_left}
-use Rattle.serial_run.proofs.Did.{HoldsAtPlace, IsEndOn, end-grew, end-has-token}
-use Rattle.serial_run.proofs.Did.{came-did, end-hold-did, has-token, hold-did, host-has-token}
-use Rattle.serial_run.proofs.Did.{host-hold-did, host-stands-beside, no-hold-did, no-hold-on-did}
-use Rattle.serial_run.proofs.Did.{stands-beside, visit-did}
+use Rattle.serial_run.specs.Held.{IsHeld, members_if, members_in, members_of_ring, turns_left}
+use Rattle.serial_run.proofs.HoldsDid.{HoldsAtPlace, IsEndOn, end-grew, end-has-token, end-hold-did}
+use Rattle.serial_run.proofs.HoldsDid.{has-token, hold-did, host-has-token, host-hold-did}
+use Rattle.serial_run.proofs.HoldsDid.{host-stands-beside, no-hold-did, no-hold-on-did}
+use Rattle.serial_run.proofs.HoldsDid.{stands-beside}
+use Rattle.serial_run.proofs.Did.{came-did, visit-did}
 use Rattle.serial_run.proofs.Gained.{stays-same}
 use Rattle.serial_run.proofs.Holding.{end-hold-lessens, here-left, hold-lessens, hold-scans}
 use Rattle.serial_run.proofs.Holding.{host-hold-lessens, knows-left, visit-scans}
@@ -126,7 +127,7 @@ module _ (law : SomebodyHolds) (plant : Plant) (scans : ℕ) (run : Stations)
     controller-keeps = subst (KeepsBeside s) holds.ring_is
         (keeps-beside plant scans run at s all is)
 
-    own-token : HasToken s.worker.node (ring_in run s.network)
+    own-token : HasToken s.worker.node (station_ring run s.network)
     own-token = subst (HasToken s.worker.node) (sym holds.ring_is) holds.token
 
     pub controller-here : s.left ≡ false
@@ -143,7 +144,7 @@ module _ (law : SomebodyHolds) (plant : Plant) (scans : ℕ) (run : Stations)
         let budget = (at-place plant scans run at s all is).stands.budget in
         let turned : Turned s.network run.rings.items new.rings.items =
         turned-by plant run.rings.items place r ring s.network spot home in
-        let held' : HeldController s t (ring_in run s.network) (ring_in new s.network) =
+        let held' : HeldController s t (station_ring run s.network) (station_ring new s.network) =
         as-turned (HeldController s t) plant run.rings.items place r ring s.network spot home held
         in
         let less : turns_left new < turns_left run =
@@ -181,7 +182,7 @@ module _ (law : SomebodyHolds) (plant : Plant) (scans : ℕ) (run : Stations)
     host-keeps = subst (HostKeepsBeside s) host-holds.ring_is
         (host-keeps-beside plant scans run at s all is)
 
-    own-host-token : HasToken s.worker.node (ring_in run s.network)
+    own-host-token : HasToken s.worker.node (station_ring run s.network)
     own-host-token = subst (HasToken s.worker.node) (sym host-holds.ring_is) host-holds.token
 
     pub host-here : s.left ≡ false
@@ -199,7 +200,7 @@ module _ (law : SomebodyHolds) (plant : Plant) (scans : ℕ) (run : Stations)
         let budget = (host-at-place plant scans run at s all is).stands.budget in
         let turned : Turned s.network run.rings.items new.rings.items =
         turned-by plant run.rings.items place r ring s.network spot home in
-        let held' : HeldHost s t (ring_in run s.network) (ring_in new s.network) =
+        let held' : HeldHost s t (station_ring run s.network) (station_ring new s.network) =
         as-turned (HeldHost s t) plant run.rings.items place r ring s.network spot home held in
         let less : turns_left new < turns_left run =
         host-hold-lessens plant scans run new at s t all is refl refl refl turned own-host-token
@@ -242,7 +243,7 @@ module _ (law : SomebodyHolds) (plant : Plant) (scans : ℕ) (run : Stations)
           stands = subst (λ (n : ℕ). StandsEnd n s.station r.ring.net r.ring.history) (sym left.0)
               (subst (λ (k : KeptRing). StandsEnd p.plan.left s.station k.net k.history) h.ring_is
               (subst (λ (net : NetPlan). StandsEnd p.plan.left s.station net
-              (ring_in run p.plan.left_net).history) (sym p.left.net_is) p.stands.left));
+              (station_ring run p.plan.left_net).history) (sym p.left.net_is) p.stands.left));
           token = subst (λ (n : ℕ). HasToken n r.ring) (sym left.0) h.token;
         })
         (λ (right : (holder ≡ p.plan.right) × HoldsAtPlace run p.plan.right_net p.plan.right r).
@@ -257,7 +258,7 @@ module _ (law : SomebodyHolds) (plant : Plant) (scans : ℕ) (run : Stations)
               (subst (λ (k : KeptRing). StandsEnd p.plan.right s.station k.net k.history)
               h.ring_is
               (subst (λ (net : NetPlan). StandsEnd p.plan.right s.station net
-              (ring_in run p.plan.right_net).history) (sym p.right.net_is) p.stands.right));
+              (station_ring run p.plan.right_net).history) (sym p.right.net_is) p.stands.right));
           token = subst (λ (n : ℕ). HasToken n r.ring) (sym right.0) h.token;
         })
         (end-has-token law plant scans run at s all is place r at-ring named).side
@@ -290,9 +291,9 @@ module _ (law : SomebodyHolds) (plant : Plant) (scans : ℕ) (run : Stations)
         let moved' = as-turned (MovedByEnd holder s.station station) plant run.rings.items place r
         ring network spot on moved in
         let side = end-here.side in
-        let ring_is : ring_in run network ≡ r.ring =
-        ap (λ (k : ℕ). ring_in run k) (sym on) ∙ ap ring_if spot.found in
-        let token : HasToken holder (ring_in run network) =
+        let ring_is : station_ring run network ≡ r.ring =
+        ap (λ (k : ℕ). station_ring run k) (sym on) ∙ ap ring_if spot.found in
+        let token : HasToken holder (station_ring run network) =
         subst (HasToken holder) (sym ring_is) end-here.token in
         let less : turns_left new < turns_left run =
         end-hold-lessens run new at s t is refl refl refl refl network holder side turned held'
@@ -331,7 +332,7 @@ module _ (law : SomebodyHolds) (plant : Plant) (scans : ℕ) (run : Stations)
 pub members-at : (plant : Plant) (scans : ℕ) (run : Stations) → StandAll plant scans run
     → (network place : ℕ) (r : RingStation)
     → position (λ (x : RingStation). x.network == network) run.rings.items ≡ Some place
-    → r ≡ get_or run.rings.items place r → members_now r ≡ members_in run network
+    → r ≡ get_or run.rings.items place r → members_of_ring r ≡ members_in run network
 members-at plant scans run all network place r placed value =
     let read = found-ring run network place r placed value in
     let at = ring-place plant run.rings.items all.sound all.rings place r read.0 in
@@ -370,8 +371,8 @@ module _ (plant : Plant) (scans : ℕ) (run : Stations) (all : StandAll plant sc
   home-is : r.network ≡ s.network
   home-is = eqb-true r.network s.network named
 
-  home-ring : ring_in run s.network ≡ r.ring
-  home-ring = ap (λ (k : ℕ). ring_in run k) (sym home-is) ∙ ap ring_if home-spot.found
+  home-ring : station_ring run s.network ≡ r.ring
+  home-ring = ap (λ (k : ℕ). station_ring run k) (sym home-is) ∙ ap ring_if home-spot.found
 
   pub home-stands : StandsBeside s r.ring
   home-stands = subst (StandsBeside s) home-ring (stands-beside plant scans run at s all is)
@@ -403,7 +404,8 @@ module _ (plant : Plant) (scans : ℕ) (run : Stations) (all : StandAll plant sc
         home-spot home-is visited in
         record {
           visited = visit-did run new at s t is refl refl refl home-turned made node found;
-          scans = visit-scans run new at s t (ring_in run s.network) (ring_in new s.network) is
+          scans = visit-scans run new at s t (station_ring run s.network)
+              (station_ring new s.network) is
               refl made;
           off = visit-off plant scans run new at s t all is refl refl refl home-turned made;
           gain = visit-gains plant scans run new at s t all is refl refl refl home-turned made node
@@ -420,7 +422,8 @@ module _ (plant : Plant) (scans : ℕ) (run : Stations) (all : StandAll plant sc
         home-is came in
         record {
           did = came-did run new at s t is refl refl refl home-turned made node found;
-          scans = came-scans run new at s t (ring_in run s.network) (ring_in new s.network) is refl
+          scans = came-scans run new at s t (station_ring run s.network)
+              (station_ring new s.network) is refl
               made;
           gain = came-gains plant scans run new node at s t all is called refl refl refl home-turned
               made;

@@ -21,10 +21,10 @@ use Rattle.serial_run.specs.declared.stations.RingStation.{RingStation}
 use Rattle.serial_run.specs.declared.stations.Stations.{Stations}
 use Rattle.serial_run.specs.Turns.{is_end_of, place_of_bridge, place_of_controller, place_of_host}
 use Rattle.serial_run.specs.Turns.{with_bridge_list, with_entries, with_host_list, with_list}
-use Rattle.serial_run.specs.Turns.{IsBridgeAt, IsControllerAt, IsHostAt, with_ring}
+use Rattle.serial_run.specs.Turns.{IsBridgeAt, IsControllerAt, IsHostAt, with_noted_on}
 use Rattle.serial_run.specs.Stations.{HostStandsOn, StandAll, StandsController, StandsHost}
 use Rattle.serial_run.specs.Stations.{StandsOn, StandsRing, StandsSite, host_log_of, joint_of}
-use Rattle.serial_run.specs.Stations.{log_of, log_of_ring, log_of_site, ring_in}
+use Rattle.serial_run.specs.Stations.{log_of, log_of_ring, log_of_site, station_ring}
 use Rattle.serial_run.proofs.Lists.{zip-at, zip-set, zip-position}
 use Rattle.serial_run.proofs.Networks.{GrewBy, NodeOn, Turned, contains-at, node-on, turned-logs}
 use Rattle.serial_run.proofs.Standings.{other-controller, other-controllers, other-host}
@@ -37,7 +37,7 @@ pub record AtPlace (plant : Plant) (scans : ℕ) (run : Stations) (at : ℕ)
   pub plan : ControllerPlan
   pub plan_is : slice_get plant.controllers at ≡ Some plan
   pub station_is : slice_get run.controllers.items at ≡ Some s
-  pub stands : StandsController plant scans (ring_in run s.network).history plan s
+  pub stands : StandsController plant scans (station_ring run s.network).history plan s
   pub ring : NodeOn plant run.rings.items s.network plan.node
 
 pub at-place : (plant : Plant) (scans : ℕ) (run : Stations) (at : ℕ) (s : ControllerStation)
@@ -51,7 +51,7 @@ at-place plant scans run at s all is =
       plan = z.0;
       plan_is = z.1;
       station_is = is;
-      stands = subst (λ (k : ℕ). StandsController plant scans (ring_in run k).history z.0 s)
+      stands = subst (λ (k : ℕ). StandsController plant scans (station_ring run k).history z.0 s)
           network z.2;
       ring = subst (λ (k : ℕ). NodeOn plant run.rings.items k z.0.node) network
           (node-on plant run.rings.items all.sound all.rings z.0.network z.0.node
@@ -62,7 +62,7 @@ pub record HostAtPlace (plant : Plant) (run : Stations) (at : ℕ) (s : HostStat
   pub plan : HostPlan
   pub plan_is : slice_get plant.hosts at ≡ Some plan
   pub station_is : slice_get run.hosts.items at ≡ Some s
-  pub stands : StandsHost plant (ring_in run s.network).history plan s
+  pub stands : StandsHost plant (station_ring run s.network).history plan s
   pub ring : NodeOn plant run.rings.items s.network plan.node
 
 pub host-at-place : (plant : Plant) (scans : ℕ) (run : Stations) (at : ℕ) (s : HostStation)
@@ -76,7 +76,7 @@ host-at-place plant scans run at s all is =
       plan = z.0;
       plan_is = z.1;
       station_is = is;
-      stands = subst (λ (k : ℕ). StandsHost plant (ring_in run k).history z.0 s) network z.2;
+      stands = subst (λ (k : ℕ). StandsHost plant (station_ring run k).history z.0 s) network z.2;
       ring = subst (λ (k : ℕ). NodeOn plant run.rings.items k z.0.node) network
           (node-on plant run.rings.items all.sound all.rings z.0.network z.0.node
           (host-at-on plant at z.0 all.sound z.1));
@@ -151,12 +151,12 @@ module _ (plant : Plant) (scans : ℕ) (old new : Stations) (at : ℕ) (s t : Co
   -- while the rings go on by its node
   pub stand-with : GrewBy place.plan.node old.rings.items new.rings.items
       → AllZip StandsRing plant.nets new.rings.items
-      → StandsController plant scans (ring_in new t.network).history place.plan t
+      → StandsController plant scans (station_ring new t.network).history place.plan t
       → StandAll plant scans new
   stand-with grew rings it =
       let n = place.plan.node in
       let mine : StandsOn plant scans new.rings.items place.plan t =
-      subst (λ (k : ℕ). StandsController plant scans (ring_in new k).history place.plan t)
+      subst (λ (k : ℕ). StandsController plant scans (station_ring new k).history place.plan t)
       it.network it in
       record {
         sound = all.sound;
@@ -199,14 +199,14 @@ module _ (plant : Plant) (scans : ℕ) (old new : Stations) (at : ℕ) (s t : Co
       (record { node = n; entries = t.controller.history })) node)
 
   pub joint-is : Turned s.network old.rings.items new.rings.items → t.node ≡ s.node
-      → joint_of new ≡ with_ring place.plan.network (ring_in new s.network).history
+      → joint_of new ≡ with_noted_on place.plan.network (station_ring new s.network).history
       (with_list at (log_of s) t.controller.history (joint_of old))
   joint-is turned node =
       let rings : map log_of_ring new.rings.items
-      ≡ map (with_entries place.plan.network (ring_in new s.network).history)
+      ≡ map (with_entries place.plan.network (station_ring new s.network).history)
       (map log_of_ring old.rings.items) =
       turned-logs s.network old.rings.items new.rings.items turned
-      ∙ ap (λ (k : ℕ). map (with_entries k (ring_in new s.network).history)
+      ∙ ap (λ (k : ℕ). map (with_entries k (station_ring new s.network).history)
       (map log_of_ring old.rings.items)) place.stands.network in
       λ i. record {
         controllers = logs-are node i;
@@ -241,12 +241,12 @@ module _ (plant : Plant) (scans : ℕ) (old new : Stations) (at : ℕ) (s t : Ho
 
   pub host-stand-with : GrewBy host-place.plan.node old.rings.items new.rings.items
       → AllZip StandsRing plant.nets new.rings.items
-      → StandsHost plant (ring_in new t.network).history host-place.plan t
+      → StandsHost plant (station_ring new t.network).history host-place.plan t
       → StandAll plant scans new
   host-stand-with grew rings it =
       let n = host-place.plan.node in
       let mine : HostStandsOn plant new.rings.items host-place.plan t =
-      subst (λ (k : ℕ). StandsHost plant (ring_in new k).history host-place.plan t)
+      subst (λ (k : ℕ). StandsHost plant (station_ring new k).history host-place.plan t)
       it.network it in
       record {
         sound = all.sound;
@@ -282,7 +282,7 @@ module _ (plant : Plant) (scans : ℕ) (old new : Stations) (at : ℕ) (s t : Ho
   }
 
   pub host-joint-is : Turned s.network old.rings.items new.rings.items → t.node ≡ s.node
-      → joint_of new ≡ with_ring host-place.plan.network (ring_in new s.network).history
+      → joint_of new ≡ with_noted_on host-place.plan.network (station_ring new s.network).history
       (with_host_list at (host_log_of s) t.host.history (joint_of old))
   host-joint-is turned node =
       let logs : map host_log_of new.hosts.items
@@ -292,10 +292,10 @@ module _ (plant : Plant) (scans : ℕ) (old new : Stations) (at : ℕ) (s t : Ho
       ∙ ap (λ n. set (map host_log_of old.hosts.items) at
       (record { node = n; entries = t.host.history })) node) in
       let rings : map log_of_ring new.rings.items
-      ≡ map (with_entries host-place.plan.network (ring_in new s.network).history)
+      ≡ map (with_entries host-place.plan.network (station_ring new s.network).history)
       (map log_of_ring old.rings.items) =
       turned-logs s.network old.rings.items new.rings.items turned
-      ∙ ap (λ (k : ℕ). map (with_entries k (ring_in new s.network).history)
+      ∙ ap (λ (k : ℕ). map (with_entries k (station_ring new s.network).history)
       (map log_of_ring old.rings.items)) host-place.stands.network in
       λ i. record {
         controllers = map log_of (controllers i);
@@ -385,7 +385,7 @@ module _ (plant : Plant) (scans : ℕ) (old new : Stations) (at : ℕ) (s t : Br
 
   pub site-joint-is : (network : ℕ) → Turned network old.rings.items new.rings.items
       → t.station.bridge.plan ≡ s.station.bridge.plan
-      → joint_of new ≡ with_ring network (ring_in new network).history
+      → joint_of new ≡ with_noted_on network (station_ring new network).history
       (with_bridge_list at (log_of_site s) t.station.bridge.history (joint_of old))
   site-joint-is network turned plan =
       let logs : map log_of_site new.bridges.items

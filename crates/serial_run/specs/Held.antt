@@ -31,7 +31,7 @@ use Rattle.serial_run.specs.declared.stations.RingStation.{RingStation}
 use Rattle.serial_run.specs.declared.stations.Stations.{Stations}
 use Rattle.serial_run.specs.Turns.{coming_back, may_visit, node_has_left, MakesTurn, MakesTurns}
 use Rattle.serial_run.specs.Scans.{KeepScans}
-use Rattle.serial_run.specs.Stations.{Did, plain_ram_side, ring_in, ring_on, station_on}
+use Rattle.serial_run.specs.Stations.{Did, plain_ram_side, station_ring, ring_on, station_on}
 
 -- A controller's station beside the ring alone.
 abbrev pub StandsBeside : ControllerStation → KeptRing → Type 0
@@ -98,13 +98,14 @@ IsVisited ring station = is_visit_due ring station ≡ false
 -- All stations have something, each with the ring of its network.
 abbrev pub AllHave : (KeptRing → ControllerStation → Type 0) → Stations → Type 0
 AllHave Has run =
-    All (λ (station : ControllerStation). Has (ring_in run station.network) station)
+    All (λ (station : ControllerStation). Has (station_ring run station.network) station)
     run.controllers.items
 
 -- Stations that had it still have.
 abbrev pub Stay : (KeptRing → ControllerStation → Type 0) → Stations → Stations → Type 0
 Stay Has old new = AllZip
-    (λ (a b : ControllerStation). Has (ring_in old a.network) a → Has (ring_in new b.network) b)
+    (λ (a b : ControllerStation).
+    Has (station_ring old a.network) a → Has (station_ring new b.network) b)
     old.controllers.items new.controllers.items
 
 -- The station of a node has it, and the others that had still have.
@@ -234,13 +235,13 @@ turns_left run =
     + sum_by (site_turns run.rings.items) run.bridges.items
 
 -- How many nodes of a network are members of its ring now.
-abbrev pub members_now : RingStation → ℕ
-members_now station = count_by (λ node. is_in_ring station.ring node) station.members
+abbrev pub members_of_ring : RingStation → ℕ
+members_of_ring station = count_by (λ node. is_in_ring station.ring node) station.members
 
 -- So many has a network, if it has a ring.
 abbrev pub members_if : Option RingStation → ℕ
 members_if None = 0
-members_if (Some station) = members_now station
+members_if (Some station) = members_of_ring station
 
 abbrev pub members_in : Stations → ℕ → ℕ
 members_in run network = members_if (station_on run.rings.items network)
@@ -264,7 +265,7 @@ pub record Lessens (old new : Stations) : Type 0 where
 
 -- Some member holds the token of a network.
 abbrev pub IsHeld : Stations → ℕ → Type 0
-IsHeld run network = is_held (ring_of (ring_in run network)) ≡ true
+IsHeld run network = is_held (ring_of (station_ring run network)) ≡ true
 
 -- The node that holds the token of a network made its hold turn, if there is one: that leaves fewer
 -- hold turns to be made, and as many scans; other networks have as many members as before.

@@ -3,6 +3,7 @@ use Rattle.std.specs.Prelude.{◌≡◌, ℕ}
 use Rattle.plant_types.specs.declared.plan.Plant.{Plant}
 use Rattle.route_laws.specs.Effects.{EffectsAreRight}
 use Rattle.entry_causes.specs.Joint.{IsInOneOrder}
+use Rattle.end_times.specs.Joint.{AreBridgesInTime}
 use Rattle.joint_history.specs.declared.noted.Noted.{Noted}
 use Rattle.summary_text.specs.Coils.{coils_at_end}
 use Rattle.joint_history.specs.Complete.{IsComplete}
@@ -20,14 +21,16 @@ pub record AreOver (plant : Plant) (scans : ℕ) (run : Stations) : Type 0 where
   pub complete : IsComplete plant scans (joint_of run)
 
 -- The joint history of a plant's serial run, with what its controllers noted of their panels: it
--- is legal and complete, keeps the laws between its lists, is right in its effects, and all its
--- entries have one order in time.
+-- is legal and complete, keeps the laws between its lists, is right in its effects, the entries of
+-- each ring and of the stations on it have one order in time, and its bridges are in time with the
+-- nodes of their ends.
 pub record IsNotedRun (plant : Plant) (scans : ℕ) (noted : Noted) : Type 0 where
   pub serial : IsSerial plant scans noted.joint
   pub legal : IsLegalJoint plant scans noted.joint
   pub joint : IsJoint noted.joint
   pub effects : EffectsAreRight noted.joint
   pub in_time : IsInOneOrder plant noted.joint
+  pub bridges_in_time : AreBridgesInTime noted.joint
   pub complete : IsComplete plant scans noted.joint
   pub notes : IsNoted plant noted
 

@@ -77,16 +77,17 @@ station_on rings network = find (λ (station : RingStation). station.network == 
 abbrev pub no_ring : KeptRing
 no_ring = record { net = no_net; history = []; spare = 0 }
 
--- The ring of it.
+-- The ring of what stands for a network, or that of nobody.
 abbrev pub ring_if : Option RingStation → KeptRing
 ring_if None = no_ring
 ring_if (Some station) = station.ring
 
+-- The ring of the network of a number.
 abbrev pub ring_on : List RingStation → ℕ → KeptRing
 ring_on rings network = ring_if (station_on rings network)
 
-abbrev pub ring_in : Stations → ℕ → KeptRing
-ring_in run network = ring_on run.rings.items network
+abbrev pub station_ring : Stations → ℕ → KeptRing
+station_ring run network = ring_on run.rings.items network
 
 -- ---- How stations stand.
 

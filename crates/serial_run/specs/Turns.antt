@@ -63,8 +63,7 @@ abbrev pub is_end_of : ℕ → BridgePlan → Bool
 is_end_of node bridge = (bridge.left == node) || (bridge.right == node)
 
 -- The place of the controller of a node in its plant, that of a host, and that of the bridge of
--- which
--- it is an end.
+-- which it is an end.
 abbrev pub place_of_controller : Plant → ℕ → Option ℕ
 place_of_controller plant node = position (λ plan. plan.node == node) plant.controllers
 
@@ -109,15 +108,16 @@ with_bridge_list at log entries joint = record joint {
       (record { left = log.left; right = log.right; entries = entries });
 }
 
--- A joint history with another list of the ring of a network.
+-- The log of a ring, with another list where it is that of a network.
 abbrev pub with_entries : ℕ → List RingEntry → RingLog → RingLog
 with_entries network ring log = record {
   network = log.network;
   entries = if log.network == network then ring else log.entries;
 }
 
-abbrev pub with_ring : ℕ → List RingEntry → Joint → Joint
-with_ring network ring joint =
+-- A joint history with another list of the ring of a network.
+abbrev pub with_noted_on : ℕ → List RingEntry → Joint → Joint
+with_noted_on network ring joint =
     record joint { rings = map (with_entries network ring) joint.rings }
 
 -- A controller's list behind its due step; the same list where it has ended or stopped.
@@ -146,7 +146,7 @@ pub record MakesHoldTurnAt (plant : Plant) (scans at : ℕ) (old new : Joint) : 
   pub end : TurnEnd
   pub turn : HoldsTurn true true (fixed_of plant scans plan) (net_of plant plan.node) plan.node true
       log.entries entries (noted_on plan.network old) ring end
-  pub made : new ≡ with_ring plan.network ring (with_list at log entries old)
+  pub made : new ≡ with_noted_on plan.network ring (with_list at log entries old)
 
 -- The host at a place makes its hold turn: its own list and that of its ring go on.
 pub record HostHoldsAt (plant : Plant) (at : ℕ) (old new : Joint) : Type 0 where
@@ -158,11 +158,10 @@ pub record HostHoldsAt (plant : Plant) (at : ℕ) (old new : Joint) : Type 0 whe
   pub left : Bool
   pub turn : HoldsHostTurn true (net_of plant plan.node) plan.node plan true log.entries entries
       (noted_on plan.network old) ring left
-  pub made : new ≡ with_ring plan.network ring (with_host_list at log entries old)
+  pub made : new ≡ with_noted_on plan.network ring (with_host_list at log entries old)
 
 -- The bridge at a place makes the hold turn of one of its ends on the ring of a network: its own
--- list
--- and that of the ring go on.
+-- list and that of the ring go on.
 pub record EndHoldsAt (plant : Plant) (net : NetPlan) (side at : ℕ) (old new : Joint)
     : Type 0 where
   pub plan : BridgePlan
@@ -173,15 +172,14 @@ pub record EndHoldsAt (plant : Plant) (net : NetPlan) (side at : ℕ) (old new :
   pub left : Bool
   pub turn : HoldsEndTurn true true plan net side true log.entries entries
       (noted_on net.number old) ring left
-  pub made : new ≡ with_ring net.number ring (with_bridge_list at log entries old)
+  pub made : new ≡ with_noted_on net.number ring (with_bridge_list at log entries old)
 
 -- Who holds the token of a network.
 abbrev pub holder_on : NetPlan → Joint → ℕ
 holder_on net joint = (ring_after net (noted_on net.number joint)).holder
 
 -- The station or the bridge of the node that holds a token makes its hold turn; nothing where no
--- node
--- holds it.
+-- node holds it.
 abbrev pub MakesHold : Plant → ℕ → NetPlan → Option ℕ → Option ℕ → Option ℕ → Joint → Joint
     → Type 0
 MakesHold plant scans net (Some at) host bridge old new = MakesHoldTurnAt plant scans at old new
@@ -195,8 +193,7 @@ abbrev pub net_numbered : Plant → ℕ → Option NetPlan
 net_numbered plant network = find (λ net. net.number == network) plant.nets
 
 -- Hold: the station or the bridge of the node that holds the token of a network makes its hold
--- turn;
--- nothing where there is no such network, or no node holds its token.
+-- turn; nothing where there is no such network, or no node holds its token.
 abbrev pub MakesHoldOn : Plant → ℕ → Option NetPlan → Joint → Joint → Type 0
 MakesHoldOn plant scans None old new = new ≡ old
 MakesHoldOn plant scans (Some net) old new =
@@ -227,7 +224,7 @@ pub record VisitsAt (plant : Plant) (scans at : ℕ) (plan : ControllerPlan) (lo
   pub ring : List RingEntry
   pub visit : VisitsEnd true true (fixed_of plant scans plan) (net_of plant plan.node) plan.node
       log.entries entries (noted_on plan.network old) ring
-  pub made : new ≡ with_ring plan.network ring (with_list at log entries old)
+  pub made : new ≡ with_noted_on plan.network ring (with_list at log entries old)
 
 -- The controller at a place makes its visit where that is due, and else nothing.
 abbrev pub VisitsWhere : Bool → Plant → ℕ → ℕ → ControllerPlan → ControllerLog → Joint → Joint
@@ -240,8 +237,7 @@ pub record VisitsIfDue (plant : Plant) (scans at : ℕ) (old new : Joint) : Type
   pub log : ControllerLog
   pub is : IsControllerAt plant old at plan log
   pub visits : VisitsWhere (visit_is_due plant scans plan log.entries (noted_on plan.network old))
-      plant
-      scans at plan log old new
+      plant scans at plan log old new
 
 -- Visit: nothing where no controller has the node.
 abbrev pub MakesVisit : Plant → ℕ → Option ℕ → Joint → Joint → Type 0
@@ -260,7 +256,7 @@ pub record ComesBackAt (plant : Plant) (scans at : ℕ) (old new : Joint) : Type
   pub plan : ControllerPlan
   pub log : ControllerLog
   pub is : IsControllerAt plant old at plan log
-  pub made : new ≡ with_ring plan.network
+  pub made : new ≡ with_noted_on plan.network
       (noted_on plan.network old
       ++ coming_back (status_at (net_of plant plan.node) (noted_on plan.network old) plan.node)
       (is_off_at (fixed_of plant scans plan) log.entries) plan.node) old

@@ -3,6 +3,7 @@ ghost use Rattle.std.specs.Prelude.{◌≡◌, ◌≤◌, IfOk};
 ghost use Rattle.plant_types.specs.Limits.{most_scans};
 ghost use Rattle.route_laws.specs.Effects.{EffectsAreRight};
 ghost use Rattle.entry_causes.specs.Joint.{IsInOneOrder};
+ghost use Rattle.end_times.specs.Joint.{AreBridgesInTime};
 ghost use Rattle.joint_history.specs.Complete.{IsComplete};
 ghost use Rattle.joint_history.specs.JointLaws.{IsJoint, IsLegalJoint};
 ghost use Rattle.serial_run.specs.Turns.{IsTurns};
@@ -32,6 +33,7 @@ pub fn turns(alloc: Global, plant: &Plant, scans: u32, order: &[Turn]) -> Result
     ensures joint { IfOk result IsJoint }
     ensures effects { IfOk result EffectsAreRight }
     ensures in_time { IfOk result (IsInOneOrder plant.now) }
+    ensures bridges_in_time { IfOk result AreBridgesInTime }
 {
     effects_are_right();
     joint_is_in_one_order();
@@ -105,6 +107,7 @@ pub fn run(alloc: Global, plant: &Plant, scans: u32) -> Result<Joint, AllocError
     ensures joint { IfOk result IsJoint }
     ensures effects { IfOk result EffectsAreRight }
     ensures in_time { IfOk result (IsInOneOrder plant.now) }
+    ensures bridges_in_time { IfOk result AreBridgesInTime }
     ensures complete { IfOk result (IsComplete plant.now scans) }
 {
     let noted = run_noted(alloc, plant, scans)?;

@@ -6,7 +6,7 @@ ghost use Rattle.serial_run.specs.Serial.{Repeats};
 ghost use Rattle.serial_run.specs.Turns.{MakesTurns};
 ghost use Rattle.serial_run.specs.Stations.{Did, DidWith, Stand};
 ghost use Rattle.serial_run.specs.Scans.{have_ended, steps_left, AreBetweenScans, KeepScans};
-ghost use Rattle.serial_run.specs.Held.{is_in_ring, members_in, members_now, site_has_left};
+ghost use Rattle.serial_run.specs.Held.{is_in_ring, members_in, members_of_ring, site_has_left};
 ghost use Rattle.serial_run.specs.Held.{stations_here, AllHave, IsOffAway, IsVisited, Lessens};
 ghost use Rattle.serial_run.specs.Held.{RoundOn, Stay};
 
@@ -26,8 +26,8 @@ fn is_in(node: u8, ring: &Ring) -> bool
 
 impl RingStation {
     /// How many members the ring has now.
-    fn members_now(&self) -> usize
-        ensures { result ≡ members_now self.now }
+    fn members_of_ring(&self) -> usize
+        ensures { result ≡ members_of_ring self.now }
     {
         let ring = &self.ring;
         self.members
@@ -54,7 +54,7 @@ impl Stations {
         ensures { result ≡ members_in self.now network }
     {
         match self.ring_at(network) {
-            Some(place) => self.rings[place].members_now(),
+            Some(place) => self.rings[place].members_of_ring(),
             None => 0,
         }
     }

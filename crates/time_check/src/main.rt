@@ -1,5 +1,5 @@
-//! Reads a journal, and says whether its lists fit one order in time, or where they stand still.
-//! For the scripts of plants/.
+//! Reads a journal, and says whether each station is in time with its ring, or where one stands
+//! still. For the scripts of plants/.
 #![tactic(auto)]
 
 use anyhow::Result;

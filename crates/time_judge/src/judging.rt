@@ -104,9 +104,9 @@ fn joint_standstill(
     hosts_standstill(alloc, joint.hosts.as_slice(), ring, &own)
 }
 
-/// The first station, the controllers before the hosts, that is not in time, and where; none where
-/// all lists fit one order in time. Takes time in proportion to all entries, and copies those of
-/// the rings where there is more than one ring.
+/// The first station, the controllers before the hosts, that is not in time with its node, and
+/// where; none where all are. Takes time in proportion to all entries, and copies those of the
+/// rings where there is more than one ring.
 pub fn first_standstill(alloc: Global, joint: &Joint) -> Result<Option<Standstill>, AllocError>
     ensures { IfOk result (IsFirstStandstill (noted_on_rings joint.now) (logs_of joint.now)) }
 {

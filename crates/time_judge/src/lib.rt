@@ -1,5 +1,5 @@
-//! Whether the lists of a plant fit one order in time in which nothing comes before its cause, and
-//! where not.
+//! Whether the lists of each ring of a plant and of the stations on it fit one order in time in
+//! which nothing comes before its cause, and where not.
 #![tactic(auto)]
 
 mod answering;

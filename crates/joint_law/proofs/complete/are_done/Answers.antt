@@ -9,7 +9,7 @@ use Rattle.joint_history.specs.declared.joint.HostLog.{HostLog}
 use Rattle.joint_law.specs.AllComplete.{AreControllersDone, AreEndsDoneOn, AreHostNodesDone}
 use Rattle.joint_law.specs.AllComplete.{IsStandingOf, own_entries}
 use Rattle.joint_law.proofs.AtNodes.{at-complete, controllers-done, ends-done, hosts-done}
-use Rattle.joint_law.proofs.Lists.{not-true}
+use Rattle.station_laws.proofs.Lists.{not-true}
 use Rattle.joint_law.proofs.complete.are_done.Goals as goal
 
 pub returns-then-not-branch : goal.returns-then-not-branch

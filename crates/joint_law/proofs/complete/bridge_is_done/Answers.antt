@@ -2,7 +2,7 @@ use Rattle.std.proofs.Common.{List, sym, subst, ◌∙◌}
 use Rattle.std.proofs.lemmas.Result.{IfOk-weaker}
 use Rattle.bridge_relay.specs.declared.entry.BridgeEntry.{BridgeEntry}
 use Rattle.joint_law.specs.AllComplete.{IsEndDoneOn}
-use Rattle.joint_law.proofs.Lists.{not-true}
+use Rattle.station_laws.proofs.Lists.{not-true}
 use Rattle.joint_law.proofs.complete.bridge_is_done.Goals as goal
 
 pub returns-then-not-branch : goal.returns-then-not-branch

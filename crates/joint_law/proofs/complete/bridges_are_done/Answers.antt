@@ -2,7 +2,7 @@ use Rattle.std.proofs.Common.{ℕ, ◌≡◌, ◌<◌, ◌≤◌, get_or, refl, 
 use Rattle.std.proofs.lemmas.Bool.{cases_lt}
 use Rattle.std.proofs.lemmas.List.{get_or_default}
 use Rattle.joint_law.specs.AllComplete.{AreEndsDoneOn}
-use Rattle.joint_law.proofs.Lists.{not-true}
+use Rattle.station_laws.proofs.Lists.{not-true}
 use Rattle.joint_law.proofs.complete.bridges_are_done.Goals as goal
 
 pub returns-then-not-branch : goal.returns-then-not-branch

@@ -2,7 +2,7 @@ use Rattle.std.proofs.Common.{false, get_or, refl, subst, sym, ap, ◌∙◌, ar
 use Rattle.joint_history.specs.declared.joint.ControllerLog.{ControllerLog}
 use Rattle.joint_law.specs.AllComplete.{IsControllerDone, own_entries}
 use Rattle.joint_law.proofs.AtNodes.{controllers-more}
-use Rattle.joint_law.proofs.Lists.{not-true}
+use Rattle.station_laws.proofs.Lists.{not-true}
 use Rattle.joint_law.proofs.complete.controllers_are_done.Goals as goal
 
 pub returns-then-not-branch : goal.returns-then-not-branch

@@ -3,7 +3,7 @@ use Rattle.plant_types.specs.declared.net.HostPlan.{HostPlan}
 use Rattle.joint_history.specs.declared.joint.HostLog.{HostLog}
 use Rattle.joint_law.specs.AllComplete.{IsHostNodeDone, own_entries}
 use Rattle.joint_law.proofs.AtNodes.{hosts-more}
-use Rattle.joint_law.proofs.Lists.{not-true}
+use Rattle.station_laws.proofs.Lists.{not-true}
 use Rattle.joint_law.proofs.complete.hosts_are_done.Goals as goal
 
 pub returns-then-not-branch : goal.returns-then-not-branch

@@ -4,8 +4,8 @@ use Rattle.plant_types.specs.declared.net.BridgePlan.{BridgePlan}
 use Rattle.joint_history.specs.declared.joint.BridgeLog.{BridgeLog}
 use Rattle.bridge_relay.specs.declared.entry.BridgeEntry.{BridgeEntry}
 use Rattle.bridge_relay.specs.Legal.{IsBridgeHistory}
-use Rattle.joint_law.specs.Courses.{FollowedTo}
-use Rattle.joint_law.specs.Differing.{BreaksAt}
+use Rattle.list_courses.specs.Courses.{FollowedTo}
+use Rattle.station_laws.specs.Differing.{BreaksAt}
 use Rattle.joint_law.proofs.CourseEnds.{any_bridge, bridge-spot, bridges-end, each-next}
 use Rattle.joint_law.proofs.CourseSteps.{same-size}
 use Rattle.joint_law.proofs.courses.bridges_course.Goals as goal

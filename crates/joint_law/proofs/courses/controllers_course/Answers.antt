@@ -9,8 +9,8 @@ use Rattle.controller_core.specs.declared.entry.Entry.{Entry}
 use Rattle.controller_core.specs.Controller.{IsLegal}
 use Rattle.joint_history.specs.Complete.{ControllerIsComplete}
 use Rattle.joint_history.specs.JointLaws.{fixed_of}
-use Rattle.joint_law.specs.Courses.{IsControllerCourse, IsWholeCourse}
-use Rattle.joint_law.specs.Differing.{BreaksAt}
+use Rattle.list_courses.specs.Courses.{IsControllerCourse, IsWholeCourse}
+use Rattle.station_laws.specs.Differing.{BreaksAt}
 use Rattle.joint_law.proofs.CourseEnds.{controllers-end, done-next, each-next, controller-spot}
 use Rattle.joint_law.proofs.CourseEnds.{notes-next, size-next}
 use Rattle.joint_law.proofs.CourseSteps.{same-size}

@@ -9,8 +9,8 @@ use Rattle.host_port.specs.declared.entry.HostEntry.{HostEntry}
 use Rattle.host_port.specs.Legal.{IsHostHistory}
 use Rattle.joint_history.specs.Complete.{EndsEachCall}
 use Rattle.joint_history.specs.Reading.{host_items_of}
-use Rattle.joint_law.specs.Courses.{IsCourse}
-use Rattle.joint_law.specs.Differing.{BreaksAt}
+use Rattle.list_courses.specs.Courses.{IsCourse}
+use Rattle.station_laws.specs.Differing.{BreaksAt}
 use Rattle.joint_law.proofs.CourseEnds.{hosts-end, done-next, each-next, host-spot, size-next}
 use Rattle.joint_law.proofs.CourseSteps.{same-size}
 use Rattle.joint_law.proofs.courses.hosts_course.Goals as goal

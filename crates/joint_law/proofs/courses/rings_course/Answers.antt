@@ -4,8 +4,8 @@ use Rattle.plant_types.specs.declared.net.NetPlan.{NetPlan}
 use Rattle.ring_core.specs.declared.entry.RingEntry.{RingEntry}
 use Rattle.ring_core.specs.Legal.{IsLegalRing}
 use Rattle.joint_history.specs.declared.joint.RingLog.{RingLog}
-use Rattle.joint_law.specs.Courses.{FollowedTo}
-use Rattle.joint_law.specs.Differing.{BreaksAt}
+use Rattle.list_courses.specs.Courses.{FollowedTo}
+use Rattle.station_laws.specs.Differing.{BreaksAt}
 use Rattle.joint_law.proofs.CourseEnds.{each-next, ring-spot, rings-end}
 use Rattle.joint_law.proofs.CourseSteps.{same-size}
 use Rattle.joint_law.proofs.courses.rings_course.Goals as goal

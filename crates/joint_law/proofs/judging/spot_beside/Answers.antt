@@ -1,8 +1,8 @@
 use Rattle.std.proofs.Common.{subst}
 use Rattle.joint_law.specs.AllComplete.{IsFirstIncomplete}
-use Rattle.joint_law.specs.Bound.{bounds_of}
+use Rattle.station_laws.specs.Bound.{bounds_of}
 use Rattle.joint_law.specs.LawEnds.{IsLawsEnd}
-use Rattle.joint_law.proofs.LawSteps.{none-of}
+use Rattle.joint_law.proofs.LogSteps.{none-of}
 use Rattle.joint_law.proofs.Verdicts.{end-spot, incomplete-spot, law-spot, laws-joint}
 use Rattle.joint_law.proofs.Verdicts.{legal-sections}
 use Rattle.joint_law.proofs.judging.spot_beside.Goals as goal

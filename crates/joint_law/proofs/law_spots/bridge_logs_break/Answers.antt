@@ -1,7 +1,7 @@
 use Rattle.std.proofs.Common.{◌<◌, length, subst, arith}
-use Rattle.joint_law.specs.Bound.{side_bounds}
+use Rattle.station_laws.specs.Bound.{side_bounds}
 use Rattle.joint_law.specs.LawEnds.{IsLogsEnd}
-use Rattle.joint_law.proofs.LawSteps.{none-of, sides-any, sides-end, sides-more}
+use Rattle.joint_law.proofs.LogSteps.{none-of, sides-any, sides-end, sides-more}
 use Rattle.joint_law.proofs.law_spots.bridge_logs_break.Goals as goal
 
 pub returns-in-Some : goal.returns-in-Some

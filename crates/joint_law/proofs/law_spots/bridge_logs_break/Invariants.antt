@@ -1,6 +1,6 @@
 use Rattle.std.proofs.Common.{None, take}
 use Rattle.std.specs.List.{flat_map}
-use Rattle.joint_law.specs.Bound.{side_bounds}
+use Rattle.station_laws.specs.Bound.{side_bounds}
 use Rattle.joint_law.specs.LawEnds.{IsLogsEnd}
 use Rattle.joint_law.proofs.law_spots.bridge_logs_break.Given as goal
 

@@ -1,7 +1,7 @@
 use Rattle.std.proofs.Common.{◌≡◌, ◌+◌, ◌<◌, length, subst, arith}
-use Rattle.joint_law.specs.Bound.{Bound, BreaksLaw, host_bound}
+use Rattle.station_laws.specs.Bound.{Bound, BreaksLaw, host_bound}
 use Rattle.joint_law.specs.LawEnds.{IsLogEnd}
-use Rattle.joint_law.proofs.LawSteps.{logs-all, logs-any, logs-more, none-of}
+use Rattle.joint_law.proofs.LogSteps.{logs-all, logs-any, logs-more, none-of}
 use Rattle.joint_law.proofs.law_spots.host_logs_break.Goals as goal
 
 pub returns-in-Some : goal.returns-in-Some

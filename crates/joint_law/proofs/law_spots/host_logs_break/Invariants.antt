@@ -1,6 +1,6 @@
 use Rattle.std.proofs.Common.{◌≡◌, ℕ, ◌<◌, get_or}
 use Rattle.joint_history.specs.declared.joint.HostLog.{HostLog}
-use Rattle.joint_law.specs.Bound.{host_bound, KeepsLaw}
+use Rattle.station_laws.specs.Bound.{host_bound, KeepsLaw}
 use Rattle.joint_law.proofs.law_spots.host_logs_break.Given as goal
 
 abbrev pub invariant-loop-log : goal.invariant-loop-log

@@ -1,6 +1,6 @@
 use Rattle.std.proofs.Common.{◌<◌}
 use Rattle.std.specs.List.{All}
-use Rattle.joint_law.specs.Bound.{Bound, KeepsLaw, bounds_of}
+use Rattle.station_laws.specs.Bound.{Bound, KeepsLaw, bounds_of}
 use Rattle.joint_law.proofs.law_spots.law_spot.Given as goal
 
 abbrev pub invariant-loop-node : goal.invariant-loop-node

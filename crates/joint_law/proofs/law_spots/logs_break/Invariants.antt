@@ -1,6 +1,6 @@
 use Rattle.std.proofs.Common.{◌≡◌, ℕ, ◌<◌, get_or}
 use Rattle.joint_history.specs.declared.joint.ControllerLog.{ControllerLog}
-use Rattle.joint_law.specs.Bound.{controller_bound, KeepsLaw}
+use Rattle.station_laws.specs.Bound.{controller_bound, KeepsLaw}
 use Rattle.joint_law.proofs.law_spots.logs_break.Given as goal
 
 abbrev pub invariant-loop-log : goal.invariant-loop-log

@@ -6,9 +6,9 @@ use Rattle.joint_history.specs.declared.joint.BridgeLog.{BridgeLog}
 use Rattle.joint_history.specs.declared.joint.ControllerLog.{ControllerLog}
 use Rattle.joint_history.specs.declared.joint.HostLog.{HostLog}
 use Rattle.joint_history.specs.Nets.{noted_on_rings}
-use Rattle.joint_law.specs.Bound.{Bound, controller_bound, host_bound, side_bounds}
+use Rattle.station_laws.specs.Bound.{Bound, controller_bound, host_bound, side_bounds}
 use Rattle.joint_law.specs.LawEnds.{IsLogsEnd}
-use Rattle.joint_law.proofs.LawSteps.{joined-break, joined-end}
+use Rattle.joint_law.proofs.LogSteps.{joined-break, joined-end}
 use Rattle.joint_law.proofs.OwnPlaces.{of-node}
 use Rattle.joint_law.proofs.law_spots.node_breaks.Goals as goal
 

@@ -2,7 +2,7 @@ use Rattle.std.proofs.Common.{arith}
 use Rattle.plant_types.specs.declared.net.HostPlan.{HostPlan}
 use Rattle.joint_history.specs.declared.joint.HostLog.{HostLog}
 use Rattle.joint_law.proofs.CourseSteps.{same-node}
-use Rattle.joint_law.proofs.Lists.{not-true}
+use Rattle.station_laws.proofs.Lists.{not-true}
 use Rattle.joint_law.proofs.sections.are_of_hosts.Goals as goal
 
 pub returns-then-logs-at : goal.returns-then-logs-at

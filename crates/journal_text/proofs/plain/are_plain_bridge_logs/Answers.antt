@@ -4,7 +4,7 @@ use Rattle.std.proofs.Math.Seq.{take-suc}
 use Rattle.std.proofs.lemmas.List.{take_all}
 use Rattle.std.proofs.lemmas.List.Elements.{All-append, All-cons, All-nil}
 use Rattle.joint_history.specs.declared.joint.BridgeLog.{BridgeLog}
-use Rattle.journal_text.specs.Journal.{IsPlainBridgeEntry}
+use Rattle.journal_lines.specs.Plain.{IsPlainBridgeEntry}
 use Rattle.journal_text.proofs.plain.are_plain_bridge_logs.Goals as goal
 
 -- all entries of a log are plain

@@ -1,6 +1,6 @@
 use Rattle.std.proofs.Common.{sym, arith}
 use Rattle.std.proofs.lemmas.Result.{err_from_is_err_and}
-use Rattle.journal_text.proofs.Cuts.{shorter}
+use Rattle.journal_reading.proofs.Cuts.{shorter}
 use Rattle.journal_text.proofs.ReadLoop.{goes_on, stopped, at_end}
 use Rattle.journal_text.proofs.reading.read_journal.Goals as goal
 

@@ -1,14 +1,11 @@
-use Rattle.std.proofs.Common.{◌≡◌, ◌<◌, ◌∷◌, [], ◌++◌, List, length, map, refl, sym}
+use Rattle.std.proofs.Common.{◌≡◌, ◌<◌, ◌∷◌, [], ◌++◌, List, length, map, sym}
 use Rattle.std.proofs.Common.{ap}
 use Rattle.std.proofs.Common.{◌∙◌, append_assoc, append-nil, arith}
 use Rattle.std.proofs.lemmas.List.{length-append, map-append}
 use Rattle.std.specs.Vec.Iter.{into_iter_items}
 use Rattle.live_run.specs.Runs.{log_part, notes_part}
+use Rattle.live_run.proofs.Zipped.{none-long}
 use Rattle.live_run.proofs.lists.apart.Goals as goal
-
-nothing-left : {X : Type 0} (l : List X) → length l ≡ 0 → l ≡ []
-nothing-left [] h = refl
-nothing-left (x ∷ xs) h = absurd (omega (arith, h))
 
 -- a part that is followed by an item is shorter than the whole
 shorter : {X : Type 0} (front rest all : List X) (x : X) → front ++ x ∷ rest ≡ all
@@ -74,7 +71,7 @@ pub returns : goal.returns
 returns c =
     let at = c.loop-one in
     let empty : into_iter_items at.one-iterator ≡ [] =
-    nothing-left _ (sym at.invariant.left ∙ c.in-None.ensures.steps.0) in
+    none-long _ (sym at.invariant.left ∙ c.in-None.ensures.steps.0) in
     let all : at.yielded ≡ c.args.noted.items = sym (append-nil at.yielded)
     ∙ (ap (λ l. at.yielded ++ l) (sym empty) ∙ at.invariant.along) in
     record {

@@ -36,7 +36,8 @@ returns c =
     ∙ ap₂ (λ xs bridges. xs ++ end_addresses bridges) c.new.ensures.items
     c.as_slice-4.ensures.value in
     let nets = c.in_ok-nets.ensures ∙ ap₂ (nets_by_number (read_nets c.args.nets)) all ends in
-    same-made c.args.scan_time c.args.watchdog c.in_ok-nets.nets _ c.in_ok-controllers_by_node.field-0
-    _ c.in_ok-hosts_by_node.field-0 _ c.in_ok-bridges_by_left.field-0 _ nets
+    same-made c.args.scan_time c.args.watchdog c.in_ok-nets.nets _
+    c.in_ok-controllers_by_node.field-0 _ c.in_ok-hosts_by_node.field-0 _
+    c.in_ok-bridges_by_left.field-0 _ nets
     c.in_ok-controllers_by_node.ensures c.in_ok-hosts_by_node.ensures
     c.in_ok-bridges_by_left.ensures

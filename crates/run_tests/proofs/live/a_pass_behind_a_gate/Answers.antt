@@ -6,8 +6,8 @@ use Rattle.plant_types.specs.declared.net.NetPlan.{NetPlan}
 use Rattle.ring_core.specs.Kept.{KeptRing, with_entry}
 use Rattle.ring_core.specs.Words.{maker}
 use Rattle.ring_core.specs.declared.entry.RingEntry.{RingEntry}
-use Rattle.live_run.specs.Cells.{ring_in}
-use Rattle.live_run.proofs.Stays.{adds, all_none}
+use Rattle.gated_sides.specs.Cells.{ring_in}
+use Rattle.gated_sides.proofs.Stays.{adds, all_none}
 use Rattle.run_tests.proofs.live.a_pass_behind_a_gate.Goals as goal
 
 -- one entry by its maker

@@ -12,8 +12,7 @@ use Rattle.plant_types.specs.declared.plan.ControllerPlan.{ControllerPlan}
 use Rattle.plant_types.specs.declared.plan.Plant.{Plant}
 use Rattle.plant_types.specs.Plans.{IsBridgeOf, IsHostPlan, IsNetPlan, IsPlant, PassesTests}
 use Rattle.plant_types.specs.Plans.{controller_nodes, net_numbers}
-use Rattle.one_net.specs.OneNet.{IsOfOneNet}
-use Rattle.one_net.proofs.OneNet.{IsOnNet, net-of, of-one-net, on-a-net, stations-once}
+use Rattle.run_tests.proofs.OneNet.{IsOnNet, net-of, on-a-net, stations-once}
 use Rattle.run_tests.proofs.read2.plant_of.Goals as goal
 
 module _ (net : NetPlan) (controllers : List ControllerPlan) (net_is : IsNetPlan net)
@@ -39,7 +38,6 @@ module _ (net : NetPlan) (controllers : List ControllerPlan) (net_is : IsNetPlan
     only = refl;
     no_bridges = refl;
     plan = net_is;
-    alone = alone;
     no_bridge = no_bridge;
     controllers_there = subst (λ n. All (λ (p : ControllerPlan). p.network ≡ n) controllers)
         (sym alone) there;
@@ -72,38 +70,22 @@ module _ (net : NetPlan) (controllers : List ControllerPlan) (net_is : IsNetPlan
         once = stations-once plant net on;
       }
 
-  one : IsOfOneNet plant
-  one = of-one-net plant net on
-
-pub returns-clause-runs : goal.returns-clause-runs
-returns-clause-runs c =
+pub returns : goal.returns
+returns c =
     let net = c.args.net in
     let nets : c.push.new.self ≡ net ∷ [] = c.in_ok-push.ensures.ok
     ∙ ap (λ l. l ++ net ∷ []) c.new-nets.ensures in
     record {
-      sound = subst IsPlant (λ i. record {
-        scan_time = 10;
-        watchdog = 500;
-        nets = sym nets i;
-        controllers = c.args.controllers;
-        hosts = sym c.new.ensures i;
-        bridges = sym c.new-2.ensures i;
-      }) (sound net c.args.controllers c.requires.net c.requires.members c.requires.alone
-          c.requires.no_bridge c.requires.passes c.requires.nodes c.requires.there);
-      controllers = c.requires.runs;
+      runs = record {
+        sound = subst IsPlant (λ i. record {
+          scan_time = 10;
+          watchdog = 500;
+          nets = sym nets i;
+          controllers = c.args.controllers;
+          hosts = sym c.new.ensures i;
+          bridges = sym c.new-2.ensures i;
+        }) (sound net c.args.controllers c.requires.net c.requires.members c.requires.alone
+            c.requires.no_bridge c.requires.passes c.requires.nodes c.requires.there);
+        controllers = c.requires.runs;
+      };
     }
-
-pub returns-clause-one : goal.returns-clause-one
-returns-clause-one c =
-    let net = c.args.net in
-    let nets : c.push.new.self ≡ net ∷ [] = c.in_ok-push.ensures.ok
-    ∙ ap (λ l. l ++ net ∷ []) c.new-nets.ensures in
-    subst IsOfOneNet (λ i. record {
-      scan_time = 10;
-      watchdog = 500;
-      nets = sym nets i;
-      controllers = c.args.controllers;
-      hosts = sym c.new.ensures i;
-      bridges = sym c.new-2.ensures i;
-    }) (one net c.args.controllers c.requires.net c.requires.members c.requires.alone
-    c.requires.no_bridge c.requires.passes c.requires.nodes c.requires.there)

@@ -3,9 +3,11 @@ use Rattle.std.proofs.lemmas.List.{take_more}
 use Rattle.joint_history.specs.JointLaws.{IsJoint, IsLegalJoint}
 use Rattle.route_laws.specs.Effects.{EffectsAreRight}
 use Rattle.entry_causes.specs.Joint.{IsInOneOrder}
+use Rattle.end_times.specs.Joint.{AreBridgesInTime}
 use Rattle.serial_run.specs.Turns.{MakesTurns, nothing_made}
 use Rattle.serial_run.specs.Stations.{joint_of}
-use Rattle.serial_run.proofs.Laws.{one-more-turn, stand-in-time, stand-joint, stand-legal}
+use Rattle.serial_run.proofs.Laws.{one-more-turn, stand-bridges-in-time, stand-in-time}
+use Rattle.serial_run.proofs.Laws.{stand-joint, stand-legal}
 use Rattle.serial_run.proofs.runs.turns.Goals as goal
 
 pub loop-turn-preserved : goal.loop-turn-preserved
@@ -46,6 +48,12 @@ returns-clause-effects c =
     subst EffectsAreRight (sym c.in_ok-noted.ensures.joint)
     (c.effects_are_right.ensures plant scans (joint_of run) c.requires.plant.sound
     (stand-legal plant scans run stand) (stand-joint plant scans run stand))
+
+pub returns-clause-bridges_in_time : goal.returns-clause-bridges_in_time
+returns-clause-bridges_in_time c =
+    subst AreBridgesInTime (sym c.in_ok-noted.ensures.joint)
+    (stand-bridges-in-time c.args.plant.now c.args.scans c.loop-turn.run
+    c.loop-turn.invariant.stand)
 
 pub returns-clause-in_time : goal.returns-clause-in_time
 returns-clause-in_time c =

@@ -1,5 +1,5 @@
 use Rattle.std.proofs.Common.{◌∙◌, sym}
-use Rattle.serial_run.proofs.Rounds.{all-emptied, no-late, one-more-late}
+use Rattle.serial_run.proofs.Repeats.{all-emptied, no-late, one-more-late}
 use Rattle.serial_run.proofs.stations.Stations.empty_rings.Goals as goal
 
 pub loop-self-init : goal.loop-self-init

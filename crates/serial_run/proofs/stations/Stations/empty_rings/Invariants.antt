@@ -1,5 +1,5 @@
 use Rattle.serial_run.specs.Held.{turns_left}
-use Rattle.serial_run.proofs.Rounds.{SomeLate}
+use Rattle.serial_run.proofs.Repeats.{SomeLate}
 use Rattle.serial_run.proofs.stations.Stations.empty_rings.Given as goal
 
 abbrev pub invariant-loop-self : goal.invariant-loop-self

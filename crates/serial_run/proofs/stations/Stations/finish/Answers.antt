@@ -1,7 +1,8 @@
 use Rattle.std.proofs.Common.{◌∙◌}
 use Rattle.serial_run.specs.Held.{IsOffAway}
 use Rattle.serial_run.proofs.Gained.{all-stay}
-use Rattle.serial_run.proofs.Rounds.{all-finished, scans-both}
+use Rattle.serial_run.proofs.Repeats.{all-finished}
+use Rattle.serial_run.proofs.Rounds.{scans-both}
 use Rattle.serial_run.proofs.TurnsMade.{on-ok}
 use Rattle.serial_run.proofs.stations.Stations.finish.Goals as goal
 

@@ -5,7 +5,7 @@ use Rattle.serial_run.proofs.stations.Stations.members.Goals as goal
 pub returns-in-Some : goal.returns-in-Some
 returns-in-Some c =
     let r = c.requires in
-    c.members_now.ensures
+    c.members_of_ring.ensures
     ∙ members-at r.plant r.scans c.args.self.now r.all c.args.network c.in-Some.place
     c.index.result.now (sym c.ring_at.ensures ∙ c.in-Some.is) c.index.ensures
 

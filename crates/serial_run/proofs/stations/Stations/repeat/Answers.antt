@@ -1,5 +1,5 @@
 use Rattle.std.proofs.Common.{◌∙◌, sym}
-use Rattle.serial_run.proofs.Rounds.{all-repeated, no-repetitions, one-more-repetition}
+use Rattle.serial_run.proofs.Repeats.{all-repeated, no-repetitions, one-more-repetition}
 use Rattle.serial_run.proofs.stations.Stations.repeat.Goals as goal
 
 pub loop-self-init : goal.loop-self-init

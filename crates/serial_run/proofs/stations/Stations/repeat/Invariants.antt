@@ -1,5 +1,5 @@
 use Rattle.serial_run.specs.Scans.{steps_left}
-use Rattle.serial_run.proofs.Rounds.{SomeRepetitions}
+use Rattle.serial_run.proofs.Repeats.{SomeRepetitions}
 use Rattle.serial_run.proofs.stations.Stations.repeat.Given as goal
 
 abbrev pub invariant-loop-self : goal.invariant-loop-self

@@ -1,7 +1,8 @@
 use Rattle.std.proofs.Common.{arith}
 use Rattle.serial_run.specs.Held.{IsOffAway}
 use Rattle.serial_run.proofs.Gained.{all-stay, stays-both}
-use Rattle.serial_run.proofs.Rounds.{repetition-did, scans-between, scans-both, steps-kept}
+use Rattle.serial_run.proofs.Repeats.{repetition-did, scans-between, steps-kept}
+use Rattle.serial_run.proofs.Rounds.{scans-both}
 use Rattle.serial_run.proofs.TurnsMade.{on-ok}
 use Rattle.serial_run.proofs.stations.Stations.repetition.Goals as goal
 

@@ -1,8 +1,0 @@
-use Rattle.std.proofs.Common.{◌≡◌, map, take}
-use Rattle.joint_history.specs.Reading.{items_of}
-use Rattle.joint_law.specs.Ends.{id_of_call}
-use Rattle.joint_law.proofs.ended.call_ids.Given as goal
-
-abbrev pub invariant-loop-entry : goal.invariant-loop-entry
-invariant-loop-entry l =
-    l.list.items ≡ map id_of_call (items_of (take l.entry-index l.entries)).calls

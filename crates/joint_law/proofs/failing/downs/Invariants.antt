@@ -1,8 +1,0 @@
-use Rattle.std.proofs.Common.{◌≡◌, take}
-use Rattle.tied_lists.specs.Items.{downs_by}
-use Rattle.joint_law.specs.Picked.{picked}
-use Rattle.joint_law.proofs.failing.downs.Given as goal
-
-abbrev pub invariant-loop-place : goal.invariant-loop-place
-invariant-loop-place l =
-    l.list.items ≡ downs_by (picked l.ring (take l.place-index l.places))

@@ -1,6 +1,0 @@
-use Rattle.std.proofs.Common.{take}
-use Rattle.joint_law.specs.RingFollowing.{IsRingBehind}
-use Rattle.joint_law.proofs.ring_following.follow_ring.Given as goal
-
-abbrev pub invariant-loop-place : goal.invariant-loop-place
-invariant-loop-place l = IsRingBehind l.plan (take l.place l.entries) l.ring

@@ -1,0 +1,9 @@
+use Rattle.std.proofs.Common.{◌≡◌, ◌++◌, drop, string_bytes}
+use Rattle.std.specs.List.{flat_map}
+use Rattle.journal_lines.specs.Lines.{controller_line}
+use Rattle.journal_lines.proofs.controllers.push_controller_lines.Given as goal
+
+abbrev pub invariant-loop-entry : goal.invariant-loop-entry
+invariant-loop-entry l =
+    string_bytes l.text ++ flat_map controller_line (drop l.entry-index l.entries)
+    ≡ string_bytes l.fn.text ++ flat_map controller_line l.entries

@@ -1,0 +1,12 @@
+pub mod Ranges
+pub mod Cuts
+pub mod Joins
+pub mod ReadLaws
+pub mod Numbers
+pub mod Digits
+pub mod Parts
+pub mod Calls
+pub mod StationLines
+pub mod BridgeLines
+pub mod RingLines
+pub mod PartLoop

@@ -1,9 +1,0 @@
-use Rattle.std.proofs.Common.{◌≡◌, ◌++◌, drop, string_bytes}
-use Rattle.std.specs.List.{flat_map}
-use Rattle.journal_text.specs.Fields.{hex_byte}
-use Rattle.journal_text.proofs.fields.push_bytes.Given as goal
-
-abbrev pub invariant-loop-byte : goal.invariant-loop-byte
-invariant-loop-byte l =
-    string_bytes l.text ++ flat_map hex_byte (drop l.byte-index l.bytes)
-    ≡ string_bytes l.fn.text ++ flat_map hex_byte l.bytes

@@ -1,9 +1,0 @@
-use Rattle.std.proofs.Common.{◌≡◌, ◌++◌, drop, string_bytes}
-use Rattle.std.specs.List.{flat_map}
-use Rattle.journal_text.specs.Lines.{host_line}
-use Rattle.journal_text.proofs.hosts.push_entries.Given as goal
-
-abbrev pub invariant-loop-entry : goal.invariant-loop-entry
-invariant-loop-entry l =
-    string_bytes l.text ++ flat_map host_line (drop l.entry-index l.entries)
-    ≡ string_bytes l.fn.text ++ flat_map host_line l.entries

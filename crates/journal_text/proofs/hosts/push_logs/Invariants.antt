@@ -1,9 +1,0 @@
-use Rattle.std.proofs.Common.{◌≡◌, ◌++◌, drop, string_bytes}
-use Rattle.std.specs.List.{flat_map}
-use Rattle.journal_text.specs.Journal.{host_section}
-use Rattle.journal_text.proofs.hosts.push_logs.Given as goal
-
-abbrev pub invariant-loop-log : goal.invariant-loop-log
-invariant-loop-log l =
-    string_bytes l.text ++ flat_map host_section (drop l.log-index l.logs)
-    ≡ string_bytes l.fn.text ++ flat_map host_section l.logs

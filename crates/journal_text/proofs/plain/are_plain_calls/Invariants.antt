@@ -1,6 +1,0 @@
-use Rattle.std.proofs.Common.{take, All}
-use Rattle.journal_text.specs.Journal.{IsPlainCall}
-use Rattle.journal_text.proofs.plain.are_plain_calls.Given as goal
-
-abbrev pub invariant-loop-at : goal.invariant-loop-at
-invariant-loop-at l = All IsPlainCall (take l.at l.calls)

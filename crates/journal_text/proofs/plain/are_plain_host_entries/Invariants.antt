@@ -1,6 +1,0 @@
-use Rattle.std.proofs.Common.{take, All}
-use Rattle.journal_text.specs.Journal.{IsPlainHostEntry}
-use Rattle.journal_text.proofs.plain.are_plain_host_entries.Given as goal
-
-abbrev pub invariant-loop-at : goal.invariant-loop-at
-invariant-loop-at l = All IsPlainHostEntry (take l.at l.entries)

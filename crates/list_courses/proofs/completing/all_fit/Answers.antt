@@ -1,0 +1,66 @@
+use Rattle.std.proofs.Common.{List, [], ◌+◌, ◌<◌, length, take, drop, refl, sym, ap, subst, ◌∙◌}
+use Rattle.std.proofs.Common.{arith}
+use Rattle.list_courses.specs.Completing.{EachAllows, NodeAllows, NodeFits, progress_next}
+use Rattle.list_courses.specs.Completing.{progress_of}
+use Rattle.list_courses.specs.declared.completing.Progress.{Progress}
+use Rattle.station_laws.specs.Picked.{picked}
+use Rattle.station_laws.specs.Taking.{left_plain}
+use Rattle.tied_lists.specs.Items.{taken_by, taken_of}
+use Rattle.std.specs.List.{cons_option}
+use Rattle.ring_core.specs.declared.entry.RingEntry.{RingEntry}
+use Rattle.list_courses.proofs.Fitting.{each-none, each-push}
+use Rattle.station_laws.proofs.Lists.{not-true, picked-around, picked-push}
+use Rattle.list_courses.proofs.Progress.{left-push, progress-push, progress-short}
+use Rattle.list_courses.proofs.completing.all_fit.Goals as goal
+
+pub loop-place-init : goal.loop-place-init
+loop-place-init c =
+    record {
+      progress_is = c.no_progress-progress.ensures c.args.answers.items;
+      left_is = refl;
+      each = each-none (NodeAllows c.args.answers.items);
+    }
+
+pub returns-then-not-fits : goal.returns-then-not-fits
+returns-then-not-fits c =
+    let low : c.loop-place.place-index < length c.args.places.now = omega arith in
+    let front = picked c.args.ring.now (take c.loop-place.place-index c.args.places.now) in
+    let rest = picked c.args.ring.now (drop (c.loop-place.place-index + 1) c.args.places.now) in
+    let around = picked-around c.args.ring.now c.args.places.now c.loop-place.place-index
+    c.index-ring-place.result c.requires low c.index-ring-place.is in (
+      λ no'. not-true no',
+      λ each. c.if-not-fits.ensures.1
+          (subst (λ (p : Progress). NodeFits p c.index-ring-place.result)
+          (sym c.loop-place.invariant.progress_is)
+          (each front rest c.index-ring-place.result around)),
+    )
+
+pub next-progress-requires : goal.next-progress-requires
+next-progress-requires c =
+    let low : c.loop-place.place-index < length c.args.places.now = omega arith in
+    progress-short c.args.answers.items c.args.ring.now c.args.places.now
+    c.loop-place.place-index c.loop-place.progress c.loop-place.invariant.progress_is (omega arith)
+
+pub loop-place-preserved : goal.loop-place-preserved
+loop-place-preserved c =
+    let low : c.loop-place.place-index < length c.args.places.now = omega arith in
+    let e = c.index-ring-place.result in
+    let front = picked c.args.ring.now (take c.loop-place.place-index c.args.places.now) in
+    let push = picked-push c.args.ring.now c.args.places.now c.loop-place.place-index e c.requires
+    low c.index-ring-place.is in
+    let here = subst (λ (p : Progress). NodeFits p c.index-ring-place.result)
+    c.loop-place.invariant.progress_is (c.if-not-fits.ensures.0 refl) in
+    record {
+      progress_is = c.next-progress.ensures.next
+          ∙ ((λ i. progress_next (c.loop-place.invariant.left_is i)
+          (c.loop-place.invariant.progress_is i) e)
+          ∙ (sym (progress-push c.args.answers.items front e)
+          ∙ ap (progress_of c.args.answers.items) (sym push)));
+      left_is = c.next-progress.ensures.left
+          ∙ (ap (left_plain (cons_option (taken_of e) [])) c.loop-place.invariant.left_is
+          ∙ (sym (left-push c.args.answers.items front e)
+          ∙ ap (λ (b : List RingEntry). left_plain (taken_by b) c.args.answers.items) (sym push)));
+      each =
+          subst (EachAllows (NodeAllows c.args.answers.items)) (sym push)
+          (each-push (NodeAllows c.args.answers.items) front e c.loop-place.invariant.each here);
+    }

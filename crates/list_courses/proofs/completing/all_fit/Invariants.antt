@@ -1,0 +1,18 @@
+use Rattle.std.proofs.Common.{◌≡◌, take}
+use Rattle.list_courses.specs.Completing.{EachAllows, NodeAllows, progress_of}
+use Rattle.station_laws.specs.Picked.{picked}
+use Rattle.station_laws.specs.Taking.{left_plain}
+use Rattle.tied_lists.specs.Items.{taken_by}
+use Rattle.list_courses.proofs.completing.all_fit.Given as goal
+
+abbrev pub invariant-loop-place : goal.invariant-loop-place
+invariant-loop-place l =
+    record {
+      progress_is : l.progress ≡ progress_of l.initial.answers.items
+          (picked l.ring (take l.place-index l.places));
+      left_is : l.answers.items
+          ≡ left_plain (taken_by (picked l.ring (take l.place-index l.places)))
+          l.initial.answers.items;
+      each : EachAllows (NodeAllows l.initial.answers.items)
+          (picked l.ring (take l.place-index l.places));
+    }

@@ -1,6 +1,0 @@
-use Rattle.std.proofs.Common.{rules}
-use Rattle.live_run.proofs.Raising.{looks}
-use Rattle.live_run.proofs.flags.Watch.is_raised.Goals as goal
-
-pub load-requires : goal.load-requires
-load-requires c = (search rules, search rules, looks _ _ _)

@@ -1,0 +1,10 @@
+pub mod Raising
+pub mod Scans
+pub mod Keeping
+pub mod Coming
+pub mod Starting
+pub mod Closing
+pub mod Ran
+pub mod EndSpent
+pub mod Tending
+pub mod Crossed

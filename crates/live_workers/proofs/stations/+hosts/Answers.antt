@@ -1,0 +1,101 @@
+use Rattle.std.proofs.Common.{◌≡◌, slice_index_or, length, sym, subst, ◌∙◌, eqb-true, arith}
+use Rattle.plant_types.specs.Plans.{IsHostPlan}
+use Rattle.plant_types.specs.declared.net.HostPlan.{HostPlan}
+use Rattle.joint_history.specs.declared.joint.HostLog.{HostLog}
+use Rattle.live_workers.specs.declared.stations.Station.{Station}
+use Rattle.live_workers.specs.Stations.{HostHasRun, IsFresh}
+use Rattle.live_workers.proofs.Ran.{all-halves, halves, ran-halves, ran-none, ran-one, zip-long}
+use Rattle.live_workers.proofs.Ran.{zip-only}
+use Rattle.live_workers.proofs.stations.+hosts.Goals as goal
+
+pub run_hosts-returns-then-is_empty : goal.run_hosts-returns-then-is_empty
+run_hosts-returns-then-is_empty g t c =
+    let plant = c.args.run.now.plant.now in
+    let side = g.G.RingSide.side in
+    let known = g.G.RingSide.known in
+    ran-none side (λ (plan : HostPlan) (station : Station _ HostLog).
+    IsFresh side known plant plan.node station)
+    (HostHasRun known plant) c.args.plans.now c.args.stations.now
+    c.requires.fresh (eqb-true _ _ (sym c.is_empty.ensures ∙ c.if-is_empty.true))
+
+pub run_hosts-serve_one-requires-clause-fresh : goal.run_hosts-serve_one-requires-clause-fresh
+run_hosts-serve_one-requires-clause-fresh g t c κs within =
+    let plant = c.args.run.now.plant.now in
+    let side = g.G.RingSide.side in
+    let known = g.G.RingSide.known in
+    subst (λ (plan : HostPlan). IsFresh side known plant plan.node
+    (slice_index_or c.args.stations.now 0 c.index-stations-0.result)) (sym c.index-plans-0.is)
+    (zip-only (λ (plan : HostPlan) (station : Station _ HostLog).
+    IsFresh side known plant plan.node station)
+    c.args.plans.now c.args.stations.now c.index-plans-0.result c.index-stations-0.result
+    c.requires.fresh c.if-stations-eq1.true)
+
+pub run_hosts-returns-then-stations-eq1 : goal.run_hosts-returns-then-stations-eq1
+run_hosts-returns-then-stations-eq1 g t c =
+    let plant = c.args.run.now.plant.now in
+    let side = g.G.RingSide.side in
+    let known = g.G.RingSide.known in
+    ran-one side (λ (plan : HostPlan) (station : Station _ HostLog).
+    IsFresh side known plant plan.node station)
+    (HostHasRun known plant) c.args.plans.now c.args.stations.now c.index-plans-0.result
+    c.index-stations-0.result c.serve_one.new.station c.requires.fresh c.if-stations-eq1.true
+    (subst (λ (plan : HostPlan). HostHasRun known plant plan c.serve_one.new.station)
+    c.index-plans-0.is c.serve_one.ensures.ran)
+    c.serve_one.ensures.side
+
+pub run_hosts-split_at-requires : goal.run_hosts-split_at-requires
+run_hosts-split_at-requires g t c =
+    let plant = c.args.run.now.plant.now in
+    let side = g.G.RingSide.side in
+    let known = g.G.RingSide.known in
+    let long : length c.args.plans.now ≡ length c.args.stations.now =
+    zip-long (λ (plan : HostPlan) (station : Station _ HostLog).
+    IsFresh side known plant plan.node station) c.args.plans.now c.args.stations.now
+    c.requires.fresh in
+    omega (arith, long)
+
+pub run_hosts-run_host_halves-requires-clause-runnable :
+    goal.run_hosts-run_host_halves-requires-clause-runnable
+run_hosts-run_host_halves-requires-clause-runnable g t c κs within =
+    all-halves IsHostPlan c.args.plans.now c.split_at.result.0.now c.split_at.result.1.now
+    c.split_at.ensures.by_index.0 c.requires.runnable
+
+pub run_hosts-run_host_halves-requires-clause-fresh_front :
+    goal.run_hosts-run_host_halves-requires-clause-fresh_front
+run_hosts-run_host_halves-requires-clause-fresh_front g t c κs within =
+    let plant = c.args.run.now.plant.now in
+    let side = g.G.RingSide.side in
+    let known = g.G.RingSide.known in
+    (halves (λ (plan : HostPlan) (station : Station _ HostLog).
+    IsFresh side known plant plan.node station)
+    c.args.plans.now c.split_at.result.0.now c.split_at.result.1.now c.args.stations.now
+    c.split_at_mut-front.result.0.now c.split_at_mut-front.result.1.now
+    c.split_at.ensures.by_index.0 c.split_at_mut-front.ensures.value
+    (c.split_at.ensures.front_len ∙ sym c.split_at_mut-front.ensures.front_len)
+    c.requires.fresh).0
+
+pub run_hosts-run_host_halves-requires-clause-fresh_back :
+    goal.run_hosts-run_host_halves-requires-clause-fresh_back
+run_hosts-run_host_halves-requires-clause-fresh_back g t c κs within =
+    let plant = c.args.run.now.plant.now in
+    let side = g.G.RingSide.side in
+    let known = g.G.RingSide.known in
+    (halves (λ (plan : HostPlan) (station : Station _ HostLog).
+    IsFresh side known plant plan.node station)
+    c.args.plans.now c.split_at.result.0.now c.split_at.result.1.now c.args.stations.now
+    c.split_at_mut-front.result.0.now c.split_at_mut-front.result.1.now
+    c.split_at.ensures.by_index.0 c.split_at_mut-front.ensures.value
+    (c.split_at.ensures.front_len ∙ sym c.split_at_mut-front.ensures.front_len)
+    c.requires.fresh).1
+
+pub run_hosts-returns : goal.run_hosts-returns
+run_hosts-returns g t c =
+    let plant = c.args.run.now.plant.now in
+    let side = g.G.RingSide.side in
+    let known = g.G.RingSide.known in
+    ran-halves side (λ (plan : HostPlan) (station : Station _ HostLog).
+    IsFresh side known plant plan.node station)
+    (HostHasRun known plant) c.args.plans.now c.split_at.result.0.now
+    c.split_at.result.1.now c.args.stations.now _ _ c.run_host_halves.new.front
+    c.run_host_halves.new.back c.split_at.ensures.by_index.0 c.split_at_mut-front.ensures.value
+    c.run_host_halves.ensures.front c.run_host_halves.ensures.back

@@ -1,0 +1,6 @@
+pub mod Flags
+pub mod Scanning
+pub mod Talking
+pub mod Pairs
+pub mod Bridging
+pub mod Stations

@@ -1,2 +1,0 @@
-pub mod OneNet
-pub mod OneRing

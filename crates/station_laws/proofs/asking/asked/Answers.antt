@@ -1,0 +1,11 @@
+use Rattle.std.proofs.Common.{◌<◌, length, arith}
+use Rattle.tied_lists.specs.Items.{asked_of}
+use Rattle.station_laws.proofs.Lists.{picked-filter, plain-step}
+use Rattle.station_laws.proofs.asking.asked.Goals as goal
+
+pub loop-place-preserved : goal.loop-place-preserved
+loop-place-preserved c =
+    let low : c.loop-place.place-index < length c.args.places.now = omega arith in
+    plain-step _ _ _ _ _ c.in_ok-add_posted.ensures c.loop-place.invariant
+    (picked-filter asked_of c.args.ring.now c.args.places.now c.loop-place.place-index
+    c.index-ring-place.result c.requires low c.index-ring-place.is)

@@ -1,0 +1,17 @@
+use Rattle.std.proofs.Common.{[], ◌<◌, length, take, ap, ◌∙◌, arith}
+use Rattle.std.specs.List.{cons_option}
+use Rattle.std.proofs.lemmas.List.{map-append}
+use Rattle.tied_lists.specs.Items.{Answered, answered_of, port_answers, replies_in}
+use Rattle.station_laws.specs.Picked.{picked}
+use Rattle.station_laws.proofs.Lists.{picked-filter, plain-step}
+use Rattle.station_laws.proofs.replying.port_answers.Goals as goal
+
+pub loop-place-preserved : goal.loop-place-preserved
+loop-place-preserved c =
+    let low : c.loop-place.place-index < length c.args.places.now = omega arith in
+    plain-step _ _ _ _ _ c.in_ok-add_port_answer.ensures c.loop-place.invariant
+    (ap replies_in (picked-filter answered_of c.args.ring.now c.args.places.now
+    c.loop-place.place-index c.index-ring-place.result c.requires low c.index-ring-place.is)
+    ∙ map-append (λ (a : Answered). a.reply)
+    (port_answers (picked c.args.ring.now (take c.loop-place.place-index c.args.places.now)))
+    (cons_option (answered_of c.index-ring-place.result) []))

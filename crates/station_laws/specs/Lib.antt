@@ -1,0 +1,11 @@
+pub mod Backs
+pub mod Differing
+pub mod Failing
+pub mod Taking
+pub mod Bound
+pub mod Comparing
+pub mod Endings
+pub mod Kinds
+pub mod Named
+pub mod Picked
+pub mod Readings
