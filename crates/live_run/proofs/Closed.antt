@@ -7,7 +7,7 @@ use Rattle.joint_history.specs.declared.joint.RingLog.{RingLog}
 use Rattle.joint_history.specs.JointLaws.{IsLegalRingLog}
 use Rattle.joint_history.specs.Nets.{entries_if, entries_on}
 use Rattle.live_run.specs.Closing.{AllClosed, ClosedTo, net_of_gate}
-use Rattle.live_run.specs.Homes.{IsHomeOf, Purse, RingGate, is_ring_of, place_in}
+use Rattle.live_run.specs.Homes.{IsHomeOf, Purse, RingGate, is_ring_of, place_of_ring}
 use Rattle.live_run.proofs.Places.{find-here, find-later, place-here, place-later}
 
 -- closed rings have legal lists
@@ -40,7 +40,7 @@ pub record ClosedAt (gates : List RingGate) (purses : List Purse) (rings : List 
   pub purse : Purse
   pub ring : RingLog
   pub closed : ClosedTo gate purse ring
-  pub kept : slice_get purses (place_in gates network) ≡ Some purse
+  pub kept : slice_get purses (place_of_ring gates network) ≡ Some purse
   pub entries : entries_on network rings ≡ ring.entries
 
 pub closed-at : (network : ℕ) (gate : RingGate) (gates : List RingGate) (purses : List Purse)

@@ -16,9 +16,9 @@ use Rattle.ring_core.specs.Words.{maker}
 use Rattle.gated_sides.specs.Sides.{GatedRingIs}
 use Rattle.live_workers.specs.declared.stations.Station.{Station}
 use Rattle.live_workers.proofs.Ran.{zip-both}
-use Rattle.live_run.specs.Homes.{AreApart, IsAtHome, IsUnseated, IsZero, KeepsZero, Purse, RingGate}
-use Rattle.live_run.specs.Homes.{is_ring_of, place_in}
-use Rattle.live_run.specs.Dealing.{GathersAt, HasBrought, HasLog, IsGathered, IsLogged, Key, key_of}
+use Rattle.live_run.specs.Homes.{AreRingsApart, IsAtHome, IsUnseated, IsZero, KeepsZero, Purse}
+use Rattle.live_run.specs.Homes.{RingGate, is_ring_of, place_of_ring}
+use Rattle.live_run.specs.Dealing.{GathersAt, HasBrought, HasLog, AreGathered, IsLogged, Key, key_of}
 use Rattle.live_run.proofs.Places.{find-there, got, zip-at, zip-put, zip-put-apart, zero-kept}
 
 -- one of a list's first, or of its rest
@@ -136,11 +136,11 @@ module _ (key : Key) (side : GatedRingIs) (out : List Key) (back : List GatedRin
           (or_left (n == q.number) (is_among n (map (λ x. x.0) q.joined))
           (eq-eqb n q.number (sym (ready.number_is ∙ named))))
 
-module _ (gates : List RingGate) (apart : AreApart gates) where
+module _ (gates : List RingGate) (apart : AreRingsApart gates) where
   -- the pass of one side is joined
   pub gathered-one : (old new : List Purse) (network : ℕ) (side : GatedRingIs)
       → All (λ gate. gate.name.opening ≡ []) gates → IsAtHome gates network side
-      → IsUnseated gates old new network side → IsGathered gates old new (side ∷ [])
+      → IsUnseated gates old new network side → AreGathered gates old new (side ∷ [])
   gathered-one old new network side unused at u out back all =
       subst (AllZip (GathersAt out (back ++ side ∷ [])) gates) (sym u.now)
       (zip-put-apart (is_ring_of network) (GathersAt (key_of side ∷ out) back)
@@ -153,15 +153,15 @@ module _ (gates : List RingGate) (apart : AreApart gates) where
       (zip-at (is_ring_of network) (GathersAt (key_of side ∷ out) back) gates old side.gate
       (Some u.pass) all at.home u.was)))
     where
-      there : (slice_get gates (place_in gates network) ≡ Some side.gate)
+      there : (slice_get gates (place_of_ring gates network) ≡ Some side.gate)
           × (is_ring_of network side.gate ≡ true)
       there = find-there (is_ring_of network) gates side.gate at.home
 
       opening : side.gate.name.opening ≡ []
       opening =
-          let g = got gates (place_in gates network) side.gate side.gate there.0 in
+          let g = got gates (place_of_ring gates network) side.gate side.gate there.0 in
           ap (λ (gate : RingGate). gate.name.opening) (sym g.0)
-          ∙ unused (place_in gates network) side.gate g.1
+          ∙ unused (place_of_ring gates network) side.gate g.1
 
 -- pass 0 of each gate is still kept
 pub still-kept : (gates : List RingGate) (old new : List Purse) (network : ℕ) (side : GatedRingIs)
@@ -182,13 +182,13 @@ still-kept gates old new network side all at u =
         (Some u.pass) all at.home u.was)
 
 pub gathered-none : (gates : List RingGate) (purses : List Purse)
-    → IsGathered gates purses purses []
+    → AreGathered gates purses purses []
 gathered-none gates purses out back all =
     subst (λ b. AllZip (GathersAt out b) gates purses) (sym (append-nil back)) all
 
 -- the passes of some sides are joined, and then those of others
 pub gathered-both : (gates : List RingGate) (a b c : List Purse) (ss ts : List GatedRingIs)
-    → IsGathered gates a b ss → IsGathered gates b c ts → IsGathered gates a c (ss ++ ts)
+    → AreGathered gates a b ss → AreGathered gates b c ts → AreGathered gates a c (ss ++ ts)
 gathered-both gates a b c ss ts one two out back all =
     subst (λ l. AllZip (GathersAt out l) gates c) (append_assoc back ss ts)
     (two out (back ++ ss) (one (map key_of ts ++ out) back
@@ -206,7 +206,7 @@ pub record Gathering {P S L : Type 0} (gates : List RingGate)
   pub all_is : all ≡ taken ++ reverse left
   pub at : AllZip IsAt (drop place plans) (reverse left)
   pub keeps : AllZip KeepsZero gates new
-  pub back : IsGathered gates old new (sides_of taken)
+  pub back : AreGathered gates old new (sides_of taken)
   pub logged : done ≡ true → AllZip HasLog taken logs
 
 module _ {P S L : Type 0} (gates : List RingGate)
@@ -220,7 +220,7 @@ module _ {P S L : Type 0} (gates : List RingGate)
     all_is = sym back;
     at = subst (AllZip IsAt plans) (sym back) at;
     keeps = keeps;
-    back = subst (IsGathered gates old old) (sym no_sides) (gathered-none gates old);
+    back = subst (AreGathered gates old old) (sym no_sides) (gathered-none gates old);
     logged = λ yes'. subst (AllZip (HasLog {S = S} {L = L}) []) (sym none) tt;
   }
     where
@@ -250,7 +250,7 @@ module _ {P S L : Type 0} (gates : List RingGate)
       → left ≡ rest ++ w ∷ [] → ((ws : List (Station S L))
       → sides_of (ws ++ w ∷ []) ≡ sides_of ws ++ sides)
       → (kept ≡ true → IsLogged w.log logs more)
-      → AllZip KeepsZero gates new → IsGathered gates mid new sides
+      → AllZip KeepsZero gates new → AreGathered gates mid new sides
       → Gathering gates sides_of IsAt plans all old mid left logs done place
       → Gathering gates sides_of IsAt plans all old new rest more (done && kept) (place + 1)
   gathering-next old mid new left rest w logs more done kept place sides d is step keeps zeros
@@ -260,7 +260,7 @@ module _ {P S L : Type 0} (gates : List RingGate)
             ∙ sym (append_assoc g.taken (w ∷ []) (reverse rest)));
         at = (next-at left rest w place d is g.at).2;
         keeps = zeros;
-        back = subst (IsGathered gates old new) (sym (step g.taken))
+        back = subst (AreGathered gates old new) (sym (step g.taken))
             (gathered-both gates old mid new (sides_of g.taken) sides g.back joined);
         logged = λ yes'.
             let both = and_parts done kept yes' in
@@ -272,9 +272,9 @@ module _ {P S L : Type 0} (gates : List RingGate)
   pub gathering-end : (old new : List Purse) (left : List (Station S L)) (logs : List L)
       (done : Bool) (place : ℕ) → left ≡ []
       → Gathering gates sides_of IsAt plans all old new left logs done place
-      → IsGathered gates old new (sides_of all) × (done ≡ true → AllZip HasLog all logs)
+      → AreGathered gates old new (sides_of all) × (done ≡ true → AllZip HasLog all logs)
   gathering-end old new left logs done place none g = (
-    subst (λ l. IsGathered gates old new (sides_of l)) (sym whole) g.back,
+    subst (λ l. AreGathered gates old new (sides_of l)) (sym whole) g.back,
     λ yes'. subst (λ l. AllZip HasLog l logs) (sym whole) (g.logged yes'),
   )
     where

@@ -25,7 +25,7 @@ use Rattle.net_laws.proofs.Rings.{low-members}
 use Rattle.live_run.specs.Closing.{net_of_gate}
 use Rattle.live_run.specs.Dealing.{AreNew}
 use Rattle.live_run.specs.Ends.{ends_of_plan}
-use Rattle.live_run.specs.Homes.{AreApart, HasRing, RingGate, is_ring_of}
+use Rattle.live_run.specs.Homes.{AreRingsApart, HasRing, RingGate, is_ring_of}
 use Rattle.live_run.proofs.Places.{find-here, find-later}
 use Rattle.live_run.proofs.Zipped.{all-there, from-images}
 
@@ -203,7 +203,7 @@ module _ (plant : Plant) (sound : IsPlant plant) (gates : List RingGate)
       (sym nets) there)
 
   -- and no other
-  pub rings-apart : AreApart gates
+  pub rings-apart : AreRingsApart gates
   rings-apart network =
       let all = counted network gates in
       let same : times network (map (λ (net : NetPlan). net.number) (map net_of_gate gates))

@@ -10,7 +10,7 @@ use Rattle.std.specs.List.{AllZip, position_or_len, sum_by}
 use Rattle.turn_gate.specs.Known.{PassFacts, is_among}
 use Rattle.ring_core.specs.declared.entry.RingEntry.{RingEntry}
 use Rattle.live_run.specs.Homes.{HasRing, IsHomeOf, IsZero, KeepsFor, KeepsZero, Purse, RingGate}
-use Rattle.live_run.specs.Homes.{is_ring_of, place_in}
+use Rattle.live_run.specs.Homes.{is_ring_of, place_of_ring}
 use Rattle.live_workers.proofs.Ran.{zip-long}
 
 module _ {A : Type 0} (test : A → Bool) where
@@ -164,29 +164,29 @@ got (u ∷ xs) (suc k) x d is =
 
 -- the gate at the place of a network's ring
 pub home-at : (gates : List RingGate) (network place : ℕ) (gate home : RingGate)
-    → IsHomeOf gates network gate → place ≡ place_in gates network
+    → IsHomeOf gates network gate → place ≡ place_of_ring gates network
     → home ≡ slice_index_or gates place home → home ≡ gate
 home-at gates network place gate home is at read =
     read ∙ (ap (λ k. slice_index_or gates k home) at
-    ∙ (got gates (place_in gates network) gate home
+    ∙ (got gates (place_of_ring gates network) gate home
     (find-there (is_ring_of network) gates gate is).0).0)
 
 -- a network that has its ring among these has a place there
 pub has-place : (gates : List RingGate) (network : ℕ) → HasRing gates network
-    → place_in gates network < length gates
+    → place_of_ring gates network < length gates
 has-place gates network ring =
-    (got gates (place_in gates network) ring.0 ring.0
+    (got gates (place_of_ring gates network) ring.0 ring.0
     (find-there (is_ring_of network) gates ring.0 ring.1).0).1
 
 module _ (R : RingGate → Purse → Type 0) (gates : List RingGate) (purses : List Purse)
     (network place : ℕ) (gate : RingGate) (all : AllZip R gates purses)
-    (is : IsHomeOf gates network gate) (at : place ≡ place_in gates network) where
+    (is : IsHomeOf gates network gate) (at : place ≡ place_of_ring gates network) where
   -- what is read at the place of a network's ring
-  purse-read : (purse d : Purse) → slice_get purses (place_in gates network) ≡ Some purse
+  purse-read : (purse d : Purse) → slice_get purses (place_of_ring gates network) ≡ Some purse
       → slice_index_or purses place d ≡ purse
   purse-read purse d there =
       ap (λ k. slice_index_or purses k d) at
-      ∙ (got purses (place_in gates network) purse d there).0
+      ∙ (got purses (place_of_ring gates network) purse d there).0
 
   pub some-there : ((purse : Purse) → R gate purse → is_some purse ≡ true) → (d : Purse)
       → is_some (slice_index_or purses place d) ≡ true
@@ -197,7 +197,7 @@ module _ (R : RingGate → Purse → Type 0) (gates : List RingGate) (purses : L
   -- the pass that is kept there
   pub pass-there : (pass : PassFacts RingEntry) (d : Purse)
       → slice_index_or purses place d ≡ Some pass
-      → slice_get purses (place_in gates network) ≡ Some (Some pass)
+      → slice_get purses (place_of_ring gates network) ≡ Some (Some pass)
   pass-there pass d read =
       let t = zip-there (is_ring_of network) R gates purses gate all is in
       t.1 ∙ ap Some (sym (purse-read t.0 d t.1) ∙ read)

@@ -21,7 +21,7 @@ use Rattle.live_run.specs.Closing.{net_of_gate}
 use Rattle.live_run.specs.Dealing.{AreSeatsAt, IsFreshSeat, IsFreshSide, Key, Seat, key_of}
 use Rattle.live_run.specs.Dealing.{side_of_seat}
 use Rattle.live_run.specs.Ends.{AreEndsAt, Crossing, IsFreshBridge, sides_of_ends}
-use Rattle.live_run.specs.Homes.{IsAtHome, IsHomeOf, RingGate, is_ring_of, place_in}
+use Rattle.live_run.specs.Homes.{IsAtHome, IsHomeOf, RingGate, is_ring_of, place_of_ring}
 use Rattle.live_run.proofs.Places.{find-there, zip-weaker}
 use Rattle.live_run.proofs.Zipped.{contains-at, contains-map, zip-with}
 
@@ -48,7 +48,7 @@ module _ (plant : Plant) (sound : IsPlant plant) (gates : List RingGate)
   unused-end network node side on fresh =
       let found = find-there (is_ring_of network) gates fresh.gate fresh.home in
       let there : Contains gates fresh.gate =
-      contains-at gates (place_in gates network) fresh.gate found.0 in
+      contains-at gates (place_of_ring gates network) fresh.gate found.0 in
       let named : Contains plant.nets fresh.gate.fixed =
       subst (λ (l : List NetPlan). Contains l fresh.gate.fixed) nets
       (contains-map net_of_gate gates fresh.gate there) in

@@ -30,9 +30,9 @@ use Rattle.live_workers.specs.Stations.{BridgeCameToEnd, BridgeHasRun, CameNoted
 use Rattle.live_workers.specs.Stations.{HostCameToEnd}
 use Rattle.live_run.specs.Closing.{IsClosable, IsOpened}
 use Rattle.live_run.specs.Dealing.{DealsAt, GathersAt, HasBrought, HasLog, IsDealt, IsFreshSeat}
-use Rattle.live_run.specs.Dealing.{IsGathered, Key, Seat, key_of, side_of_seat}
+use Rattle.live_run.specs.Dealing.{AreGathered, Key, Seat, key_of, side_of_seat}
 use Rattle.live_run.specs.Ends.{Crossing, IsFreshBridge, ends_of_plan, sides_of_ends}
-use Rattle.live_run.specs.Homes.{IsHomeOf, KeepsZero, Purse, RingGate, is_ring_of, place_in}
+use Rattle.live_run.specs.Homes.{IsHomeOf, KeepsZero, Purse, RingGate, is_ring_of, place_of_ring}
 use Rattle.live_run.specs.Runs.{AreBrought, IsBridgeBrought, IsThrough}
 use Rattle.live_run.proofs.Places.{find-there, zip-there, zip-weaker}
 use Rattle.live_run.proofs.Zipped.{all-there, contains-at, zip-first}
@@ -112,7 +112,7 @@ module _ (gates : List RingGate) (purses : List Purse) (back : List GatedRingIs)
   -- what pass 0 of the ring of a network keeps of a side
   record BroughtAt (network : ℕ) (side : GatedRingIs) : Type 0 where
     pub pass : PassFacts RingEntry
-    pub kept : slice_get purses (place_in gates network) ≡ Some (Some pass)
+    pub kept : slice_get purses (place_of_ring gates network) ≡ Some (Some pass)
     pub unused : pass.gate.opening ≡ []
     pub brought : HasBrought pass side
 
@@ -120,7 +120,7 @@ module _ (gates : List RingGate) (purses : List Purse) (back : List GatedRingIs)
       (side : GatedRingIs) → IsHomeOf gates network side.gate → Contains back side
       → BroughtAt network side
   brought-at unused network side home there =
-      let at : slice_get gates (place_in gates network) ≡ Some side.gate =
+      let at : slice_get gates (place_of_ring gates network) ≡ Some side.gate =
       (find-there (is_ring_of network) gates side.gate home).0 in
       let its = zip-there (is_ring_of network) (GathersAt [] back) gates purses side.gate whole
       home in
@@ -130,7 +130,7 @@ module _ (gates : List RingGate) (purses : List Purse) (back : List GatedRingIs)
         kept = its.1 ∙ ap Some g.kept;
         unused = ap (λ n. n.opening) g.zero.gate_is
             ∙ All-contains (λ (x : RingGate). x.name.opening ≡ []) gates side.gate unused
-            (contains-at gates (place_in gates network) side.gate at);
+            (contains-at gates (place_of_ring gates network) side.gate at);
         brought = g.brought side there refl;
       }
 
@@ -254,9 +254,9 @@ module _ (plant : Plant) (scans : ℕ) (gates : List RingGate) where
       : Type 0 where
     pub one : List Purse
     pub two : List Purse
-    pub controllers_back : IsGathered gates first one (map side_of_seat controllers)
-    pub hosts_back : IsGathered gates one two (map side_of_seat hosts)
-    pub bridges_back : IsGathered gates two last (flat_map sides_of_ends bridges)
+    pub controllers_back : AreGathered gates first one (map side_of_seat controllers)
+    pub hosts_back : AreGathered gates one two (map side_of_seat hosts)
+    pub bridges_back : AreGathered gates two last (flat_map sides_of_ends bridges)
     pub logged : ran ≡ true → AllZip HasLog controllers logs
     pub hosts_logged : served ≡ true → AllZip HasLog hosts host_logs
     pub bridges_logged : crossed ≡ true → AllZip HasLog bridges bridge_logs

@@ -87,8 +87,8 @@ pub record GathersAt (out : List Key) (back : List GatedRingIs) (gate : RingGate
       → HasBrought pass side
 
 -- The passes of these sides were joined.
-abbrev pub IsGathered : List RingGate → List Purse → List Purse → List GatedRingIs → Type 0
-IsGathered gates old new sides = (out : List Key) (back : List GatedRingIs)
+abbrev pub AreGathered : List RingGate → List Purse → List Purse → List GatedRingIs → Type 0
+AreGathered gates old new sides = (out : List Key) (back : List GatedRingIs)
     → AllZip (GathersAt (map key_of sides ++ out) back) gates old
     → AllZip (GathersAt out (back ++ sides)) gates new
 

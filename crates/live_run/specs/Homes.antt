@@ -29,12 +29,12 @@ abbrev pub HasRing : List RingGate → ℕ → Type 0
 HasRing gates network = (gate : RingGate) × IsHomeOf gates network gate
 
 -- The place of that gate.
-abbrev pub place_in : List RingGate → ℕ → ℕ
-place_in gates network = position_or_len (is_ring_of network) gates
+abbrev pub place_of_ring : List RingGate → ℕ → ℕ
+place_of_ring gates network = position_or_len (is_ring_of network) gates
 
 -- No two of these gates are of one network.
-abbrev pub AreApart : List RingGate → Type 0
-AreApart gates = (network : ℕ) → count_by (is_ring_of network) gates ≤ 1
+abbrev pub AreRingsApart : List RingGate → Type 0
+AreRingsApart gates = (network : ℕ) → count_by (is_ring_of network) gates ≤ 1
 
 -- A pass is pass 0 of a gate, and outside.
 pub record IsZero (gate : RingGate) (pass : PassFacts RingEntry) : Type 0 where
@@ -59,8 +59,8 @@ pub record IsSeated (gates : List RingGate) (old new : List Purse) (network node
   pub gate : RingGate
   pub home : IsHomeOf gates network gate
   pub pass : PassFacts RingEntry
-  pub was : slice_get old (place_in gates network) ≡ Some (Some pass)
-  pub now : new ≡ set old (place_in gates network)
+  pub was : slice_get old (place_of_ring gates network) ≡ Some (Some pass)
+  pub now : new ≡ set old (place_of_ring gates network)
       (Some (record pass { given = node ∷ pass.given }))
   pub side_is : side ≡ record { gate = gate; number = node; seen = pass.seen }
 
@@ -73,8 +73,8 @@ pub record IsAtHome (gates : List RingGate) (network : ℕ) (side : GatedRingIs)
 pub record IsUnseated (gates : List RingGate) (old new : List Purse) (network : ℕ)
     (side : GatedRingIs) : Type 0 where
   pub pass : PassFacts RingEntry
-  pub was : slice_get old (place_in gates network) ≡ Some (Some pass)
+  pub was : slice_get old (place_of_ring gates network) ≡ Some (Some pass)
   pub joins : PassFacts RingEntry
   pub ready : IsPassReady maker side.number side.gate.name joins
   pub seen : joins.seen ≡ side.seen
-  pub now : new ≡ set old (place_in gates network) (Some (with_pass pass joins))
+  pub now : new ≡ set old (place_of_ring gates network) (Some (with_pass pass joins))

@@ -18,7 +18,7 @@ use Rattle.live_run.specs.declared.runs.Stations.{Stations}
 use Rattle.live_workers.specs.declared.stations.NotedLog.{NotedLog}
 use Rattle.live_run.specs.Closing.{IsClosable}
 use Rattle.live_run.specs.Dealing.{HasBrought}
-use Rattle.live_run.specs.Homes.{IsHomeOf, Purse, RingGate, place_in}
+use Rattle.live_run.specs.Homes.{IsHomeOf, Purse, RingGate, place_of_ring}
 use Rattle.gated_sides.specs.Sides.{GatedRingIs}
 use Rattle.live_workers.specs.Stations.{CameNoted, EndCameToEnd, HostCameToEnd}
 
@@ -40,7 +40,7 @@ pub record IsBrought (gates : List RingGate) (purses : List Purse) (network node
   pub holds : Holds side.seen
   pub home : IsHomeOf gates network side.gate
   pub pass : PassFacts RingEntry
-  pub kept : slice_get purses (place_in gates network) ≡ Some (Some pass)
+  pub kept : slice_get purses (place_of_ring gates network) ≡ Some (Some pass)
   pub unused : pass.gate.opening ≡ []
   pub brought : HasBrought pass side
 

@@ -3,9 +3,9 @@ ghost use Rattle.std.specs.Prelude.{◌≡◌, ◌<◌, true, [], All, OnOk, len
 ghost use Rattle.std.specs.Prelude.{vec_len, vec_capacity};
 ghost use Rattle.std.specs.List.{AllZip};
 ghost use Rattle.ring_core.specs.Machine.{addresses};
-ghost use Rattle.live_run.specs.Homes.{AreApart, HasRing, KeepsZero};
+ghost use Rattle.live_run.specs.Homes.{AreRingsApart, HasRing, KeepsZero};
 ghost use Rattle.live_run.specs.Dealing.{AreSeatsAt, CanDeal, HasLog, IsDealt, IsFreshSeat};
-ghost use Rattle.live_run.specs.Dealing.{IsGathered, IsLogged, key_of, side_of_seat};
+ghost use Rattle.live_run.specs.Dealing.{AreGathered, IsLogged, key_of, side_of_seat};
 ghost use Rattle.live_run.specs.Ends.{AreEndsAt, IsFreshBridge, ends_of_plan, sides_of_ends};
 
 use crate::homes::{RingHome, seat, unseat};
@@ -137,12 +137,12 @@ pub(crate) fn gather<'a, P: HasNode, L: Drop, M: Meet, R: Wait>(
     mut stations: Vec<Station<GatedRing<'a, M, R>, L>>,
     alloc: Global,
 ) -> (Vec<L>, bool)
-    requires apart { AreApart homes.now }
+    requires apart { AreRingsApart homes.now }
     requires unused { All (λ gate. gate.name.opening ≡ []) homes.now }
     requires keeps { AllZip KeepsZero homes.now purses.old }
     requires at { AreSeatsAt homes.now P.network_of plans.now stations.items }
     ensures keeps { AllZip KeepsZero homes.now purses.new }
-    ensures gathered { IsGathered homes.now purses.old purses.new
+    ensures gathered { AreGathered homes.now purses.old purses.new
         (map side_of_seat stations.entry.items) }
     ensures logs { result.1 ≡ true → AllZip HasLog stations.entry.items result.0.items }
 {
@@ -169,12 +169,12 @@ pub(crate) fn gather_ends<'a, M: Meet, R: Wait>(
     mut stations: Vec<Station<Ends<GatedRing<'a, M, R>>, BridgeLog>>,
     alloc: Global,
 ) -> (Vec<BridgeLog>, bool)
-    requires apart { AreApart homes.now }
+    requires apart { AreRingsApart homes.now }
     requires unused { All (λ gate. gate.name.opening ≡ []) homes.now }
     requires keeps { AllZip KeepsZero homes.now purses.old }
     requires at { AreEndsAt homes.now plans.now stations.items }
     ensures keeps { AllZip KeepsZero homes.now purses.new }
-    ensures gathered { IsGathered homes.now purses.old purses.new
+    ensures gathered { AreGathered homes.now purses.old purses.new
         (flat_map sides_of_ends stations.entry.items) }
     ensures logs { result.1 ≡ true → AllZip HasLog stations.entry.items result.0.items }
 {

@@ -5,7 +5,7 @@ ghost use Rattle.turn_gate.specs.Known.{first_pass};
 ghost use Rattle.ring_core.specs.Machine.{addresses};
 ghost use Rattle.plant_types.specs.Plans.{IsNetPlan};
 ghost use Rattle.live_run.specs.Homes.{HasRing, IsAtHome, IsSeated, IsUnseated, KeepsFor};
-ghost use Rattle.live_run.specs.Homes.{KeepsZero, is_ring_of, place_in};
+ghost use Rattle.live_run.specs.Homes.{KeepsZero, is_ring_of, place_of_ring};
 ghost use Rattle.live_run.specs.Closing.{ClosedTo, IsClosable};
 
 use gated_sides::{GatedRing, Meet, RingCell};
@@ -110,7 +110,7 @@ fn first_of(homes: &[RingHome], network: u8) -> Option<usize>
 /// The place of the ring of a network.
 fn place_of(homes: &[RingHome], network: u8) -> usize
     requires { HasRing homes.now network }
-    ensures place { result ≡ place_in homes.now network }
+    ensures place { result ≡ place_of_ring homes.now network }
     ensures within { result < length homes.now }
 {
     match first_of(homes, network) {

@@ -2,7 +2,7 @@ use Rattle.std.proofs.Common.{◌≡◌, ◌≢◌, ℕ, ◌∷◌, false, Some,
 use Rattle.turn_gate.specs.Known.{PassFacts, is_among, split_off}
 use Rattle.ring_core.specs.declared.entry.RingEntry.{RingEntry}
 use Rattle.gated_sides.specs.Sides.{GatedRingIs}
-use Rattle.live_run.specs.Homes.{IsZero, KeepsFor, Purse, RingGate, place_in}
+use Rattle.live_run.specs.Homes.{IsZero, KeepsFor, Purse, RingGate, place_of_ring}
 use Rattle.live_run.proofs.Places.{emptied-at, fresh-kept, home-at, keeps-some, pass-is, pass-there}
 use Rattle.live_run.proofs.Places.{place-within, put-at, some-there, zero-kept}
 use Rattle.live_run.proofs.homes.seat.Given.{Over}
@@ -108,7 +108,7 @@ returns g c =
           c.place_of-place.ensures.place pass c.index-purses-place.result
           c.take_out-zero.ensures.is;
       now = put-at c.args.purses.now c.place_of-place.result
-          (place_in c.args.homes.now c.args.network) c.take_out-zero.new.purse
+          (place_of_ring c.args.homes.now c.args.network) c.take_out-zero.new.purse
           c.put_back.new.purse (Some (record pass { given = c.args.node ∷ pass.given }))
           c.place_of-place.ensures.place (given-is pass c.split-zero.result.0 c.from.result
           c.args.node c.put_back.new.purse c.put_back.ensures c.split-zero.ensures.zero

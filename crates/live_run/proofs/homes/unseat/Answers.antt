@@ -1,7 +1,7 @@
 use Rattle.std.proofs.Common.{◌≡◌, Some, length-set, sym, ap, ◌∙◌}
 use Rattle.turn_gate.specs.Known.{PassFacts, with_pass}
 use Rattle.ring_core.specs.declared.entry.RingEntry.{RingEntry}
-use Rattle.live_run.specs.Homes.{IsZero, KeepsZero, Purse, RingGate, place_in}
+use Rattle.live_run.specs.Homes.{IsZero, KeepsZero, Purse, RingGate, place_of_ring}
 use Rattle.live_run.proofs.Places.{emptied-at, home-at, keeps-some, pass-is, pass-there}
 use Rattle.live_run.proofs.Places.{place-within, put-at, some-there, zero-kept}
 use Rattle.live_run.proofs.homes.unseat.Given.{Over}
@@ -80,7 +80,7 @@ returns g c =
       ready = c.into_pass.ensures.ready;
       seen = c.into_pass.ensures.seen;
       now = put-at c.args.purses.now c.place_of-place.result
-          (place_in c.args.homes.now c.args.network) c.take_out-zero.new.purse
+          (place_of_ring c.args.homes.now c.args.network) c.take_out-zero.new.purse
           c.put_back.new.purse (Some (with_pass pass c.into_pass.result))
           c.place_of-place.ensures.place (joined-is pass c.into_pass.result
           c.join-zero.result c.put_back.new.purse c.put_back.ensures c.join-zero.ensures);

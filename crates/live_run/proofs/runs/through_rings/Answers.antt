@@ -10,7 +10,7 @@ use Rattle.live_workers.specs.Stations.{AllCrossed, AllRan, AllServed}
 use Rattle.live_workers.specs.Stations.{AreBridgesFresh, AreFresh, HasRun, HostHasRun}
 use Rattle.live_workers.specs.Stations.{BridgeHasRun, ends_side}
 use Rattle.live_workers.proofs.Ran.{kept-whole, ran-long}
-use Rattle.live_run.specs.Dealing.{HasLog, IsFreshSeat, IsGathered}
+use Rattle.live_run.specs.Dealing.{HasLog, IsFreshSeat, AreGathered}
 use Rattle.live_run.specs.Dealing.{Seat, key_of, side_of_seat}
 use Rattle.live_run.specs.Ends.{Crossing, IsFreshBridge, ends_of_plan, sides_of_ends}
 use Rattle.live_run.specs.Homes.{HasRing}
@@ -298,12 +298,12 @@ returns g c =
       one = a.new.purses;
       two = b.new.purses;
       controllers_back = subst (λ (l : List (Seat NotedLog)).
-          IsGathered gates mid a.new.purses (map side_of_seat l)) one a.ensures.gathered;
+          AreGathered gates mid a.new.purses (map side_of_seat l)) one a.ensures.gathered;
       hosts_back = subst (λ (l : List (Seat HostLog)).
-          IsGathered gates a.new.purses b.new.purses (map side_of_seat l)) two
+          AreGathered gates a.new.purses b.new.purses (map side_of_seat l)) two
           b.ensures.gathered;
       bridges_back = subst (λ (l : List Crossing).
-          IsGathered gates b.new.purses last (flat_map sides_of_ends l)) three
+          AreGathered gates b.new.purses last (flat_map sides_of_ends l)) three
           d.ensures.gathered;
       logged = λ yes'. subst (λ (l : List (Seat NotedLog)). AllZip HasLog l a.result.0.items) one
           (a.ensures.logs yes');
