@@ -11,7 +11,8 @@ use Rattle.plant_types.specs.declared.slot.Slot.{Slot}
 use Rattle.plant_types.specs.declared.slot.Slot.TheVariants.{Discrete, Driven, Number, Source}
 use Rattle.plant_types.specs.declared.slot.Slot.TheVariants.{Target, Constant}
 use Rattle.plant_types.specs.Slots.{slots_of}
-use Rattle.plant_types.specs.Reference.{is_coil, is_discrete, is_register, is_holding}
+use Rattle.plant_types.specs.Operands.{OperandKind, OnlyCoil, AnyDiscrete, AnyRegister, OnlyHolding}
+use Rattle.plant_types.specs.Operands.{accepts}
 use Rattle.plant_types.specs.Limits.{is_up_to}
 use Rattle.cell_text.specs.declared.names.PieceName.{PieceName}
 use Rattle.cell_text.specs.declared.names.PieceName.TheVariants.{Element, Short}
@@ -46,14 +47,19 @@ abbrev pub passes_word_test : WordTest → Slot → List ℕ → Bool
 passes_word_test Form slot word = takes_form slot word
 passes_word_test Value slot word = takes_value slot word
 
--- The kinds of reference that an operand can be. This project's own table of operands.
+-- What a reference of an operand has to be; a constant of a limited range is none. This project's
+-- own table of operands.
+abbrev pub slot_kind : Slot → Option OperandKind
+slot_kind Discrete = Some AnyDiscrete
+slot_kind Driven = Some OnlyCoil
+slot_kind (Number run) = Some AnyRegister
+slot_kind (Source run) = Some AnyRegister
+slot_kind (Target run) = Some OnlyHolding
+slot_kind (Constant most) = None
+
+-- An operand can be a reference of a kind. This project's own.
 abbrev pub takes_kind : Slot → RefKind → Bool
-takes_kind Discrete kind = is_discrete kind
-takes_kind Driven kind = is_coil kind
-takes_kind (Number run) kind = is_register kind
-takes_kind (Source run) kind = is_register kind
-takes_kind (Target run) kind = is_holding kind
-takes_kind (Constant most) kind = false
+takes_kind slot kind = option_map_or (λ sort. accepts sort kind) (slot_kind slot) false
 
 -- A reference as an operand, where it is of a kind that is taken. This project's own.
 abbrev pub taken_reference : Slot → Ref → Option Operand

@@ -5,4 +5,5 @@ pub mod Complete
 pub mod Silent
 pub mod Parts
 pub mod Turn
+mod Spent
 pub mod Worked

@@ -9,12 +9,14 @@ use Rattle.bridge_relay.specs.Laws.{is_by}
 use Rattle.bridge_relay.specs.Legal.{IsBridgeHistory, IsEnd, IsOpenEnd}
 use Rattle.ring_core.specs.declared.entry.RingEntry.{RingEntry}
 use Rattle.tied_lists.specs.Own.{own}
+use Rattle.tied_lists.specs.Waits.{IsOnRing}
 use Rattle.comm_port.specs.HostStands.{own_side}
 use Rattle.bridge_port.specs.EndTurns.{EndTies}
 use Rattle.bridge_port.specs.EndParts.{HoldsEndTurn}
 use Rattle.bridge_port.specs.Stands.{own_bridge}
 use Rattle.joint_history.specs.Bridges.{made_at_end}
 use Rattle.joint_history.specs.Complete.{EndIsComplete}
+use Rattle.turn_laws.specs.KeepsOn.{NoneSpent}
 use Rattle.end_laws.specs.EndKeeps.{EndKeepsOn}
 
 -- An end of which nothing stands in either list has all that turns keep.
@@ -34,6 +36,15 @@ EndTurnsKeepOn =
     → EndTies side (own_bridge plan) new_list (own_side net) new_ring
     → EndKeepsOn plan net side list ring false
     → EndKeepsOn plan net side new_list new_ring left
+
+-- In a hold of the token by an end without a budget its node does not leave because its Passes are
+-- spent.
+abbrev pub EndTurnsSpendNothing : Type 0
+EndTurnsSpendNothing =
+    (alone_bridge alone_ring : Bool) (plan : BridgePlan) (net : NetPlan) (side : ℕ) (left : Bool)
+    (list new_list : List BridgeEntry) (ring new_ring : List RingEntry) → IsOnRing net ring side
+    → HoldsEndTurn alone_bridge alone_ring plan net side false list new_list ring new_ring left
+    → NoneSpent (own side ring) → NoneSpent (own side new_ring)
 
 -- Entries of other nodes keep it.
 abbrev pub EndOthersKeepOn : Type 0

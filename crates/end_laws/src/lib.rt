@@ -4,5 +4,6 @@
 mod laws;
 
 pub use laws::{
-    end_others_keep_on, end_turns_keep_on, ends_across_keep_on, ends_complete, ends_start_keep,
+    end_others_keep_on, end_turns_keep_on, end_turns_spend_nothing, ends_across_keep_on,
+    ends_complete, ends_start_keep,
 };

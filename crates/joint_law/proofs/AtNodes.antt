@@ -1,9 +1,9 @@
 -- Stations of a plant and ends of its bridges, and where they stand toward their rings.
 use Rattle.std.proofs.Common.{◌≡◌, ℕ, ◌+◌, ◌<◌, ◌≤◌, Bool, true, false, List, [], ◌∷◌, ◌++◌}
-use Rattle.std.proofs.Common.{length, get_or, map, None}
+use Rattle.std.proofs.Common.{length, get_or, map}
 use Rattle.std.proofs.Common.{refl, sym, ap, subst, ◌∙◌, ⊎_elim, arith}
-use Rattle.std.specs.Prelude.{◌↔◌, IsTrue, count_by, Option, unwrap_or}
-use Rattle.std.specs.List.{All, Contains, find, flat_map, zip}
+use Rattle.std.specs.Prelude.{◌↔◌, IsTrue, count_by, Option}
+use Rattle.std.specs.List.{All, Contains, flat_map, zip}
 use Rattle.std.proofs.lemmas.Bool.{cases_lt}
 use Rattle.std.proofs.lemmas.List.{get_or_default, length-append, get_or_append_left}
 use Rattle.std.proofs.lemmas.List.{get_or-append-add}
@@ -14,7 +14,7 @@ use Rattle.plant_types.specs.declared.net.HostPlan.{HostPlan}
 use Rattle.plant_types.specs.declared.net.NetPlan.{NetPlan}
 use Rattle.plant_types.specs.declared.plan.ControllerPlan.{ControllerPlan}
 use Rattle.plant_types.specs.declared.plan.Plant.{Plant}
-use Rattle.plant_types.specs.Plans.{IsNode, IsPlant, has_member, net_of, no_net}
+use Rattle.plant_types.specs.Plans.{IsNode, IsPlant, net_of}
 use Rattle.ring_core.specs.Legal.{IsMember}
 use Rattle.ring_core.specs.Machine.{addresses, admitted_status}
 use Rattle.ring_core.specs.declared.entry.RingEntry.{RingEntry}
@@ -156,14 +156,11 @@ sides-at plant joint sound sections k d low =
           (omega (arith, size, low))),
     )
 
--- a host has a network
-pub host-has-net : (plant : Plant) (plan : HostPlan) → IsPlant plant → Contains plant.hosts plan
-    → find (has_member plan.node) plant.nets ≡ None → ⊥
-host-has-net plant plan sound there none =
-    let on = host-on plant plan sound there in
-    let member = subst (λ (net : NetPlan). IsMember net plan.node)
-    (sym on.is ∙ ap (λ o. unwrap_or o no_net) none) on.member in
-    let low = member.1 in omega (arith, low)
+-- a host is a member of its network
+pub host-member : (plant : Plant) (plan : HostPlan) → IsPlant plant → Contains plant.hosts plan
+    → IsMember (net_of plant plan.node) plan.node
+host-member plant plan sound there =
+    (at-net plant plan.network plan.node plan.node (host-on plant plan sound there) refl).member
 
 pub bounds-low : (plant : Plant) (joint : Joint) → IsPlant plant → HasSections plant joint
     → All (λ (s : Bound). s.node < addresses) (bounds_of joint)

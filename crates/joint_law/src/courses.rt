@@ -1,6 +1,6 @@
 //! How the lists of all controllers go, of all hosts, of all bridges and of all rings.
-ghost use Rattle.std.specs.Prelude.{◌≡◌, Contains, IfOk};
-ghost use Rattle.plant_types.specs.Plans.{IsPlant, net_of};
+ghost use Rattle.std.specs.Prelude.{IfOk};
+ghost use Rattle.plant_types.specs.Plans.{IsPlant};
 ghost use Rattle.joint_law.specs.Spots.{AreLegalBridgeLogs, AreLegalHostLogs, AreLegalLogs};
 ghost use Rattle.joint_law.specs.Spots.{CanBeJudged, HasSections};
 ghost use Rattle.joint_law.specs.AllCourses.{BridgesEnd, ControllersEnd, HostsEnd, RingsEnd};
@@ -10,7 +10,7 @@ use joint_history::Joint;
 use list_courses::{
     ControllerCourse, Course, controller_course, follow_bridge, follow_ring, host_course,
 };
-use plant_types::{HostPlan, List, NetPlan, Plant};
+use plant_types::{List, Plant};
 use std::alloc::{AllocError, Global};
 
 /// How the lists of all controllers go.
@@ -89,18 +89,6 @@ pub(crate) fn controllers_course(
     Ok(ControllerCourses::Whole { done, notes })
 }
 
-/// The network of a host of a plant.
-fn net_of<'a>(plant: &'a Plant, plan: &HostPlan) -> &'a NetPlan
-    requires sound { IsPlant plant.now }
-    requires there { Contains plant.now.hosts plan.now }
-    ensures { result.now ≡ net_of plant.now plan.now.node }
-{
-    match plant.net_of(plan.node) {
-        Some(net) => net,
-        None => unreachable!(),
-    }
-}
-
 /// Follows the list of each host.
 pub(crate) fn hosts_course(
     alloc: Global,
@@ -119,7 +107,7 @@ pub(crate) fn hosts_course(
     for at in 0..plans.len() {
         let plan = &plans[at];
         let entries = logs[at].entries.as_slice();
-        match host_course(alloc, net_of(plant, plan), plan, entries)? {
+        match host_course(alloc, plant.own_net(plan.node), plan, entries)? {
             Course::Breaks(place) => {
                 let node = logs[at].node;
                 return Ok(HostCourses::Breaks { node, place });

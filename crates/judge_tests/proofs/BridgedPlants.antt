@@ -12,14 +12,15 @@ use Rattle.plant_types.specs.Plans.{PassesTests, controller_nodes, end_nodes, ho
 use Rattle.plant_types.specs.Plans.{net_numbers}
 use Rattle.controller_core.specs.Machine.{IsRunnable}
 use Rattle.joint_history.specs.JointLaws.{fixed_of}
-use Rattle.judge_tests.specs.Bridged.{bridge_plan, bridged_plant, far_controller, near_host}
-use Rattle.judge_tests.specs.Bridged.{net_with}
+use Rattle.judge_tests.specs.Bridged.{bridge_plan, bridged_plant, far_controller, far_net}
+use Rattle.judge_tests.specs.Bridged.{near_host, near_net}
+use Rattle.judge_tests.specs.Plans.{net_with}
 use Rattle.judge_tests.proofs.Small.{all-one, all-two, from-to, is-node, one-rises, two-rise}
 use Rattle.joint_law.specs.Spots.{CanBeJudged}
 
 net-sound : (number first second end : ℕ) → number ≤ 8 → 1 ≤ first → first < second
     → second ≤ 64 → Contains (first ∷ second ∷ []) end
-    → IsNetPlan (net_with number first second end)
+    → IsNetPlan (net_with number (first ∷ second ∷ []) (end ∷ []))
 net-sound number first second end few some rise low among = record {
   members = record {
     some = omega arith;
@@ -42,7 +43,7 @@ net-sound number first second end few some rise low among = record {
   };
 }
 
-near-on : IsNetOf bridged_plant (net_with 1 2 3 3)
+near-on : IsNetOf bridged_plant near_net
 near-on = record {
   plan =
       net-sound 1 2 3 3 (omega arith) (omega arith) (omega arith) (omega arith)
@@ -52,7 +53,7 @@ near-on = record {
   bridges = IsPermutation-refl (3 ∷ []);
 }
 
-far-on : IsNetOf bridged_plant (net_with 2 1 5 1)
+far-on : IsNetOf bridged_plant far_net
 far-on = record {
   plan =
       net-sound 2 1 5 1 (omega arith) (omega arith) (omega arith) (omega arith)
@@ -122,8 +123,7 @@ bridged-judged = record {
   sound = record {
     scan_time = from-to 1 1000 10 (omega arith) (omega arith);
     watchdog = from-to 1 10000 500 (omega arith) (omega arith);
-    nets =
-        all-two (IsNetOf bridged_plant) (net_with 1 2 3 3) (net_with 2 1 5 1) near-on far-on;
+    nets = all-two (IsNetOf bridged_plant) near_net far_net near-on far-on;
     nets_rise = two-rise 1 2 (omega arith);
     count = from-to 1 16 1 (omega arith) (omega arith);
     controllers = all-one PassesTests far_controller controller-passes;

@@ -1,47 +1,22 @@
 -- The plant of the tests. This project's own.
 use Rattle.std.specs.Prelude.{[], ◌∷◌}
-use Rattle.plant_types.specs.declared.net.Fate.TheVariants.{D}
 use Rattle.plant_types.specs.declared.net.HostPlan.{HostPlan}
 use Rattle.plant_types.specs.declared.net.NetPlan.{NetPlan}
 use Rattle.plant_types.specs.declared.plan.ControllerPlan.{ControllerPlan}
 use Rattle.plant_types.specs.declared.plan.Plant.{Plant}
+use Rattle.judge_tests.specs.Plans.{asking_host, idle_controller, net_with}
 
 -- A controller of 16 registers, which solves nothing, and whose power fails in its second scan.
 abbrev pub controller_plan : ControllerPlan
-controller_plan = record {
-  node = 1;
-  network = 0;
-  coils = 16;
-  inputs = 0;
-  input_registers = 0;
-  registers = 16;
-  panel = [];
-  orders = [];
-  power = record { scan = 2; row = 0; dark = 0 } ∷ [];
-  drops = [];
-  segments = [];
-}
+controller_plan = idle_controller 1 0 (record { scan = 2; row = 0; dark = 0 } ∷ [])
 
 -- A host that asks for the first of them at once.
 abbrev pub host_plan : HostPlan
-host_plan = record {
-  node = 2;
-  network = 0;
-  requests = record { hold = 1; route = 1 ∷ []; pdu = 3 ∷ 0 ∷ 0 ∷ 0 ∷ 1 ∷ [] } ∷ [];
-}
+host_plan = asking_host 0 (1 ∷ [])
 
 -- Their network.
 abbrev pub net_plan : NetPlan
-net_plan = record {
-  number = 0;
-  members = 1 ∷ 2 ∷ [];
-  bridges = [];
-  fates = D ∷ [];
-  answer = 2;
-  rotations = 2;
-  rounds = 1;
-  holds = 1000;
-}
+net_plan = net_with 0 (1 ∷ 2 ∷ []) []
 
 -- The plant.
 abbrev pub example_plant : Plant

@@ -1,19 +1,19 @@
 //! Runs of two networks in which a host on the one asks a controller on the other, over a bridge,
 //! and what one change makes of them.
 ghost use Rattle.std.specs.Prelude.{◌≡◌, ◌∷◌, [], IfOk};
-ghost use Rattle.judge_tests.specs.Bridged.{bridge_plan, far_controller, near_host, net_with};
+ghost use Rattle.judge_tests.specs.Bridged.{bridge_plan, far_controller, far_net, near_host};
+ghost use Rattle.judge_tests.specs.Bridged.{near_net};
 ghost use Rattle.joint_law.specs.Spots.{CanBeJudged};
 
 use crate::ends::{ONWARD, accept, back, finish, forward, reply, request};
-use crate::histories::{CALL, REPLY, REQUEST, pass, pdu_of};
+use crate::histories::{CALL, REPLY, pass};
+use crate::plans::{REQUEST, controller_of, host_of, net_of, pdu_of};
 use bridge_relay::BridgeEntry;
 use controller_core::Entry;
 use host_port::{HostEntry, HostResult};
 use joint_history::{BridgeLog, ControllerLog, HostLog, Joint, RingLog};
 use joint_law::{Spot, Verdict, judge};
-use plant_types::{
-    BridgePlan, ControllerPlan, Fate, HostAsk, HostPlan, List, NetPlan, Plant, Route,
-};
+use plant_types::{BridgePlan, ControllerPlan, HostPlan, List, NetPlan, Plant, Route};
 use ring_core::{Heard, LeaveCause, RingEntry};
 use std::alloc::{AllocError, Global};
 
@@ -36,89 +36,28 @@ enum Change {
     AnotherHolder,
 }
 
-fn nodes(alloc: Global, first: u8, second: u8) -> Result<List<u8>, AllocError>
-    ensures { IfOk result (λ list. list ≡ first ∷ second ∷ []) }
-{
-    let mut list = List::new(alloc);
-    list.push(first)?;
-    list.push(second)?;
-    Ok(list)
-}
-
-/// A network of two nodes, of which one is the end of a bridge.
-fn net(alloc: Global, number: u8, first: u8, second: u8, end: u8) -> Result<NetPlan, AllocError>
-    ensures { IfOk result (λ net. net ≡ net_with number first second end) }
-{
-    let members = nodes(alloc, first, second)?;
-    let mut bridges = List::new(alloc);
-    bridges.push(end)?;
-    let mut fates = List::new(alloc);
-    fates.push(Fate::D)?;
-    Ok(NetPlan {
-        number,
-        members,
-        bridges,
-        fates,
-        answer: 2,
-        rotations: 2,
-        rounds: 1,
-        holds: 1000,
-    })
-}
-
 fn nets(alloc: Global) -> Result<List<NetPlan>, AllocError>
-    ensures { IfOk result (λ nets. nets ≡ net_with 1 2 3 3 ∷ net_with 2 1 5 1 ∷ []) }
+    ensures { IfOk result (λ nets. nets ≡ near_net ∷ far_net ∷ []) }
 {
     let mut nets = List::new(alloc);
-    nets.push(net(alloc, 1, 2, 3, 3)?)?;
-    nets.push(net(alloc, 2, 1, 5, 1)?)?;
+    nets.push(net_of(alloc, 1, &[2, 3], &[3])?)?;
+    nets.push(net_of(alloc, 2, &[1, 5], &[1])?)?;
     Ok(nets)
 }
 
-/// A controller of 16 registers, which solves nothing.
 fn controllers(alloc: Global) -> Result<List<ControllerPlan>, AllocError>
     ensures { IfOk result (λ plans. plans ≡ far_controller ∷ []) }
 {
     let mut plans = List::new(alloc);
-    plans.push(ControllerPlan {
-        node: 5,
-        network: 2,
-        coils: 16,
-        inputs: 0,
-        input_registers: 0,
-        registers: 16,
-        panel: List::new(alloc),
-        orders: List::new(alloc),
-        power: List::new(alloc),
-        drops: List::new(alloc),
-        segments: List::new(alloc),
-    })?;
+    plans.push(controller_of(alloc, 5, 2, List::new(alloc)))?;
     Ok(plans)
-}
-
-/// A host that asks for its first register at once.
-fn host(alloc: Global) -> Result<HostPlan, AllocError>
-    ensures { IfOk result (λ plan. plan ≡ near_host) }
-{
-    let mut requests = List::new(alloc);
-    let pdu = pdu_of(alloc, &REQUEST)?;
-    requests.push(HostAsk {
-        hold: 1,
-        route: Route::of(&[3, 5]),
-        pdu,
-    })?;
-    Ok(HostPlan {
-        node: 2,
-        network: 1,
-        requests,
-    })
 }
 
 fn hosts(alloc: Global) -> Result<List<HostPlan>, AllocError>
     ensures { IfOk result (λ plans. plans ≡ near_host ∷ []) }
 {
     let mut plans = List::new(alloc);
-    plans.push(host(alloc)?)?;
+    plans.push(host_of(alloc, 1, Route::of(&[3, 5]))?)?;
     Ok(plans)
 }
 

@@ -1,6 +1,7 @@
 //! A request that goes on over a bridge, from a host on one network to a controller on another, and
 //! what one change makes of the laws at the bridge's ends.
-use crate::histories::{CALL, REPLY, REQUEST, pdu_of};
+use crate::histories::{CALL, REPLY};
+use crate::plans::{REQUEST, pdu_of};
 use bridge_relay::{BridgeEntry, RelayResult};
 use controller_core::Entry;
 use host_port::{HostEntry, HostResult};

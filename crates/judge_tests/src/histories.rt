@@ -4,14 +4,13 @@ ghost use Rattle.std.specs.Prelude.{◌≡◌, ◌≤◌, ℕ, ◌∷◌, [], If
 ghost use Rattle.judge_tests.specs.Example.{controller_plan, host_plan, net_plan};
 ghost use Rattle.joint_law.specs.Spots.{CanBeJudged};
 
+use crate::plans::{REQUEST, controller_of, host_of, net_of, pdu_of};
 use controller_core::Entry;
 use host_port::{HostEntry, HostResult};
 use joint_history::{BridgeLog, ControllerLog, HostLog, Joint, RingLog};
 use joint_law::{Judgement, Spot, Verdict, judge, judge_noted};
 use mstr_block::CallId;
-use plant_types::{
-    ControllerPlan, Fate, HostAsk, HostPlan, List, NetPlan, Pdu, Plant, PowerRow, Route, Words,
-};
+use plant_types::{ControllerPlan, HostPlan, List, NetPlan, Plant, PowerRow, Route, Words};
 use ring_core::{Frame, FrameKind, Heard, LeaveCause, RingEntry};
 use std::alloc::{AllocError, Global};
 
@@ -85,21 +84,11 @@ pub(crate) const CALL: CallId = CallId {
     seq: 1,
 };
 
-pub(crate) const REQUEST: [u8; 5] = [3, 0, 0, 0, 1];
-
 pub(crate) const REPLY: [u8; 4] = [3, 2, 0, 0];
 
 const ANOTHER_REPLY: [u8; 4] = [3, 2, 0, 1];
 
-pub(crate) fn pdu_of(alloc: Global, bytes: &[u8]) -> Result<Pdu, AllocError>
-    ensures { IfOk result (λ pdu. pdu ≡ bytes.now) }
-{
-    match Pdu::of(alloc, bytes)? {
-        Some(pdu) => Ok(pdu),
-        None => Err(AllocError),
-    }
-}
-
+/// Power fails in the second scan.
 fn power(alloc: Global) -> Result<List<PowerRow>, AllocError>
     ensures { IfOk result (λ rows. rows ≡ controller_plan.power) }
 {
@@ -112,79 +101,28 @@ fn power(alloc: Global) -> Result<List<PowerRow>, AllocError>
     Ok(rows)
 }
 
-/// A controller of 16 registers, which solves nothing, and whose power fails in its second scan.
 fn controllers(alloc: Global) -> Result<List<ControllerPlan>, AllocError>
     ensures { IfOk result (λ plans. plans ≡ controller_plan ∷ []) }
 {
     let mut plans = List::new(alloc);
     let power = power(alloc)?;
-    plans.push(ControllerPlan {
-        node: 1,
-        network: 0,
-        coils: 16,
-        inputs: 0,
-        input_registers: 0,
-        registers: 16,
-        panel: List::new(alloc),
-        orders: List::new(alloc),
-        power,
-        drops: List::new(alloc),
-        segments: List::new(alloc),
-    })?;
+    plans.push(controller_of(alloc, 1, 0, power))?;
     Ok(plans)
-}
-
-/// A host that asks for its first register at once.
-fn host(alloc: Global) -> Result<HostPlan, AllocError>
-    ensures { IfOk result (λ plan. plan ≡ host_plan) }
-{
-    let mut requests = List::new(alloc);
-    let pdu = pdu_of(alloc, &REQUEST)?;
-    requests.push(HostAsk {
-        hold: 1,
-        route: Route::of(&[1]),
-        pdu,
-    })?;
-    Ok(HostPlan {
-        node: 2,
-        network: 0,
-        requests,
-    })
 }
 
 fn hosts(alloc: Global) -> Result<List<HostPlan>, AllocError>
     ensures { IfOk result (λ plans. plans ≡ host_plan ∷ []) }
 {
     let mut plans = List::new(alloc);
-    plans.push(host(alloc)?)?;
+    plans.push(host_of(alloc, 0, Route::of(&[1]))?)?;
     Ok(plans)
-}
-
-fn net(alloc: Global) -> Result<NetPlan, AllocError>
-    ensures { IfOk result (λ net. net ≡ net_plan) }
-{
-    let mut members = List::new(alloc);
-    members.push(1)?;
-    members.push(2)?;
-    let mut fates = List::new(alloc);
-    fates.push(Fate::D)?;
-    Ok(NetPlan {
-        number: 0,
-        members,
-        bridges: List::new(alloc),
-        fates,
-        answer: 2,
-        rotations: 2,
-        rounds: 1,
-        holds: 1000,
-    })
 }
 
 fn nets(alloc: Global) -> Result<List<NetPlan>, AllocError>
     ensures { IfOk result (λ nets. nets ≡ net_plan ∷ []) }
 {
     let mut nets = List::new(alloc);
-    nets.push(net(alloc)?)?;
+    nets.push(net_of(alloc, 0, &[1, 2], &[])?)?;
     Ok(nets)
 }
 

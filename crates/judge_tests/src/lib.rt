@@ -9,3 +9,5 @@ mod ends;
 mod histories;
 #[cfg(test)]
 mod onward;
+#[cfg(test)]
+mod plans;

@@ -1,5 +1,6 @@
 //! Requests that are to go on from the station that took them: a controller and a host answer none.
-use crate::histories::{CALL, REPLY, REQUEST, pdu_of};
+use crate::histories::{CALL, REPLY};
+use crate::plans::{REQUEST, pdu_of};
 use controller_core::Entry;
 use host_port::{HostEntry, HostResult};
 use joint_history::{ControllerLog, HostLog, Joint, RingLog};

@@ -14,6 +14,7 @@ use Rattle.plant_types.specs.declared.network.Network.{Network}
 use Rattle.plant_types.specs.declared.network.Segment.{Segment}
 use Rattle.plant_types.specs.Operands.{HasOperands}
 use Rattle.plant_types.specs.Checks.{EachOfCells, EachOfNetworks, EachOfSegments}
+use Rattle.plant_types.specs.Slots.{label_limit}
 use Rattle.plant_types.specs.Store.{Contents}
 use Rattle.grid_compile.specs.declared.grid.Op.{Op}
 use Rattle.grid_compile.specs.declared.grid.Column.{Column}
@@ -21,7 +22,7 @@ use Rattle.grid_compile.specs.declared.grid.Grid.{Grid}
 use Rattle.grid_compile.specs.Cells.{cell_at, before, cells_from}
 use Rattle.grid_compile.specs.Layout.{op_of, columns_from, grid_of, grids_of}
 use Rattle.ladder_solver.specs.Subroutine.{label_number}
-use Rattle.ladder_solver.specs.Program.{label_of_op, label_in_columns, label_in, most_labels}
+use Rattle.ladder_solver.specs.Program.{label_of_op, label_in_columns, label_in}
 use Rattle.ladder_solver.specs.Program.{HasLabels}
 use Rattle.ladder_solver.specs.Conditions.{EachOfColumns, EachOfGrids, EachInGrids}
 use Rattle.ladder_solver.proofs.Steps.{each_found}
@@ -72,7 +73,7 @@ within_length most n h = grind (arith, nat_tests)
 
 -- the number of a LAB
 small_label : (m : Contents) (element : Element) → HasOperands m element
-    → IfSome (label_number element) (λ number. number ≤ most_labels)
+    → IfSome (label_number element) (λ number. number ≤ label_limit)
 small_label m (Open at) h = tt
 small_label m (Closed at) h = tt
 small_label m (Rise at) h = tt
@@ -86,33 +87,33 @@ small_label m (Math op top mid low) h = tt
 small_label m (Move op top mid length) h = tt
 small_label m (Matrix op top mid length) h = tt
 small_label m (Skip count) h = tt
-small_label m (Label number) h = within_length most_labels number h.values
+small_label m (Label number) h = within_length label_limit number h.values
 small_label m (Call number) h = tt
 small_label m Return h = tt
 small_label m (Mstr control area length) h = tt
 
 -- the first of a column's cells that passes a test
 choice_small : (b : Bool) (op : Op) (rest : Option Op)
-    → IfSome (label_number op.element) (λ number. number ≤ most_labels)
-    → IfSome (label_of_op rest) (λ number. number ≤ most_labels)
-    → IfSome (label_of_op (cond b (Some op) rest)) (λ number. number ≤ most_labels)
+    → IfSome (label_number op.element) (λ number. number ≤ label_limit)
+    → IfSome (label_of_op rest) (λ number. number ≤ label_limit)
+    → IfSome (label_of_op (cond b (Some op) rest)) (λ number. number ≤ label_limit)
 choice_small true op rest here later = here
 choice_small false op rest here later = later
 
 ops_small : (m : Contents) (test : Op → Bool) (ops : List Op)
     → AllByRecursion (λ op. HasOperands m op.element) ops
-    → IfSome (label_of_op (find test ops)) (λ number. number ≤ most_labels)
+    → IfSome (label_of_op (find test ops)) (λ number. number ≤ label_limit)
 ops_small m test [] all = tt
 ops_small m test (op ∷ ops) all = choice_small (test op) op (find test ops)
     (small_label m op.element all.0) (ops_small m test ops all.1)
 
 columns_small : (m : Contents) (columns : List Column) → EachOfColumns (HasOperands m) columns
-    → IfSome (label_in_columns columns) (λ number. number ≤ most_labels)
+    → IfSome (label_in_columns columns) (λ number. number ≤ label_limit)
 columns_small m [] all = tt
 columns_small m (laid ∷ columns) all = ops_small m (λ op. op.row == 1) laid.ops all.0
 
 grids_small : (m : Contents) (grids : List Grid) → EachOfGrids (HasOperands m) grids
-    → AllByRecursion (λ grid. IfSome (label_in grid) (λ number. number ≤ most_labels)) grids
+    → AllByRecursion (λ grid. IfSome (label_in grid) (λ number. number ≤ label_limit)) grids
 grids_small m [] all = tt
 grids_small m (grid ∷ grids) all = (columns_small m grid.columns all.0, grids_small m grids all.1)
 

@@ -16,6 +16,7 @@ use Rattle.ladder_solver.specs.declared.layout.Spot.{Spot}
 use Rattle.ladder_solver.specs.declared.program.Span.{Span}
 use Rattle.ladder_solver.specs.declared.program.Program.TheInside.{Inside}
 use Rattle.ladder_solver.specs.Layout.{spots_of}
+use Rattle.plant_types.specs.Slots.{label_limit}
 use Rattle.plant_types.specs.Standing.{message_limit}
 use Rattle.ladder_solver.specs.Numbers.{mstr_count, networks_of}
 use Rattle.ladder_solver.specs.Subroutine.{label_number, Subroutine, subroutine_of}
@@ -32,15 +33,11 @@ label_in_columns (laid ∷ columns) = label_of_op (op_at laid.ops 1)
 abbrev pub label_in : Grid → Option ℕ
 label_in grid = label_in_columns grid.columns
 
--- The largest number of a LAB. This project's own.
-abbrev pub most_labels : ℕ
-most_labels = 255
-
 -- Each LAB has a number that is not above the largest. This project's own.
 abbrev pub HasLabels : List (List Grid) → Type 0
 HasLabels segments =
     AllByRecursion
-    (AllByRecursion (λ grid. IfSome (label_in grid) (λ number. number ≤ most_labels))) segments
+    (AllByRecursion (λ grid. IfSome (label_in grid) (λ number. number ≤ label_limit))) segments
 
 -- What a program asks of its grids: their form, the numbers of their LABs, and no more MSTR blocks
 -- than a controller can have. This project's own.

@@ -5,6 +5,5 @@ pub mod Coming
 pub mod Starting
 pub mod Closing
 pub mod Ran
-pub mod EndSpent
 pub mod Tending
 pub mod Crossed

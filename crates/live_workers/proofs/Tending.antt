@@ -26,11 +26,10 @@ use Rattle.bridge_port.specs.Stands.{EndIsReady, own_bridge}
 use Rattle.bridge_port.proofs.Standings.{ready-new, ties-ring}
 use Rattle.turn_laws.specs.KeepsOn.{NoneSpent}
 use Rattle.turn_laws.proofs.Holders.{member-there}
-use Rattle.end_laws.specs.Laws.{EndTurnsKeepOn}
+use Rattle.end_laws.specs.Laws.{EndTurnsKeepOn, EndTurnsSpendNothing}
 use Rattle.end_laws.proofs.Others.{end-others, end-starts}
 use Rattle.live_workers.specs.Bridging.{TendsOn}
 use Rattle.live_workers.specs.Stations.{IsUnusedEnd}
-use Rattle.live_workers.proofs.EndSpent.{end-spends}
 use Rattle.live_workers.proofs.Keeping.{here-kept, others-only}
 use Rattle.live_workers.proofs.Starting.{low-member, low-members, serves-as}
 
@@ -127,15 +126,16 @@ may-hold {P} {Q} alone w n bridge list side side' ring ring' worker same went le
       };
     })
 
-tends-next : {P Q : Type 0} (law : EndTurnsKeepOn) (alone alone' : Bool) (n : ℕ)
+tends-next : {P Q : Type 0} (law : EndTurnsKeepOn) (spends : EndTurnsSpendNothing)
+    (alone alone' : Bool) (n : ℕ)
     (bridge bridge' : BridgeSideIs P) (list list' : List BridgeEntry) (side side' : RingSideIs Q)
     (ring ring' : List RingEntry) (left : Bool) → bridge' ≡ bridge → side' ≡ side
     → HoldsEndTurn alone alone' bridge.plan side.net n false list list' ring ring' left
     → EndTies n bridge' list' side' ring' → (left ≡ false → IsOpenEnd bridge'.plan list' n)
     → (left ≡ false → IsHere side'.net ring' n) → TendsOn n bridge list side ring false
     → TendsOn n bridge' list' side' ring' left
-tends-next {P} {Q} law alone alone' n bridge bridge' list list' side side' ring ring' left same
-    same' turn ties open_end here t =
+tends-next {P} {Q} law spends alone alone' n bridge bridge' list list' side side' ring ring' left
+    same same' turn ties open_end here t =
     let plan = bridge.plan in
     let net = side.net in
     let now : EndTies n bridge list' side ring' =
@@ -148,7 +148,7 @@ tends-next {P} {Q} law alone alone' n bridge bridge' list list' side side' ring 
       is_open = λ stays. subst (λ (b : BridgeSideIs P). IsOpenEnd b.plan list' n) same
           (open_end stays);
       here = λ stays. subst (λ (s : RingSideIs Q). IsHere s.net ring' n) same' (here stays);
-      unspent = end-spends alone alone' plan net n left list list' ring ring' t.ties.on turn
+      unspent = spends alone alone' plan net n left list list' ring ring' t.ties.on turn
           t.unspent;
       keeps = law alone alone' plan net n false left list list' ring ring' t.plan (t.is_open refl)
           turn (ties-at n bridge (own_bridge plan) list side (own_side net) ring refl refl tt tt
@@ -157,7 +157,8 @@ tends-next {P} {Q} law alone alone' n bridge bridge' list list' side side' ring 
     }))
 
 -- a hold that was made, whatever it answered
-pub tends-held : {P Q X : Type 0} (law : EndTurnsKeepOn) (alone alone' : Bool)
+pub tends-held : {P Q X : Type 0} (law : EndTurnsKeepOn) (spends : EndTurnsSpendNothing)
+    (alone alone' : Bool)
     (w : BridgeWorkerIs) (n : ℕ) (bridge bridge' : BridgeSideIs P)
     (list list' : List BridgeEntry) (side side' : RingSideIs Q) (ring ring' : List RingEntry)
     (r : Result Bool X) → w ≡ record { side = n; budget = false } → bridge' ≡ bridge
@@ -167,14 +168,15 @@ pub tends-held : {P Q X : Type 0} (law : EndTurnsKeepOn) (alone alone' : Bool)
     → IfOk r (λ left. left ≡ false → IsOpenEnd bridge'.plan list' w.side)
     → IfOk r (λ left. left ≡ false → IsHere side'.net ring' w.side)
     → TendsOn n bridge list side ring false → IfOk r (TendsOn n bridge' list' side' ring')
-tends-held law alone alone' w n bridge bridge' list list' side side' ring ring' (Ok left) worker
-    same same' held ties open_end here t =
-    tends-next law alone alone' n bridge bridge' list list' side side' ring ring' left same same'
+tends-held law spends alone alone' w n bridge bridge' list list' side side' ring ring' (Ok left)
+    worker same same' held ties open_end here t =
+    tends-next law spends alone alone' n bridge bridge' list list' side side' ring ring' left same
+    same'
     (subst (λ (v : BridgeWorkerIs). HoldsEndTurn alone alone' bridge.plan side.net v.side v.budget
     list list' ring ring' left) worker held)
     (subst (λ (v : BridgeWorkerIs). EndTies v.side bridge' list' side' ring') worker ties)
     (λ stays. subst (λ (v : BridgeWorkerIs). IsOpenEnd bridge'.plan list' v.side) worker
     (open_end stays))
     (λ stays. subst (λ (v : BridgeWorkerIs). IsHere side'.net ring' v.side) worker (here stays)) t
-tends-held law alone alone' w n bridge bridge' list list' side side' ring ring' (Err why) worker
-    same same' held ties open_end here t = tt
+tends-held law spends alone alone' w n bridge bridge' list list' side side' ring ring' (Err why)
+    worker same same' held ties open_end here t = tt

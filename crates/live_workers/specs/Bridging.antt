@@ -1,9 +1,11 @@
--- What the workers of the ends of a bridge keep from turn to turn, and the bridge's gate behind both
--- of them. This project's own.
+-- What the workers of the ends of a bridge keep from turn to turn, and the bridge's gate behind
+-- both of them. This project's own.
 use Rattle.std.specs.Prelude.{◌≡◌, ℕ, Bool, true, false, List, [], ◌∷◌, Some}
 use Rattle.turn_gate.specs.Known.{GateFacts, HasAllBack, IsOutside, PassFacts, made_by}
 use Rattle.plant_types.specs.declared.net.BridgePlan.{BridgePlan}
-use Rattle.plant_types.specs.Plans.{IsBridgePlan}
+use Rattle.plant_types.specs.declared.plan.Plant.{Plant}
+use Rattle.plant_types.specs.Plans.{IsBridgePlan, net_of}
+use Rattle.ring_core.specs.Legal.{IsMember}
 use Rattle.ring_core.specs.declared.entry.RingEntry.{RingEntry}
 use Rattle.bridge_relay.specs.declared.entry.BridgeEntry.{BridgeEntry}
 use Rattle.bridge_relay.specs.Legal.{IsOpenEnd}
@@ -31,6 +33,11 @@ pub record TendsOn {P Q : Type 0} (n : ℕ) (bridge : BridgeSideIs P) (list : Li
   pub here : left ≡ false → IsHere side.net ring n
   pub unspent : NoneSpent (own n ring)
   pub keeps : EndKeepsOn bridge.plan side.net n list ring left
+
+-- Both ends of a bridge are members of their networks.
+abbrev pub AreEndsMembers : Plant → BridgePlan → Type 0
+AreEndsMembers plant plan = IsMember (net_of plant plan.left) plan.left
+    × IsMember (net_of plant plan.right) plan.right
 
 module _ {B P R Q : Type 0} (b : bridge_sides.Ghosts B P) (r : ring_sides.Ghosts R Q) where
   -- It stands there at these two sides.

@@ -138,6 +138,15 @@ abbrev pub AreHostsFresh : {S Q : Type 0} → (S → RingSideIs Q) → (S → Li
 AreHostsFresh side known plant plans stations =
     AreFresh side known plant (λ plan. plan.node) plans stations
 
+-- The controllers and hosts of a plant can run, and their stations have not.
+pub record AreNodesReady {S Q : Type 0} (side : S → RingSideIs Q) (known : S → List RingEntry)
+    (plant : Plant) (scans : ℕ) (stations : List (Station S NotedLog))
+    (host_stations : List (Station S HostLog)) : Type 0 where
+  pub can_run : CanRunAll plant scans plant.controllers
+  pub can_serve : CanServeAll plant.hosts
+  pub fresh : AreControllersFresh side known plant plant.controllers stations
+  pub fresh_hosts : AreHostsFresh side known plant plant.hosts host_stations
+
 -- The stations of these controllers have run, and their sides are the same.
 abbrev pub AllRan : {S Q : Type 0} → (S → RingSideIs Q) → (S → List RingEntry) → Plant → ℕ
     → List ControllerPlan → List (Station S NotedLog) → List (Station S NotedLog) → Type 0
@@ -165,6 +174,12 @@ abbrev pub AreBridgesFresh : {S Q : Type 0} → (S → RingSideIs Q) → (S → 
     → List BridgePlan → List (Station (Ends S) BridgeLog) → Type 0
 AreBridgesFresh side known plant plans stations =
     AllZip (IsBridgeFresh side known plant) plans stations
+
+-- The bridges of a plant can run, and their stations have not.
+pub record AreBridgesReady {S Q : Type 0} (side : S → RingSideIs Q) (known : S → List RingEntry)
+    (plant : Plant) (stations : List (Station (Ends S) BridgeLog)) : Type 0 where
+  pub plans : AreBridgePlans plant.bridges
+  pub fresh : AreBridgesFresh side known plant plant.bridges stations
 
 -- Where a station has a history, both ends of its bridge came to their ends.
 abbrev pub BridgeHasRun : {S : Type 0} → (S → List RingEntry) → Plant → BridgePlan

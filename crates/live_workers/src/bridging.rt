@@ -4,17 +4,17 @@ ghost use Rattle.std.specs.Thread.{IsSync};
 ghost use Rattle.turn_gate.specs.Known.{first_pass};
 ghost use Rattle.plant_types.specs.Plans.{IsBridgePlan, net_of};
 ghost use Rattle.ring_core.specs.Legal.{IsMember};
-ghost use Rattle.live_workers.specs.Bridging.{AreBothBack, TendsAt, TendsOver, bridge_side};
+ghost use Rattle.live_workers.specs.Bridging.{AreBothBack, AreEndsMembers, TendsAt, TendsOver};
+ghost use Rattle.live_workers.specs.Bridging.{bridge_side};
 ghost use Rattle.live_workers.specs.Stations.{BridgeCameToEnd, IsUnusedEnd, ends_side};
 
 use crate::crews::Run;
-use crate::nets::net_of;
 use crate::pauses::Pause;
 use crate::stations::Ends;
 use bridge_port::{BridgeSide, BridgeWorker};
 use bridge_relay::Bridge;
 use comm_port::RingSide;
-use end_laws::end_turns_keep_on;
+use end_laws::{end_turns_keep_on, end_turns_spend_nothing};
 use gated_sides::{BridgeCell, GatedBridge, Meet, Outside};
 use joint_history::BridgeLog;
 use plant_types::BridgePlan;
@@ -39,6 +39,7 @@ fn take_turn<B: BridgeSide, G: RingSide + Outside>(
     ensures ring_same { G.side ring.new ≡ G.side ring.old }
 {
     end_turns_keep_on();
+    end_turns_spend_nothing();
     if !ring.may_hold(side) {
         return Ok(false);
     }
@@ -95,7 +96,7 @@ fn run_end<B: BridgeSide, G: RingSide + Outside, M: Meet, R: Wait + Clock>(
     ensures bridge_same { B.bridge bridge.new ≡ B.bridge bridge.old }
     ensures ring_same { G.side ring.new ≡ G.side ring.old }
 {
-    let net = net_of(run.plant, side);
+    let net = run.plant.own_net(side);
     let Ok(mut worker) = BridgeWorker::new(run.alloc, side, net, false) else {
         run.crew.raise();
         return false;
@@ -112,8 +113,7 @@ fn run_ends<'a, 'b, G: RingSide + Outside + Send, M: Meet + Sync, R: Threads + W
     near: &mut G,
     far: &mut G,
 ) -> (bool, bool)
-    requires left_member { IsMember (net_of run.now.plant.now plan.now.left) plan.now.left }
-    requires right_member { IsMember (net_of run.now.plant.now plan.now.right) plan.now.right }
+    requires members { AreEndsMembers run.now.plant.now plan.now }
     requires left { TendsAt G.RingSide plan.now.left left.old near.old false }
     requires right { TendsAt G.RingSide plan.now.right right.old far.old false }
     ensures left { result.0 ≡ true → TendsAt G.RingSide plan.now.left left.new near.new true }
@@ -178,11 +178,11 @@ fn through_gate<G: RingSide + Outside + Send, M: Meet + Sync, R: Threads + Wait 
 }
 
 /// The history of a bridge both of whose ends ran behind its gate to their ends.
-pub fn run_bridge<G: RingSide + Outside + Send, M: Meet + Sync, R: Threads + Wait + Clock + Sync>(
-    run: &Run<'_, M, R>,
-    plan: &BridgePlan,
-    ends: &mut Ends<G>,
-) -> Result<BridgeLog, AllocError>
+pub(crate) fn run_bridge<
+    G: RingSide + Outside + Send,
+    M: Meet + Sync,
+    R: Threads + Wait + Clock + Sync,
+>(run: &Run<'_, M, R>, plan: &BridgePlan, ends: &mut Ends<G>) -> Result<BridgeLog, AllocError>
     requires plan { IsBridgePlan plan.now }
     requires left { IsUnusedEnd run.now.plant.now plan.now.left (G.side ends.old.left)
         (G.known ends.old.left) }

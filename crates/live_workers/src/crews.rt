@@ -75,18 +75,18 @@ impl Crew {
     }
 
     /// A worker begins, with a watch of its own.
-    pub fn begin(&self) -> Watch<'_> {
+    pub(crate) fn begin(&self) -> Watch<'_> {
         self.begun.fetch_add(1, Ordering::SeqCst);
         self.flag.watch()
     }
 
     /// All workers have begun.
-    pub fn is_whole(&self) -> bool {
+    pub(crate) fn is_whole(&self) -> bool {
         self.begun.load(Ordering::SeqCst) >= self.workers
     }
 
     /// Tells all workers that one has given up.
-    pub fn raise(&self) {
+    pub(crate) fn raise(&self) {
         self.flag.raise();
     }
 }

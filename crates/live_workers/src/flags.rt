@@ -40,7 +40,7 @@ impl Play<u64, u64> for Raise {
 /// A flag that is raised once and never lowered. Each worker reads it before each step, turn and
 /// wait, so that none waits for one that has given up.
 #[derive(Drop)]
-pub struct Flag {
+pub(crate) struct Flag {
     table: Table<u64, u64, u64, OnlyRises, Global>,
 }
 
@@ -57,7 +57,7 @@ impl Model for Flag {
 
 /// What a worker knows of a flag: 1 where it saw it raised, and else 0.
 #[derive(Drop)]
-pub struct Watch<'a> {
+pub(crate) struct Watch<'a> {
     flag: &'a Flag,
     seat: Seat<u64, u64>,
 }
@@ -73,18 +73,20 @@ impl<'a> Model for Watch<'a> {
 }
 
 impl Flag {
-    pub fn new(alloc: Global) -> Result<Flag, AllocError> {
+    /// A flag that is not raised. The only error is that memory ran out.
+    pub(crate) fn new(alloc: Global) -> Result<Flag, AllocError> {
         let (table, _) = Table::of_words(alloc, &[0], &0)?;
         Ok(Flag { table })
     }
 
     /// A worker's own view of it.
-    pub fn watch(&self) -> Watch<'_> {
+    pub(crate) fn watch(&self) -> Watch<'_> {
         let (_, seat) = self.table.shared.load_new_seat::<Look>(WORD);
         Watch { flag: self, seat }
     }
 
-    pub fn raise(&self) {
+    /// Tells all workers that one has given up.
+    pub(crate) fn raise(&self) {
         let mut watch = self.watch();
         watch.raise();
     }
@@ -92,7 +94,7 @@ impl Flag {
 
 impl<'a> Watch<'a> {
     /// Whoever saw the flag raised finds it raised.
-    pub fn is_raised(&mut self) -> bool
+    pub(crate) fn is_raised(&mut self) -> bool
         ensures stays { 0 < self.old → result ≡ true }
         ensures sees { result ≡ true → 0 < self.new }
     {
@@ -100,7 +102,8 @@ impl<'a> Watch<'a> {
         flag.table.shared.load::<Look>(&mut self.seat, WORD) != 0
     }
 
-    pub fn raise(&mut self)
+    /// Raises the flag, and knows it.
+    pub(crate) fn raise(&mut self)
         ensures { 0 < self.new }
     {
         let flag = self.flag;

@@ -5,7 +5,6 @@ ghost use Rattle.live_workers.specs.Stations.{IsUnused, HostCameToEnd};
 ghost use Rattle.live_workers.specs.Talking.{AttendsOn};
 
 use crate::crews::{Crew, Run};
-use crate::nets::net_of;
 use crate::pauses::Pause;
 use comm_port::{HostWorker, RingSide};
 use gated_sides::{Meet, Outside};
@@ -44,7 +43,7 @@ fn take_turn<G: RingSide + Outside>(
 }
 
 /// Makes hold turns until the node has left; whether it came so far.
-pub fn attend<G: RingSide + Outside, R: Wait + Clock>(
+pub(crate) fn attend<G: RingSide + Outside, R: Wait + Clock>(
     rt: &R,
     crew: &Crew,
     node: u8,
@@ -78,7 +77,7 @@ pub fn attend<G: RingSide + Outside, R: Wait + Clock>(
 }
 
 /// The history of a host that ran to its end.
-pub fn run_host<G: RingSide + Outside, M: Meet, R: Wait + Clock>(
+pub(crate) fn run_host<G: RingSide + Outside, M: Meet, R: Wait + Clock>(
     run: &Run<'_, M, R>,
     plan: &HostPlan,
     ring: &mut G,
@@ -90,7 +89,7 @@ pub fn run_host<G: RingSide + Outside, M: Meet, R: Wait + Clock>(
         (λ log. HostCameToEnd run.now.plant.now plan.now log (G.known ring.new)) }
     ensures side { G.side ring.new ≡ G.side ring.old }
 {
-    let net = net_of(run.plant, plan.node);
+    let net = run.plant.own_net(plan.node);
     let mut host = Host::new(run.alloc, plan, net)?;
     let mut worker = HostWorker::new(run.alloc, plan.node, net, false)?;
     if !attend(run.rt, run.crew, plan.node, &mut worker, &mut host, ring) {

@@ -5,7 +5,6 @@ mod bridging;
 mod crews;
 mod flags;
 mod hosting;
-mod nets;
 mod pairs;
 mod pauses;
 mod scanning;

@@ -7,7 +7,6 @@ ghost use Rattle.live_workers.specs.Pairs.{IsBack, StaysAt, TalksAt, TalksFirst}
 ghost use Rattle.live_workers.specs.Stations.{CanRun, IsUnused, CameNoted};
 
 use crate::crews::Run;
-use crate::nets::net_of;
 use crate::scanning::scan_all;
 use crate::stations::NotedLog;
 use crate::talking::{Stage, talk};
@@ -91,7 +90,7 @@ fn through_gate<G: RingSide + Outside + Send, M: Meet + Sync, R: Threads + Wait 
 }
 
 /// The history and the notes of a controller that ran behind a gate to its end.
-pub fn run_controller<
+pub(crate) fn run_controller<
     G: RingSide + Outside + Send,
     M: Meet + Sync,
     R: Threads + Wait + Clock + Sync,
@@ -105,7 +104,7 @@ pub fn run_controller<
 {
     let plant = run.plant;
     let controller = Controller::new(run.alloc, plan, plant.scan_time, plant.watchdog, run.scans)?;
-    let net = net_of(plant, plan.node);
+    let net = plant.own_net(plan.node);
     let mut worker = CommWorker::new(run.alloc, plan.node, net, false)?;
     let (gate, zero) = Gate::new(run.alloc, RamCell::new(controller))?;
     let (zero, done) = through_gate(run, &gate, zero, &mut worker, ring, plan.node);

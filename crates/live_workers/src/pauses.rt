@@ -18,14 +18,15 @@ const A_WAIT: u64 = 1;
 
 /// Waits longer and longer, as long as turns do nothing.
 #[derive(Drop)]
-pub struct Pause {
+pub(crate) struct Pause {
     backoff: Backoff,
     entries: u64,
     waits: u32,
 }
 
 impl Pause {
-    pub fn new() -> Pause {
+    /// A worker that has not waited yet.
+    pub(crate) fn new() -> Pause {
         Pause {
             backoff: Backoff::new(),
             entries: 0,
@@ -35,7 +36,13 @@ impl Pause {
 
     /// Waits, unless the worker made entries of the ring besides its Pass since the last time. It
     /// does not wait for a worker that has given up, and raises the flag where others do not begin.
-    pub fn rest<C: Clock>(&mut self, clock: &C, crew: &Crew, watch: &mut Watch<'_>, entries: u64) {
+    pub(crate) fn rest<C: Clock>(
+        &mut self,
+        clock: &C,
+        crew: &Crew,
+        watch: &mut Watch<'_>,
+        entries: u64,
+    ) {
         let made = entries.wrapping_sub(self.entries);
         self.entries = entries;
         if made > 1 {
@@ -59,18 +66,19 @@ impl Pause {
 
 /// Since when a scan worker has not let others go first.
 #[derive(Drop)]
-pub struct Stint {
+pub(crate) struct Stint {
     since: Option<Instant>,
 }
 
 impl Stint {
-    pub fn new() -> Stint {
+    /// A scan worker that has not let others go first yet.
+    pub(crate) fn new() -> Stint {
         Stint { since: None }
     }
 
     /// A scan has ended: others go first, unless they did a short while before. Where no clock can
     /// be read they go first after each scan.
-    pub fn scan_ended<C: Clock>(&mut self, clock: &C) {
+    pub(crate) fn scan_ended<C: Clock>(&mut self, clock: &C) {
         if self.is_over(clock) {
             yield_now();
             self.since = Instant::now(clock).ok();

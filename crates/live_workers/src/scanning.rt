@@ -52,7 +52,7 @@ fn step_in<M: Meet, R: Wait>(
 }
 
 /// Makes events until all scans are gone or the controller has stopped; whether it came so far.
-pub fn scan_all<M: Meet, R: Wait + Clock>(
+pub(crate) fn scan_all<M: Meet, R: Wait + Clock>(
     rt: &R,
     crew: &Crew,
     meet: &M,

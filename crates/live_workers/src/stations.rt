@@ -6,6 +6,7 @@ ghost use Rattle.live_workers.specs.Stations.{IsFresh, AreControllersFresh, AreH
 ghost use Rattle.live_workers.specs.Stations.{HasRun, HostHasRun, AllRan, AllServed};
 ghost use Rattle.live_workers.specs.Stations.{CanRun, CanRunAll, CanServeAll, AreBridgePlans};
 ghost use Rattle.live_workers.specs.Stations.{AllCrossed, AreBridgesFresh, BridgeHasRun};
+ghost use Rattle.live_workers.specs.Stations.{AreBridgesReady, AreNodesReady};
 ghost use Rattle.live_workers.specs.Stations.{IsBridgeFresh, ends_side};
 
 use crate::bridging::run_bridge;
@@ -21,8 +22,8 @@ use std::sync::Wait;
 use std::thread::{Threads, join_mut};
 use std::time::Clock;
 
-/// A station: its side of its ring, or both sides of a bridge, and its closed history once it ran to
-/// its end.
+/// A station: its side of its ring, or both sides of a bridge, and its closed history once it ran
+/// to its end.
 pub struct Station<G, L> {
     pub ring: G,
     pub log: Option<L>,
@@ -43,7 +44,7 @@ pub struct NotedLog {
 
 /// Runs the controllers of these plans, each at the station beside its plan.
 #[cycle(controllers)]
-pub fn run_controllers<
+pub(crate) fn run_controllers<
     G: RingSide + Outside + Send,
     M: Meet + Sync,
     R: Threads + Wait + Clock + Sync,
@@ -125,11 +126,11 @@ fn run_halves<G: RingSide + Outside + Send, M: Meet + Sync, R: Threads + Wait + 
 
 /// Runs the hosts of these plans, each at the station beside its plan.
 #[cycle(hosts)]
-pub fn run_hosts<G: RingSide + Outside + Send, M: Meet + Sync, R: Threads + Wait + Clock + Sync>(
-    run: &Run<'_, M, R>,
-    plans: &[HostPlan],
-    stations: &mut [Station<G, HostLog>],
-)
+pub(crate) fn run_hosts<
+    G: RingSide + Outside + Send,
+    M: Meet + Sync,
+    R: Threads + Wait + Clock + Sync,
+>(run: &Run<'_, M, R>, plans: &[HostPlan], stations: &mut [Station<G, HostLog>])
     requires runnable { CanServeAll plans.now }
     requires fresh { AreHostsFresh G.side G.known run.now.plant.now plans.now stations.old }
     ensures { AllServed G.side G.known run.now.plant.now plans.now stations.old stations.new }
@@ -200,11 +201,11 @@ fn run_host_halves<G: RingSide + Outside + Send, M: Meet + Sync, R: Threads + Wa
 
 /// Runs these bridges, each at the station beside its plan.
 #[cycle(bridges)]
-pub fn run_bridges<G: RingSide + Outside + Send, M: Meet + Sync, R: Threads + Wait + Clock + Sync>(
-    run: &Run<'_, M, R>,
-    plans: &[BridgePlan],
-    stations: &mut [Station<Ends<G>, BridgeLog>],
-)
+pub(crate) fn run_bridges<
+    G: RingSide + Outside + Send,
+    M: Meet + Sync,
+    R: Threads + Wait + Clock + Sync,
+>(run: &Run<'_, M, R>, plans: &[BridgePlan], stations: &mut [Station<Ends<G>, BridgeLog>])
     requires runnable { AreBridgePlans plans.now }
     requires fresh { AreBridgesFresh G.side G.known run.now.plant.now plans.now stations.old }
     ensures { AllCrossed G.side G.known run.now.plant.now plans.now stations.old stations.new }
@@ -277,23 +278,21 @@ fn run_bridge_halves<
     );
 }
 
-/// Runs all controllers and all hosts.
+/// Runs all controllers and all hosts of a plant.
 fn run_nodes<G: RingSide + Outside + Send, M: Meet + Sync, R: Threads + Wait + Clock + Sync>(
     run: &Run<'_, M, R>,
-    plans: &[ControllerPlan],
-    host_plans: &[HostPlan],
     controllers: &mut [Station<G, NotedLog>],
     hosts: &mut [Station<G, HostLog>],
 )
-    requires runnable { CanRunAll run.now.plant.now run.now.scans plans.now }
-    requires serving { CanServeAll host_plans.now }
-    requires fresh { AreControllersFresh G.side G.known run.now.plant.now plans.now
-        controllers.old }
-    requires fresh_hosts { AreHostsFresh G.side G.known run.now.plant.now host_plans.now hosts.old }
-    ensures controllers { AllRan G.side G.known run.now.plant.now run.now.scans plans.now
-        controllers.old controllers.new }
-    ensures hosts { AllServed G.side G.known run.now.plant.now host_plans.now hosts.old hosts.new }
+    requires ready { AreNodesReady G.side G.known run.now.plant.now run.now.scans
+        controllers.old hosts.old }
+    ensures controllers { AllRan G.side G.known run.now.plant.now run.now.scans
+        run.now.plant.now.controllers controllers.old controllers.new }
+    ensures hosts { AllServed G.side G.known run.now.plant.now run.now.plant.now.hosts
+        hosts.old hosts.new }
 {
+    let plans = run.plant.controllers.as_slice();
+    let host_plans = run.plant.hosts.as_slice();
     join_mut(
         run.rt,
         &mut ||
@@ -323,15 +322,9 @@ pub fn run_all<G: RingSide + Outside + Send, M: Meet + Sync, R: Threads + Wait +
     hosts: &mut [Station<G, HostLog>],
     bridges: &mut [Station<Ends<G>, BridgeLog>],
 )
-    requires runnable { CanRunAll run.now.plant.now run.now.scans run.now.plant.now.controllers }
-    requires serving { CanServeAll run.now.plant.now.hosts }
-    requires crossing { AreBridgePlans run.now.plant.now.bridges }
-    requires fresh { AreControllersFresh G.side G.known run.now.plant.now
-        run.now.plant.now.controllers controllers.old }
-    requires fresh_hosts { AreHostsFresh G.side G.known run.now.plant.now run.now.plant.now.hosts
-        hosts.old }
-    requires fresh_bridges { AreBridgesFresh G.side G.known run.now.plant.now
-        run.now.plant.now.bridges bridges.old }
+    requires nodes { AreNodesReady G.side G.known run.now.plant.now run.now.scans
+        controllers.old hosts.old }
+    requires bridges { AreBridgesReady G.side G.known run.now.plant.now bridges.old }
     ensures controllers { AllRan G.side G.known run.now.plant.now run.now.scans
         run.now.plant.now.controllers controllers.old controllers.new }
     ensures hosts { AllServed G.side G.known run.now.plant.now run.now.plant.now.hosts
@@ -339,31 +332,25 @@ pub fn run_all<G: RingSide + Outside + Send, M: Meet + Sync, R: Threads + Wait +
     ensures bridges { AllCrossed G.side G.known run.now.plant.now run.now.plant.now.bridges
         bridges.old bridges.new }
 {
-    let plans = run.plant.controllers.as_slice();
-    let host_plans = run.plant.hosts.as_slice();
-    let bridge_plans = run.plant.bridges.as_slice();
+    let plans = run.plant.bridges.as_slice();
     join_mut(
         run.rt,
         &mut ||
             requires sync { IsSync R.row × IsSync M.row }
-            requires runnable { CanRunAll run.now.plant.now run.now.scans plans.now }
-            requires serving { CanServeAll host_plans.now }
-            requires fresh { AreControllersFresh G.side G.known run.now.plant.now plans.now
-                controllers.now }
-            requires fresh_hosts { AreHostsFresh G.side G.known run.now.plant.now host_plans.now
-                hosts.now }
+            requires ready { AreNodesReady G.side G.known run.now.plant.now run.now.scans
+                controllers.now hosts.now }
             ensures controllers { AllRan G.side G.known run.entry.now.plant.now run.entry.now.scans
-                plans.entry.now controllers.entry.now controllers.exit.now }
-            ensures hosts { AllServed G.side G.known run.entry.now.plant.now host_plans.entry.now
-                hosts.entry.now hosts.exit.now }
-        { run_nodes(run, plans, host_plans, controllers, hosts) },
+                run.entry.now.plant.now.controllers controllers.entry.now controllers.exit.now }
+            ensures hosts { AllServed G.side G.known run.entry.now.plant.now
+                run.entry.now.plant.now.hosts hosts.entry.now hosts.exit.now }
+        { run_nodes(run, controllers, hosts) },
         &mut ||
             requires sync { IsSync R.row × IsSync M.row }
-            requires crossing { AreBridgePlans bridge_plans.now }
-            requires fresh { AreBridgesFresh G.side G.known run.now.plant.now bridge_plans.now
+            requires runnable { AreBridgePlans plans.now }
+            requires fresh { AreBridgesFresh G.side G.known run.now.plant.now plans.now
                 bridges.now }
-            ensures { AllCrossed G.side G.known run.entry.now.plant.now bridge_plans.entry.now
+            ensures { AllCrossed G.side G.known run.entry.now.plant.now plans.entry.now
                 bridges.entry.now bridges.exit.now }
-        { run_bridges(run, bridge_plans, bridges) },
+        { run_bridges(run, plans, bridges) },
     );
 }

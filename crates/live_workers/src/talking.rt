@@ -16,7 +16,7 @@ use turn_laws::{
 
 /// How far a communication worker has come.
 #[derive(Clone, Copy, Debug, PartialEq, Eq)]
-pub enum Stage {
+pub(crate) enum Stage {
     /// Its node is in the ring, or asks to come in.
     There,
     /// Its node left as power failed.
@@ -120,7 +120,7 @@ fn go_on<M: RamSide, G: RingSide + Outside>(
 
 /// Makes turns until the node is out of the ring for good; whether it came so far. A worker without
 /// a budget leaves no call uncollected.
-pub fn talk<M: RamSide, G: RingSide + Outside, R: Wait + Clock>(
+pub(crate) fn talk<M: RamSide, G: RingSide + Outside, R: Wait + Clock>(
     rt: &R,
     crew: &Crew,
     node: u8,

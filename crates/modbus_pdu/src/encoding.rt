@@ -171,8 +171,9 @@ fn stats_reply(alloc: Global, words: &[u16]) -> Result<Pdu, AllocError>
     draft.finish(alloc)
 }
 
-/// The function with bit 7 set.
-pub(crate) fn exception_code(function: u8) -> u8
+/// The function code of an exception reply: that of the request with bit 7 set. Modicon Modbus
+/// Protocol Reference Guide.
+pub fn exception_code(function: u8) -> u8
     ensures { result ≡ exception_code function }
 {
     if function < 128 {

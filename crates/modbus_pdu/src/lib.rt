@@ -14,7 +14,7 @@ mod reply_decoding;
 mod request;
 
 pub use decoding::decode;
-pub use encoding::{encode_reply, encode_request};
+pub use encoding::{encode_reply, encode_request, exception_code};
 pub use end::{BadReply, DecodeEnd};
 pub use laws::{one_reply_spelling, one_request, request_is_spelled};
 pub use limits::{

@@ -12,7 +12,8 @@ use Rattle.plant_types.specs.declared.fault.Place.{Place}
 use Rattle.plant_types.specs.Sizes.{Sizes}
 use Rattle.plant_types.specs.Fault.{cell_place, at_place}
 use Rattle.plant_types.specs.PlanTests.{Site}
-use Rattle.plant_types.specs.Standing.{cells_before, is_label_of}
+use Rattle.plant_types.specs.declared.element.Element.TheVariants as elements
+use Rattle.plant_types.specs.Standing.{cells_before, repeats_label}
 use Rattle.cell_text.specs.declared.piece.Piece.{Piece}
 use Rattle.cell_text.specs.declared.piece.Piece.TheVariants.{Cell, Short}
 use Rattle.cell_text.specs.Steps.{◌>>=◌}
@@ -46,7 +47,7 @@ site_of sizes read = site_behind sizes read.count read.segments read.networks
 -- One of these cells is the LAB of a number; one of these networks, or of these segments, has it.
 -- This project's own.
 abbrev pub has_label_in : List plain_cells.Cell → ℕ → Bool
-has_label_in cells number = list_any (λ cell. is_label_of number cell.element) cells
+has_label_in cells number = repeats_label cells (elements.Label number)
 
 abbrev pub is_label_of_any : List Network → ℕ → Bool
 is_label_of_any networks number = list_any (λ network. has_label_in network.cells number) networks

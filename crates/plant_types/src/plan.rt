@@ -1,7 +1,7 @@
 //! The plan of a plant.
-ghost use Rattle.std.specs.Prelude.{◌≡◌, ◌≤◌, length, option_map};
+ghost use Rattle.std.specs.Prelude.{◌≡◌, ◌≤◌, Contains, length, option_map};
 ghost use Rattle.std.specs.List.{find};
-ghost use Rattle.plant_types.specs.Plans.{first_net, has_member};
+ghost use Rattle.plant_types.specs.Plans.{first_net, has_member, net_of};
 
 use crate::drops::IoDrop;
 use crate::list::List;
@@ -116,5 +116,16 @@ impl Plant {
             .as_slice()
             .iter()
             .find(|net| has_member(net, node))
+    }
+
+    /// The network of a node that is a member of one.
+    pub fn own_net(&self, node: u8) -> &NetPlan
+        requires member { Contains (net_of self.now node).members node }
+        ensures { result.now ≡ net_of self.now node }
+    {
+        match self.net_of(node) {
+            Some(net) => net,
+            None => unreachable!(),
+        }
     }
 }

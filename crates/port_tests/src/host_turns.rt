@@ -3,11 +3,11 @@ ghost use Rattle.std.specs.Prelude.{◌≡◌, ◌≢◌, false, true, [], ◌�
 ghost use Rattle.tied_lists.specs.Waits.{Holds};
 ghost use Rattle.comm_port.specs.HostStands.{HostIsReady};
 
-use crate::plans::host_plan;
+use crate::plans::{host_of, host_plan, net_of, ring_of};
 use comm_port::HostWorker;
 use host_port::{Host, HostEntry, HostResult};
-use plant_types::{Fate, HostPlan, List, NetPlan, is_host_plan};
-use ring_core::{FrameKind, Ring, RingEntry, is_net};
+use plant_types::{Fate, NetPlan};
+use ring_core::{FrameKind, Ring, RingEntry};
 use std::alloc::{AllocError, Global};
 use std::process::Abort;
 use std::test::Fail;
@@ -18,48 +18,6 @@ struct Station {
     host: Host,
     worker: HostWorker,
     left: bool,
-}
-
-/// A net of hosts 1 and 2.
-fn net_of(alloc: Global, fates: &[Fate]) -> Result<NetPlan, AllocError>
-    ensures members { IfOk result (λ net. net.members ≡ 1 ∷ 2 ∷ []) }
-    ensures alone { IfOk result (λ net. net.bridges ≡ []) }
-    ensures answer { IfOk result (λ net. net.answer ≡ 2) }
-{
-    Ok(NetPlan {
-        number: 0,
-        members: List::from_vec(Vec::from_slice(alloc, &[1, 2])?),
-        bridges: List::new(alloc),
-        fates: List::from_vec(Vec::from_slice(alloc, fates)?),
-        answer: 2,
-        rotations: 1,
-        rounds: 1,
-        holds: 9,
-    })
-}
-
-/// The ring of a net, on which nothing has happened.
-pub(crate) fn ring_of(rt: &impl Abort, alloc: Global, net: &NetPlan) -> Result<Ring, AllocError>
-    ensures net { IfOk result (λ ring. ring.net ≡ net.now) }
-    ensures empty { IfOk result (λ ring. ring.history ≡ []) }
-{
-    let can = is_net(net);
-    assert!(rt; can);
-    Ring::new(alloc, net)
-}
-
-/// The host of a plan, which has asked nothing.
-fn host_of(
-    rt: &impl Abort,
-    alloc: Global,
-    plan: &HostPlan,
-    net: &NetPlan,
-) -> Result<Host, AllocError>
-    ensures { IfOk result (λ host. host ≡ record { plan = plan.now; history = [] }) }
-{
-    let can = is_host_plan(plan);
-    assert!(rt; can);
-    Host::new(alloc, plan, net)
 }
 
 /// The station of a node that asks others for one register.
@@ -244,7 +202,7 @@ fn ring_tells(
     asks: (&[(u32, u8)], &[(u32, u8)]),
     told: (&[u8], u16),
 ) -> Result<bool, AllocError> {
-    let net = net_of(alloc, fates)?;
+    let net = net_of(alloc, &[1, 2], fates, 2, 9)?;
     let (text, end) = ring_text(rt, alloc, &net, asks.0, asks.1)?;
     Ok(text.as_slice() == told.0 && end == told.1)
 }

@@ -1,32 +1,25 @@
 //! A host with ample memory.
-use crate::plans::{host_plan, pdu_of};
+use crate::plans::{host_of, host_plan, net_of, pdu_of};
 use host_port::{Host, HostEntry, HostResult};
 use mstr_block::CallId;
-use plant_types::{List, NetPlan, Route, is_host_plan};
+use plant_types::{NetPlan, Route};
 use std::alloc::{AllocError, Global};
 use std::process::Abort;
 use std::test::Fail;
 
 /// A net that no host looks at.
-fn net_of(alloc: Global) -> NetPlan {
-    NetPlan {
-        number: 0,
-        members: List::new(alloc),
-        bridges: List::new(alloc),
-        fates: List::new(alloc),
-        answer: 20,
-        rotations: 4,
-        rounds: 2,
-        holds: 100,
-    }
+fn unseen_net(alloc: Global) -> Result<NetPlan, AllocError> {
+    let mut net = net_of(alloc, &[], &[], 20, 100)?;
+    net.rotations = 4;
+    net.rounds = 2;
+    Ok(net)
 }
 
 /// Host 1, which asks nodes for their device and has asked nothing yet.
-fn host_of(rt: &impl Abort, alloc: Global, asks: &[(u32, u8)]) -> Result<Host, AllocError> {
+fn asking_host(rt: &impl Abort, alloc: Global, asks: &[(u32, u8)]) -> Result<Host, AllocError> {
     let plan = host_plan(alloc, 1, asks, &[17])?;
-    let can = is_host_plan(&plan);
-    assert!(rt; can);
-    Host::new(alloc, &plan, &net_of(alloc))
+    let net = unseen_net(alloc)?;
+    host_of(rt, alloc, &plan, &net)
 }
 
 /// The name of a call of host 1.
@@ -59,7 +52,7 @@ fn answer(rt: &impl Abort, host: &mut Host, id: CallId) -> Result<(), AllocError
 
 #[test]
 fn asks_come_in_order_when_their_hold_has_come(rt: HostRuntime) -> Result<(), Fail> {
-    let mut host = host_of(&rt, rt.alloc(), &[(1, 5), (1, 6), (3, 5), (2, 7)])?;
+    let mut host = asking_host(&rt, rt.alloc(), &[(1, 5), (1, 6), (3, 5), (2, 7)])?;
     let rows = [
         (1, Some((5, 1, 1))),
         (1, Some((6, 2, 1))),
@@ -92,7 +85,7 @@ fn waits_with_the_fifth(rt: &impl Abort, host: &mut Host) -> Result<bool, AllocE
 
 #[test]
 fn the_fifth_ask_waits_for_an_answer(rt: HostRuntime) -> Result<(), Fail> {
-    let mut host = host_of(&rt, rt.alloc(), &[(1, 5), (1, 5), (1, 5), (1, 5), (1, 5)])?;
+    let mut host = asking_host(&rt, rt.alloc(), &[(1, 5), (1, 5), (1, 5), (1, 5), (1, 5)])?;
     assert!(rt; waits_with_the_fifth(&rt, &mut host)?);
     Ok(())
 }
@@ -108,14 +101,14 @@ fn is_done_behind_the_answer(rt: &impl Abort, host: &mut Host) -> Result<bool, A
 
 #[test]
 fn a_host_is_done_when_each_ask_has_its_answer(rt: HostRuntime) -> Result<(), Fail> {
-    let mut host = host_of(&rt, rt.alloc(), &[(1, 5)])?;
+    let mut host = asking_host(&rt, rt.alloc(), &[(1, 5)])?;
     assert!(rt; is_done_behind_the_answer(&rt, &mut host)?);
     Ok(())
 }
 
 #[test]
 fn a_host_without_an_ask_is_done(rt: HostRuntime) -> Result<(), Fail> {
-    let idle = host_of(&rt, rt.alloc(), &[])?;
+    let idle = asking_host(&rt, rt.alloc(), &[])?;
     assert!(rt; idle.is_done());
     Ok(())
 }
@@ -150,7 +143,7 @@ fn refuses_all(alloc: Global, host: &mut Host) -> Result<bool, AllocError> {
 #[test]
 fn whatever_a_host_is_asked_is_refused(rt: HostRuntime) -> Result<(), Fail> {
     let alloc = rt.alloc();
-    let mut host = host_of(&rt, alloc, &[])?;
+    let mut host = asking_host(&rt, alloc, &[])?;
     assert!(rt; refuses_all(alloc, &mut host)?);
     Ok(())
 }
@@ -197,7 +190,7 @@ fn follows(
 #[test]
 fn only_legal_entries_are_followed(rt: HostRuntime) -> Result<(), Fail> {
     let alloc = rt.alloc();
-    let mut host = host_of(&rt, alloc, &[(7, 5), (7, 5)])?;
+    let mut host = asking_host(&rt, alloc, &[(7, 5), (7, 5)])?;
     let rows = [
         (b'Q', call(2, 1), false),
         (b'Q', call(1, 1), true),

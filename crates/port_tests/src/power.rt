@@ -4,7 +4,7 @@ ghost use Rattle.tied_lists.specs.Waits.{Holds};
 ghost use Rattle.ring_core.specs.Legal.{IsMember};
 ghost use Rattle.port_tests.specs.PowerTests.{CanTurn};
 
-use crate::host_turns::ring_of;
+use crate::plans::{net_of, ring_of};
 use crate::power_words::text_of;
 use crate::turns::{controller_of, reader};
 use comm_port::{CommWorker, TurnEnd};
@@ -21,24 +21,6 @@ struct Station {
     controller: Controller,
     worker: CommWorker,
     away: bool,
-}
-
-/// A net of nodes 2 and 5, where a call waits for two Passes.
-fn net_of(alloc: Global) -> Result<NetPlan, AllocError>
-    ensures members { IfOk result (λ net. net.members ≡ 2 ∷ 5 ∷ []) }
-    ensures alone { IfOk result (λ net. net.bridges ≡ []) }
-    ensures answer { IfOk result (λ net. net.answer ≡ 2) }
-{
-    Ok(NetPlan {
-        number: 0,
-        members: List::from_vec(Vec::from_slice(alloc, &[2, 5])?),
-        bridges: List::new(alloc),
-        fates: List::from_vec(Vec::from_slice(alloc, &[Fate::D])?),
-        answer: 2,
-        rotations: 1,
-        rounds: 1,
-        holds: 20,
-    })
 }
 
 /// One step of a controller.
@@ -345,7 +327,7 @@ fn tells(
     script: &[u8],
     told: (&[u8], &[u8]),
 ) -> Result<bool, Fail> {
-    let net = net_of(alloc)?;
+    let net = net_of(alloc, &[2, 5], &[Fate::D], 2, 20)?;
     let now = tell(rt, alloc, &net, power, script)?;
     Ok(now.answers.as_slice() == told.0 && now.text.as_slice() == told.1)
 }

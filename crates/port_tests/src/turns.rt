@@ -5,6 +5,7 @@ ghost use Rattle.ring_core.specs.Machine.{addresses, ring_after};
 ghost use Rattle.joint_history.specs.Reading.{is_ours};
 ghost use Rattle.port_tests.specs.TurnTests.{HasFirst};
 
+use crate::plans::net_of;
 use comm_port::CommWorker;
 use controller_core::{Call, CallKind, Controller, Entry};
 use mstr_block::{CallId, MstrResult};
@@ -175,8 +176,13 @@ fn scan(controller: &mut Controller) -> Result<(), AllocError>
     Ok(())
 }
 
-/// Node 2 with others, all at these fates.
-fn net_of(alloc: Global, others: &[u8], fates: &[Fate], holds: u32) -> Result<NetPlan, AllocError>
+/// The net of node 2 with others, all at these fates.
+fn reader_net(
+    alloc: Global,
+    others: &[u8],
+    fates: &[Fate],
+    holds: u32,
+) -> Result<NetPlan, AllocError>
     ensures members { IfOk result (λ net. HasFirst 2 net.members) }
     ensures alone { IfOk result (λ net. net.bridges ≡ []) }
     ensures answer { IfOk result (λ net. net.answer ≡ 20) }
@@ -184,16 +190,8 @@ fn net_of(alloc: Global, others: &[u8], fates: &[Fate], holds: u32) -> Result<Ne
     let mut members = Vec::new(alloc);
     members.push(2)?;
     members.extend_from_slice(others)?;
-    Ok(NetPlan {
-        number: 0,
-        members: List::from_vec(members),
-        bridges: List::new(alloc),
-        fates: List::from_vec(Vec::from_slice(alloc, fates)?),
-        answer: 20,
-        rotations: 1,
-        rounds: 1,
-        holds,
-    })
+    let net = net_of(alloc, members.as_slice(), fates, 20, holds)?;
+    Ok(net)
 }
 
 /// One turn of a worker that begins.
@@ -413,7 +411,7 @@ fn turn_tells(
     holds: u32,
     told: (&[u8], &[u8], u16),
 ) -> Result<bool, Fail> {
-    let net = net_of(alloc, others, &[fate], holds)?;
+    let net = reader_net(alloc, others, &[fate], holds)?;
     let noted = first_turn(rt, alloc, &net)?;
     Ok(is_told(&noted, told.0, told.1, told.2))
 }

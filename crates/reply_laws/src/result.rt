@@ -4,7 +4,6 @@ ghost use Rattle.std.specs.Prelude.{◌≡◌, ◌+◌, ◌*◌, ◌≤◌, ◌<
 ghost use Rattle.std.specs.Prelude.{Some};
 ghost use Rattle.modbus_pdu.specs.Bytes.{word_in, words_in, bytes_for, spare_count};
 ghost use Rattle.modbus_pdu.specs.Quantities.{most_discretes_read};
-ghost use Rattle.modbus_pdu.specs.Spelling.{exception_code};
 ghost use Rattle.reply_laws.specs.Result.{reads, reads_discretes, reads_registers};
 ghost use Rattle.reply_laws.specs.Result.{exchanges_registers, has_byte_count, writes_coils};
 ghost use Rattle.reply_laws.specs.Result.{writes_registers, writes_coil, echoes, is_echoed};
@@ -16,6 +15,7 @@ ghost use Rattle.reply_laws.specs.Result.{result_of};
 use byteorder::{BigEndian, ByteOrder};
 use modbus_pdu::{
     COILS_WRITTEN, DISCRETES_READ, REGISTERS_EXCHANGED, REGISTERS_READ, REGISTERS_WRITTEN,
+    exception_code,
 };
 use mstr_block::MstrResult;
 use plant_types::{BLOCK_LIMIT, Block, Pdu, is_up_to};
@@ -193,16 +193,6 @@ fn told_bytes<'a>(ask: &[u8], reply: &'a [u8]) -> Option<&'a [u8]>
         return Some(&[]);
     }
     None
-}
-
-fn exception_code(function: u8) -> u8
-    ensures { result ≡ exception_code function }
-{
-    if function < 128 {
-        function + 128
-    } else {
-        function
-    }
 }
 
 fn exception_told(function: u8, reply: &[u8]) -> Option<u8>

@@ -4,6 +4,8 @@
 #[cfg(test)]
 mod live;
 #[cfg(test)]
+mod plans;
+#[cfg(test)]
 mod read2;
 #[cfg(test)]
 mod serial;

@@ -1,13 +1,14 @@
 //! A gate over a ring, and the plant READ2 in threads.
 ghost use Rattle.std.specs.Prelude.{◌≡◌, ◌∷◌, [], IfOk};
 
+use crate::plans::net_of;
 use crate::read2::{AS_IT_IS, Change, read2};
 use controller_core::Entry;
 use crossbeam_utils::Backoff;
 use joint_history::{Joint, RingLog};
 use live_run::{Meet, NoMeet, RingCell, live};
 use mstr_block::MstrResult;
-use plant_types::{Fate, List, NetPlan, PowerRow};
+use plant_types::{Fate, PowerRow};
 use ring_core::{LeaveCause, Ring, RingEntry};
 use std::alloc::{AllocError, Global};
 use std::sync::Wait;
@@ -20,16 +21,7 @@ use turn_gate::Gate;
 fn lonely_ring(alloc: Global) -> Result<Ring, AllocError>
     ensures { IfOk result (λ ring. ring.net.members ≡ 7 ∷ []) }
 {
-    let net = NetPlan {
-        number: 0,
-        members: List::from_vec(Vec::from_slice(alloc, &[7])?),
-        bridges: List::new(alloc),
-        fates: List::from_vec(Vec::from_slice(alloc, &[Fate::D])?),
-        answer: 20,
-        rotations: 2,
-        rounds: 1,
-        holds: 100_000,
-    };
+    let net = net_of(alloc, &[7], &[Fate::D], 2, 100_000)?;
     Ring::new(alloc, &net)
 }
 

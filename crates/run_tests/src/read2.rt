@@ -5,6 +5,7 @@ ghost use Rattle.traffic_cop.specs.Rows.{IsRunnablePlan};
 ghost use Rattle.plant_types.specs.Plans.{IsNetPlan, PassesTests};
 ghost use Rattle.joint_history.specs.Runnable.{CanRunPlant};
 
+use crate::plans::net_of;
 use plant_types::{
     Cell, ControllerPlan, Element, Fate, List, MathOp, NetPlan, Network, Operand, OrderRow, Plant,
     PowerRow, Ref, RefKind, Segment, checks_are_exact, is_net_plan,
@@ -240,16 +241,7 @@ fn net(alloc: Global, change: Change) -> Result<NetPlan, AllocError>
     ensures alone { IfOk result (λ net. net.number ≡ 0) }
     ensures no_bridge { IfOk result (λ net. net.bridges ≡ []) }
 {
-    let net = NetPlan {
-        number: 0,
-        members: List::from_vec(Vec::from_slice(alloc, &[2, 5])?),
-        bridges: List::new(alloc),
-        fates: List::from_vec(Vec::from_slice(alloc, change.fates)?),
-        answer: 20,
-        rotations: change.rotations,
-        rounds: 1,
-        holds: change.holds,
-    };
+    let net = net_of(alloc, &[2, 5], change.fates, change.rotations, change.holds)?;
     if !is_net_plan(&net) {
         return Err(AllocError);
     }

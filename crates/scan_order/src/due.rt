@@ -1,5 +1,6 @@
 //! The due list of a scan, walked by a place and a next step.
 ghost use Rattle.std.specs.Prelude.{◌≡◌, ◌≤◌, ◌-◌, ◌∷◌, length, slice_get};
+ghost use Rattle.plant_types.specs.PlanTests.{order_limit};
 ghost use Rattle.scan_order.specs.Due.{due_after, rest_after, rows_from, place_after, ends_scan};
 ghost use Rattle.scan_order.specs.Due.{full_after, full_rest, is_failing, last_off, row_of};
 ghost use Rattle.scan_order.specs.Due.{IsPlace, IsStep, ScansEndOnce};
@@ -58,7 +59,7 @@ fn first_from(plan: &ControllerPlan, row: u16) -> ScanStep
 /// The first step of a scan with power behind the Solve of a row.
 fn first_behind(plan: &ControllerPlan, row: u16) -> ScanStep
     requires row { IsPlace plan.now (ScanPlace.DidSolve row) }
-    requires rows { length plan.now.orders ≤ 32 }
+    requires rows { length plan.now.orders ≤ order_limit }
     ensures next { full_after plan.now (ScanPlace.DidSolve row)
         ≡ result ∷ full_rest plan.now result }
     ensures step { IsStep plan.now result }
@@ -75,7 +76,7 @@ fn first_behind(plan: &ControllerPlan, row: u16) -> ScanStep
 /// The step that is due behind a place in a scan with power.
 fn full_next(plan: &ControllerPlan, at: ScanPlace) -> ScanStep
     requires place { IsPlace plan.now at }
-    requires rows { length plan.now.orders ≤ 32 }
+    requires rows { length plan.now.orders ≤ order_limit }
     ensures next { full_after plan.now at ≡ result ∷ full_rest plan.now result }
     ensures step { IsStep plan.now result }
 {
@@ -114,7 +115,7 @@ fn last_off(power: ScanPower, at: ScanPlace) -> Option<ScanStep>
 /// next one. Takes no memory.
 pub fn next_due(plan: &ControllerPlan, scan: u32, at: ScanPlace) -> ScanStep
     requires place { IsPlace plan.now at }
-    requires rows { length plan.now.orders ≤ 32 }
+    requires rows { length plan.now.orders ≤ order_limit }
     ensures next { due_after plan.now scan at ≡ result ∷ rest_after plan.now scan result }
     ensures step { IsStep plan.now result }
 {

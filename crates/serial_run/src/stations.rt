@@ -63,17 +63,6 @@ pub(crate) struct Stations {
     pub(crate) rings: Vec<RingStation>,
 }
 
-/// The network of which a node is a member.
-fn net_at(plant: &Plant, node: u8) -> &NetPlan
-    requires { IsMember (net_of plant.now node) node }
-    ensures { result.now ≡ net_of plant.now node }
-{
-    match plant.net_of(node) {
-        Some(net) => net,
-        None => plant.first_net(),
-    }
-}
-
 fn controller_of(
     alloc: Global,
     plant: &Plant,
@@ -91,7 +80,7 @@ fn controller_of(
     let node = plan.node;
     let controller = Controller::new(alloc, plan, scan_time, watchdog, scans)?;
     let _ = controller.history();
-    let worker = CommWorker::new(alloc, node, net_at(plant, node), true)?;
+    let worker = CommWorker::new(alloc, node, plant.own_net(node), true)?;
     Ok(ControllerStation {
         node,
         network: plan.network,
@@ -124,7 +113,7 @@ fn host_of(alloc: Global, plant: &Plant, plan: &HostPlan) -> Result<HostStation,
     requires member { IsMember (net_of plant.now plan.now.node) plan.now.node }
     ensures { IfOk result (StartsHost plant.now plan.now) }
 {
-    let net = net_at(plant, plan.node);
+    let net = plant.own_net(plan.node);
     let host = Host::new(alloc, plan, net)?;
     let _ = host.history();
     let worker = HostWorker::new(alloc, plan.node, net, true)?;
@@ -156,8 +145,8 @@ fn bridge_of(alloc: Global, plant: &Plant, plan: &BridgePlan) -> Result<BridgeSi
     requires right { IsMember (net_of plant.now plan.now.right) plan.now.right }
     ensures { IfOk result (StartsBridgeSite plant.now plan.now) }
 {
-    let left_net = net_at(plant, plan.left);
-    let right_net = net_at(plant, plan.right);
+    let left_net = plant.own_net(plan.left);
+    let right_net = plant.own_net(plan.right);
     let station = BridgeStation::new(alloc, plan, left_net, right_net, true)?;
     Ok(BridgeSite {
         plan: *plan,

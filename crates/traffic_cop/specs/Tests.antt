@@ -15,6 +15,7 @@ use Rattle.plant_types.specs.declared.sizes.Sizes.{Sizes}
 use Rattle.plant_types.specs.Sizes.{count_of}
 use Rattle.plant_types.specs.FirstFault.{Test, first_failed}
 use Rattle.plant_types.specs.Limits.{drop_words}
+use Rattle.plant_types.specs.PlanTests.{drop_limit}
 use Rattle.traffic_cop.specs.Exchange.{carried_kind, input_total, output_total, fits_row}
 
 -- How many words a module can carry: one for sixteen discretes, 1 to 16 for registers.
@@ -85,7 +86,7 @@ has_few_words modules =
 -- A drop that passes its tests: its number is 1 to 32, its modules have no fault in a map of these
 -- sizes, and its rows fit them.
 pub record IsTested (sizes : Sizes) (drop : IoDrop) : Type 0 where
-  pub number : (1 ≤ drop.number) × (drop.number ≤ 32)
+  pub number : (1 ≤ drop.number) × (drop.number ≤ drop_limit)
   pub modules :
       AllByRecursion (λ io_module. module_fault (held_of sizes io_module) io_module
       ≡ None) drop.modules

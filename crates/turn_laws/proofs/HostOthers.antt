@@ -1,34 +1,26 @@
 -- What comes between turns keeps what a host's lists keep, and what a host comes to.
 use Rattle.std.proofs.Common.{◌≡◌, ◌≤◌, ℕ, true, false, List, [], ◌∷◌, refl, sym, ap, subst, ◌∙◌}
 use Rattle.std.proofs.Common.{arith}
-use Rattle.std.specs.List.{AllZip}
 use Rattle.plant_types.specs.declared.net.HostPlan.{HostPlan}
-use Rattle.plant_types.specs.Plans.{net_of}
 use Rattle.ring_core.specs.declared.entry.RingEntry.{RingEntry}
 use Rattle.ring_core.specs.declared.status.NodeStatus.TheVariants.{Asking, Gone}
 use Rattle.host_port.specs.declared.entry.HostEntry.{HostEntry}
 use Rattle.host_port.specs.declared.entry.HostEntry.TheVariants.{Ask, Answer, Served}
 use Rattle.std.specs.List.{AllByRecursion}
 use Rattle.tied_lists.specs.Items.{AHost, Items, downs_by, last_from, no_items}
-use Rattle.tied_lists.specs.Own.{own}
 use Rattle.tied_lists.specs.Tied.{RiseAbove, Tied}
-use Rattle.tied_lists.specs.Waits.{status_at}
 use Rattle.joint_history.specs.Complete.{NoticesFailures}
 use Rattle.joint_history.specs.Reading.{host_item_next, host_items_after}
 use Rattle.tied_lists.proofs.Turns.{membership-kept, own-found}
-use Rattle.joint_history.specs.Complete.{AsksAllBeforeDone, AsksInItsHolds, HostIsComplete}
-use Rattle.joint_history.specs.Complete.{IsCompleteHostLog, IsCompleteLog, NodeIsComplete}
+use Rattle.joint_history.specs.Complete.{AsksAllBeforeDone, AsksInItsHolds}
 use Rattle.joint_history.specs.Complete.{RepliesBeforePasses, StaysDone}
-use Rattle.joint_history.specs.JointLaws.{fixed_of}
 use Rattle.joint_history.specs.Reading.{host_items_of}
 use Rattle.time_laws.proofs.HostTurn.{host-others-in-time, host-starts-in-time}
-use Rattle.turn_laws.specs.KeepsOn.{HasFinished, HostHasFinished, SaidDone}
-use Rattle.turn_laws.specs.Laws.{ControllersComplete, HostOthersKeepOn, HostStartsKeep}
-use Rattle.turn_laws.specs.Laws.{HostsComplete, RunsComplete}
+use Rattle.turn_laws.specs.KeepsOn.{SaidDone}
+use Rattle.turn_laws.specs.Laws.{HostOthersKeepOn, HostStartsKeep, HostsComplete}
 use Rattle.turn_laws.proofs.Passes.{nil-cons, none-said}
 use Rattle.turn_laws.proofs.Others.{no-replies, no-stays}
 use Rattle.turn_laws.proofs.HostDone.{host-ended}
-use Rattle.joint_history.specs.Nets.{noted_on_rings}
 
 no-holds : (plan : HostPlan) → AsksInItsHolds plan []
 no-holds plan [] after n f ask is kind asks = nil-cons is
@@ -107,29 +99,3 @@ host-complete plan net list ring st k =
         noticed = λ m c. host-noticed (host-fails list) st.tied m c;
       },
     )
-
--- ---- all stations
-
-zip-each : {A B : Type 0} (P Q : A → B → Type 0) → ((a : A) (b : B) → P a b → Q a b)
-    → (xs : List A) (ys : List B) → AllZip P xs ys → AllZip Q xs ys
-zip-each P Q f [] [] all = all
-zip-each P Q f [] (y ∷ ys) all = absurd all
-zip-each P Q f (x ∷ xs) [] all = absurd all
-zip-each P Q f (x ∷ xs) (y ∷ ys) all = (f x y all.0, zip-each P Q f xs ys all.1)
-
-pub run-complete : ControllersComplete → HostsComplete → RunsComplete
-run-complete controllers hosts plant scans joint one two bridges =
-    let ring = noted_on_rings joint in
-    record {
-      controllers = zip-each (HasFinished plant scans ring) (IsCompleteLog plant scans ring)
-          (λ plan log f. controllers (fixed_of plant scans plan) (net_of plant log.node) log.node
-          log.entries ring f.stands f.keeps f.ended f.collected f.out)
-          plant.controllers joint.controllers one;
-      hosts = zip-each (HostHasFinished plant ring) (IsCompleteHostLog plant ring)
-          (λ plan log f. subst (λ n. HostIsComplete plan (host_items_of log.entries) (own n ring)
-          × (status_at (net_of plant log.node) ring n ≡ Gone)
-          × NodeIsComplete (host_items_of log.entries) (own n ring))
-          (sym f.node) (hosts plan (net_of plant log.node) log.entries ring f.stands f.keeps))
-          plant.hosts joint.hosts two;
-      bridges = bridges;
-    }

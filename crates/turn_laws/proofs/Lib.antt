@@ -16,7 +16,6 @@ pub mod HostWent
 pub mod HostTurns
 pub mod HostOthers
 pub mod Stands
-pub mod OnNets
 pub mod Holders
 mod Read2
 pub mod Spent

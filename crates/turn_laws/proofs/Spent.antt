@@ -45,7 +45,7 @@ ended-due : (done due : Bool)
 ended-due true due is = refl
 ended-due false due is = absurd (let no' : false ≡ true = is in cc)
 
-not-spent : (n : ℕ) (done due : Bool) (words : List ℕ)
+pub not-spent : (n : ℕ) (done due : Bool) (words : List ℕ)
     → leaves_spent (last_entry n done words (if done && due then Some Ended else None)) ≡ false
 not-spent n true true words = refl
 not-spent n true false words = refl
@@ -98,7 +98,7 @@ leaves-ended alone_ram alone_ring fixed net n known new_known ring new_ring t le
 
 -- ---- own lists
 
-abbrev IsUnspent : RingEntry → Type 0
+abbrev pub IsUnspent : RingEntry → Type 0
 IsUnspent e = leaves_spent e ≡ false
 
 inner-unspent : (e : RingEntry) → IsInner e → IsUnspent e
@@ -111,7 +111,8 @@ inner-unspent (Pass n done words) inner = refl
 inner-unspent (Leave n cause) inner = absurd (let no' : true ≡ false = inner in cc)
 inner-unspent (Join n) inner = refl
 
-all-inner : (c : List RingEntry) → Each IsInner c → Each IsUnspent c
+-- entries inside a turn are none of them
+pub all-inner : (c : List RingEntry) → Each IsInner c → Each IsUnspent c
 all-inner [] inner = tt
 all-inner (e ∷ c) inner = (inner-unspent e inner.0, all-inner c inner.1)
 
@@ -125,7 +126,8 @@ all-of [] each k d within = absurd (omega (arith, within))
 all-of (x ∷ xs) each zero d within = each.0
 all-of (x ∷ xs) each (suc k) d within = all-of xs each.1 k d (omega (arith, within))
 
-more : (b c : List RingEntry) → NoneSpent b → Each IsUnspent c → NoneSpent (b ++ c)
+-- what none of them stands in may be joined
+pub more : (b c : List RingEntry) → NoneSpent b → Each IsUnspent c → NoneSpent (b ++ c)
 more b c old new = all-of (b ++ c) (each-join IsUnspent b c (each-of b old) new)
 
 works-spend : (alone_ram alone_ring : Bool) (fixed : Fixed) (net : NetPlan) (n : ℕ) (left : Bool)

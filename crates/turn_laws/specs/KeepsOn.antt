@@ -5,7 +5,6 @@ use Rattle.plant_types.specs.declared.net.NetPlan.{NetPlan}
 use Rattle.plant_types.specs.declared.net.HostPlan.{HostPlan}
 use Rattle.plant_types.specs.declared.plan.ControllerPlan.{ControllerPlan}
 use Rattle.plant_types.specs.declared.plan.Plant.{Plant}
-use Rattle.plant_types.specs.Plans.{net_of}
 use Rattle.mstr_block.specs.declared.call.CallId.{CallId}
 use Rattle.ring_core.specs.declared.frame.Frame.{Frame}
 use Rattle.ring_core.specs.declared.entry.LeaveCause.{LeaveCause}
@@ -169,18 +168,9 @@ pub record HasFinishedOn (net : NetPlan) (plant : Plant) (scans : ℕ) (ring : L
   pub out : is_out_of_ring (is_off_at (fixed_of plant scans plan) log.entries)
       (status_at net ring log.node) ≡ true
 
--- So it has on its own network.
-abbrev pub HasFinished : Plant → ℕ → List RingEntry → ControllerPlan → ControllerLog → Type 0
-HasFinished plant scans ring plan log =
-    HasFinishedOn (net_of plant log.node) plant scans ring plan log
-
 -- A host on a network has finished: its node is gone.
 pub record HostHasFinishedOn (net : NetPlan) (ring : List RingEntry) (plan : HostPlan)
     (log : HostLog) : Type 0 where
   pub node : log.node ≡ plan.node
   pub stands : HostStandsTied plan net log.entries ring
   pub keeps : HostKeepsOn plan net log.entries ring true
-
--- So it has on its own network.
-abbrev pub HostHasFinished : Plant → List RingEntry → HostPlan → HostLog → Type 0
-HostHasFinished plant ring plan log = HostHasFinishedOn (net_of plant log.node) ring plan log

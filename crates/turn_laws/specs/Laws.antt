@@ -1,9 +1,7 @@
 -- What turns, visits and scans keep, and what follows at the end of a run. This project's own.
 use Rattle.std.specs.Prelude.{◌≡◌, ◌⊎◌, ℕ, ◌<◌, All, Bool, true, false, not, List, [], ◌++◌, filter}
-use Rattle.std.specs.List.{AllZip}
 use Rattle.plant_types.specs.declared.net.NetPlan.{NetPlan}
 use Rattle.plant_types.specs.declared.net.HostPlan.{HostPlan}
-use Rattle.plant_types.specs.declared.plan.Plant.{Plant}
 use Rattle.ring_core.specs.declared.entry.RingEntry.{RingEntry}
 use Rattle.ring_core.specs.Legal.{IsLegalRing, IsMember}
 use Rattle.controller_core.specs.declared.fixed.Fixed.{Fixed}
@@ -19,11 +17,9 @@ use Rattle.comm_port.specs.HoldTurn.{VisitsEnd}
 use Rattle.comm_port.specs.WholeTurn.{HoldsTurn}
 use Rattle.comm_port.specs.HostTurns.{HoldsHostTurn}
 use Rattle.turn_laws.specs.KeepsOn.{StandsTied, KeepsOn, HostStandsTied, HostKeepsOn}
-use Rattle.turn_laws.specs.KeepsOn.{HasFinished, HostHasFinished}
 use Rattle.turn_laws.specs.KeepsOn.{NoneSpent, is_out_of_ring, leaves_out}
-use Rattle.joint_history.specs.declared.joint.Joint.{Joint}
 use Rattle.joint_history.specs.Complete.{ControllerIsComplete, HostIsComplete, NodeIsComplete}
-use Rattle.joint_history.specs.Complete.{ControllerIsOut, IsComplete, IsCompleteBridgeLog}
+use Rattle.joint_history.specs.Complete.{ControllerIsOut}
 use Rattle.joint_history.specs.Reading.{is_ours, has_ended_at, has_started_at, is_off_at}
 use Rattle.joint_history.specs.Reading.{host_items_of, items_of}
 use Rattle.tied_lists.specs.Waits.{HasLeft, IsOnRing, has_left, status_at}
@@ -31,7 +27,6 @@ use Rattle.comm_port.specs.Parts.{calls_waiting}
 use Rattle.ring_core.specs.Machine.{addresses, ring_after}
 use Rattle.ring_core.specs.declared.status.NodeStatus.{NodeStatus}
 use Rattle.ring_core.specs.declared.status.NodeStatus.TheVariants.{In, Away, Gone}
-use Rattle.joint_history.specs.Nets.{noted_on_rings}
 
 -- A node is in; or it is 0, and each node is out of the ring.
 abbrev pub IsInOrNobody : NetPlan → List RingEntry → ℕ → Type 0
@@ -126,14 +121,6 @@ HostsComplete =
     → HostIsComplete plan (host_items_of list) (own plan.node ring)
     × (status_at net ring plan.node ≡ Gone)
     × NodeIsComplete (host_items_of list) (own plan.node ring)
-
--- A run all of whose stations have finished, and all of whose bridges are complete, is complete.
-abbrev pub RunsComplete : Type 0
-RunsComplete = (plant : Plant) (scans : ℕ) (joint : Joint)
-    → AllZip (HasFinished plant scans (noted_on_rings joint)) plant.controllers joint.controllers
-    → AllZip (HostHasFinished plant (noted_on_rings joint)) plant.hosts joint.hosts
-    → AllZip (IsCompleteBridgeLog plant (noted_on_rings joint)) plant.bridges joint.bridges
-    → IsComplete plant scans joint
 
 -- Where a turn that ended so leaves its node: as it came back it asks to come in, or is in already.
 abbrev pub StandsAs : TurnEnd → NodeStatus → Type 0

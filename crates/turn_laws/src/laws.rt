@@ -2,7 +2,7 @@
 ghost use Rattle.turn_laws.specs.Laws.{StartsKeep, TurnsKeepOn, VisitsKeepOn, ScansKeepOn};
 ghost use Rattle.turn_laws.specs.Laws.{OthersKeepOn, ControllersComplete, HostStartsKeep};
 ghost use Rattle.turn_laws.specs.Laws.{HostTurnsKeepOn, HostOthersKeepOn, HostsComplete};
-ghost use Rattle.turn_laws.specs.Laws.{RunsComplete, LeavesWhenEnded, TurnsSpendNothing};
+ghost use Rattle.turn_laws.specs.Laws.{LeavesWhenEnded, TurnsSpendNothing};
 ghost use Rattle.turn_laws.specs.Laws.{HostTurnsSpendNothing, VisitsSpendNothing, NobodySpends};
 ghost use Rattle.turn_laws.specs.Laws.{AwayTurnsKeepOn, AwayTurnsSpendNothing, AwayTurnsEndWhere};
 ghost use Rattle.turn_laws.specs.Laws.{EndedStays, SomebodyHolds, TurnsEndWhere, VisitsCollect};
@@ -103,14 +103,6 @@ pub fn host_others_keep_on()
 pub fn hosts_complete()
     ensures { HostsComplete }
 {}
-
-/// A run all of whose stations have finished, and all of whose bridges are complete, is complete.
-pub fn runs_complete()
-    ensures { RunsComplete }
-{
-    controllers_complete();
-    hosts_complete();
-}
 
 /// A worker without a budget leaves only once its controller's scans have ended and its calls were
 /// all collected.

@@ -1,7 +1,7 @@
 use Rattle.std.proofs.Common.{◌≡◌, ◌+◌, ◌<◌, List, Bool, false, length, get_or, sym, ap, subst}
 use Rattle.std.proofs.Common.{◌∙◌}
 use Rattle.std.proofs.Common.{arith}
-use Rattle.std.specs.Prelude.{◌↔◌, IsTrue}
+use Rattle.std.specs.Prelude.{◌↔◌, Contains, IsTrue}
 use Rattle.std.proofs.lemmas.List.{get_or_default}
 use Rattle.plant_types.specs.declared.net.HostPlan.{HostPlan}
 use Rattle.joint_history.specs.declared.joint.HostLog.{HostLog}
@@ -12,8 +12,18 @@ use Rattle.joint_history.specs.Reading.{host_items_of}
 use Rattle.list_courses.specs.Courses.{IsCourse}
 use Rattle.station_laws.specs.Differing.{BreaksAt}
 use Rattle.joint_law.proofs.CourseEnds.{hosts-end, done-next, each-next, host-spot, size-next}
+use Rattle.joint_law.proofs.AtNodes.{host-member}
 use Rattle.joint_law.proofs.CourseSteps.{same-size}
 use Rattle.joint_law.proofs.courses.hosts_course.Goals as goal
+
+pub own_net-requires : goal.own_net-requires
+own_net-requires c =
+    let low : c.loop-at.at < length c.as_slice-plans.result.now = omega arith in
+    record {
+      member = host-member c.args.plant.now c.index-plans-at.result c.requires.judged.sound
+          (subst (λ (l : List HostPlan). Contains l c.index-plans-at.result)
+          c.as_slice-plans.ensures (c.loop-at.at, low, sym c.index-plans-at.is));
+    }
 
 pub returns-in-Breaks : goal.returns-in-Breaks
 returns-in-Breaks c =

@@ -99,61 +99,51 @@ deal_ends-bridges-requires-clause-ready g c =
 
 -- ---- the stations run
 
-pub run_all-requires-clause-runnable : goal.run_all-requires-clause-runnable
-run_all-requires-clause-runnable g c κs within =
-    can-run c.args.run.now.plant.now c.args.run.now.scans c.requires.plant c.requires.scans
-
-pub run_all-requires-clause-serving : goal.run_all-requires-clause-serving
-run_all-requires-clause-serving g c κs within = c.requires.plant.sound.hosts
-
-pub run_all-requires-clause-crossing : goal.run_all-requires-clause-crossing
-run_all-requires-clause-crossing g c κs within =
-    bridge-plans c.args.run.now.plant.now c.requires.plant.sound
-
-pub run_all-requires-clause-fresh : goal.run_all-requires-clause-fresh
-run_all-requires-clause-fresh g c κs within =
+pub run_all-requires-clause-nodes : goal.run_all-requires-clause-nodes
+run_all-requires-clause-nodes g c κs within =
     let plant = c.args.run.now.plant.now in
     let gates = c.args.homes.now in
     let sound = c.requires.plant.sound in
     let seats = c.deal-controllers.result.items in
-    subst (λ (l : List (Seat NotedLog)). AreFresh seat_side seat_seen plant
-    (λ (p : ControllerPlan). p.node) plant.controllers l) (sym c.as_mut_slice.ensures.value)
-    (seats-fresh plant sound gates c.requires.nets
-    (opened-unused gates c.args.purses.now c.requires.opened)
-    (λ (p : ControllerPlan). p.network) (λ (p : ControllerPlan). p.node) plant.controllers seats
-    (controllers-on plant sound)
-    (subst (λ (l : List ControllerPlan).
-    AllZip (λ (p : ControllerPlan). IsFreshSeat gates p.network p.node) l seats)
-    c.as_slice-plans.ensures c.deal-controllers.ensures.seats))
+    let host_seats = c.deal-hosts.result.items in
+    let unused = opened-unused gates c.args.purses.now c.requires.opened in
+    record {
+      can_run = can-run plant c.args.run.now.scans c.requires.plant c.requires.scans;
+      can_serve = sound.hosts;
+      fresh = subst (λ (l : List (Seat NotedLog)). AreFresh seat_side seat_seen plant
+          (λ (p : ControllerPlan). p.node) plant.controllers l) (sym c.as_mut_slice.ensures.value)
+          (seats-fresh plant sound gates c.requires.nets unused
+          (λ (p : ControllerPlan). p.network) (λ (p : ControllerPlan). p.node) plant.controllers
+          seats (controllers-on plant sound)
+          (subst (λ (l : List ControllerPlan).
+          AllZip (λ (p : ControllerPlan). IsFreshSeat gates p.network p.node) l seats)
+          c.as_slice-plans.ensures c.deal-controllers.ensures.seats));
+      fresh_hosts = subst (λ (l : List (Seat HostLog)). AreFresh seat_side seat_seen plant
+          (λ (p : HostPlan). p.node) plant.hosts l) (sym c.as_mut_slice-2.ensures.value)
+          (seats-fresh plant sound gates c.requires.nets unused
+          (λ (p : HostPlan). p.network) (λ (p : HostPlan). p.node) plant.hosts host_seats
+          (hosts-on plant sound)
+          (subst (λ (l : List HostPlan).
+          AllZip (λ (p : HostPlan). IsFreshSeat gates p.network p.node) l host_seats)
+          c.as_slice-host_plans.ensures c.deal-hosts.ensures.seats));
+    }
 
-pub run_all-requires-clause-fresh_hosts : goal.run_all-requires-clause-fresh_hosts
-run_all-requires-clause-fresh_hosts g c κs within =
-    let plant = c.args.run.now.plant.now in
-    let gates = c.args.homes.now in
-    let sound = c.requires.plant.sound in
-    let seats = c.deal-hosts.result.items in
-    subst (λ (l : List (Seat HostLog)). AreFresh seat_side seat_seen plant
-    (λ (p : HostPlan). p.node) plant.hosts l) (sym c.as_mut_slice-2.ensures.value)
-    (seats-fresh plant sound gates c.requires.nets
-    (opened-unused gates c.args.purses.now c.requires.opened)
-    (λ (p : HostPlan). p.network) (λ (p : HostPlan). p.node) plant.hosts seats
-    (hosts-on plant sound)
-    (subst (λ (l : List HostPlan).
-    AllZip (λ (p : HostPlan). IsFreshSeat gates p.network p.node) l seats)
-    c.as_slice-host_plans.ensures c.deal-hosts.ensures.seats))
-
-pub run_all-requires-clause-fresh_bridges : goal.run_all-requires-clause-fresh_bridges
-run_all-requires-clause-fresh_bridges g c κs within =
+pub run_all-requires-clause-bridges : goal.run_all-requires-clause-bridges
+run_all-requires-clause-bridges g c κs within =
     let plant = c.args.run.now.plant.now in
     let gates = c.args.homes.now in
     let sound = c.requires.plant.sound in
     let stations = c.deal_ends-bridges.result.items in
-    subst (λ (l : List Crossing). AreBridgesFresh seat_side seat_seen plant plant.bridges l)
-    (sym c.as_mut_slice-3.ensures.value)
-    (bridges-fresh plant sound gates c.requires.nets
-    (opened-unused gates c.args.purses.now c.requires.opened) stations
-    (subst (λ (l : List BridgePlan). AllZip (IsFreshBridge gates) l stations)
-    c.as_slice-bridge_plans.ensures c.deal_ends-bridges.ensures.seats))
+    record {
+      plans = bridge-plans plant sound;
+      fresh = subst (λ (l : List Crossing).
+          AreBridgesFresh seat_side seat_seen plant plant.bridges l)
+          (sym c.as_mut_slice-3.ensures.value)
+          (bridges-fresh plant sound gates c.requires.nets
+          (opened-unused gates c.args.purses.now c.requires.opened) stations
+          (subst (λ (l : List BridgePlan). AllZip (IsFreshBridge gates) l stations)
+          c.as_slice-bridge_plans.ensures c.deal_ends-bridges.ensures.seats));
+    }
 
 -- ---- passes are gathered
 

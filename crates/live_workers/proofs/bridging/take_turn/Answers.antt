@@ -52,8 +52,9 @@ returns-clause-tends g c =
     (g.G.RingSide.known c.args.ring.now) (g.G.RingSide.known c.holder.new.self) false
     c.holder.ensures.same (c.holder.ensures.went _ c.requires.tends.ties.serves_ring).list
     c.holder.ensures.legal c.requires.tends in
-    tends-held c.end_turns_keep_on.ensures g.B.BridgeSide.alone g.G.RingSide.alone
-    c.args.worker.now c.args.side _ _ _ _ _ _ _ _ c.hold_turn.result c.requires.worker
+    tends-held c.end_turns_keep_on.ensures c.end_turns_spend_nothing.ensures
+    g.B.BridgeSide.alone g.G.RingSide.alone c.args.worker.now c.args.side _ _ _ _ _ _ _ _
+    c.hold_turn.result c.requires.worker
     c.hold_turn.ensures.step.station.same c.hold_turn.ensures.step.node.same
     c.hold_turn.ensures.held c.hold_turn.ensures.ties c.hold_turn.ensures.is_open
     c.hold_turn.ensures.stays t

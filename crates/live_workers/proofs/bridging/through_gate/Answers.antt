@@ -4,6 +4,11 @@ use Rattle.bridge_relay.specs.declared.entry.BridgeEntry.{BridgeEntry}
 use Rattle.live_workers.proofs.Crossed.{both-back, came-back, given-as, tends-first}
 use Rattle.live_workers.proofs.bridging.through_gate.Goals as goal
 
+pub run_ends-left_done-requires-clause-members :
+    goal.run_ends-left_done-requires-clause-members
+run_ends-left_done-requires-clause-members g c κs within =
+    (c.requires.left.member, c.requires.right.member)
+
 pub run_ends-left_done-requires-clause-left : goal.run_ends-left_done-requires-clause-left
 run_ends-left_done-requires-clause-left g c κs within =
     let plan = c.args.plan.now in

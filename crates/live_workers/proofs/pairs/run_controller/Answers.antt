@@ -22,7 +22,7 @@ through_gate-zero-requires-clause-talks g c κs within =
     ∙ ap (λ (v : ControllerIs). v.fixed.plan.node) made)
     (c.in_ok-gate.ensures.opening ∙ ap (λ (v : ControllerIs). v.history) made)
     c.requires.unused (c.in_ok-worker.ensures
-    ∙ ap (λ (m : NetPlan). new_worker c.args.plan.now.node m false) c.net_of-net.ensures)
+    ∙ ap (λ (m : NetPlan). new_worker c.args.plan.now.node m false) c.own_net-net.ensures)
 
 pub returns-clause-ended : goal.returns-clause-ended
 returns-clause-ended g c =

@@ -12,7 +12,7 @@ returns c =
     record {
       plan_is = refl;
       starts = subst (λ (net : NetPlan). StartsBridge plan (net_of plant plan.left) net true
-          station) c.net_at-right_net.ensures
-          (subst (λ (net : NetPlan). StartsBridge plan net c.net_at-right_net.result.now true
-          station) c.net_at-left_net.ensures c.in_ok-station.ensures);
+          station) c.own_net-right_net.ensures
+          (subst (λ (net : NetPlan). StartsBridge plan net c.own_net-right_net.result.now true
+          station) c.own_net-left_net.ensures c.in_ok-station.ensures);
     }

@@ -12,4 +12,4 @@ returns c =
     c.in_ok-worker.worker c.requires.net
     c.requires.member (subst (λ (v : ControllerIs). IsLegal v.fixed v.history) is
     c.history.ensures.legal) is (c.in_ok-worker.ensures
-    ∙ ap (λ (net : NetPlan). new_worker c.args.plan.now.node net true) c.net_at.ensures)
+    ∙ ap (λ (net : NetPlan). new_worker c.args.plan.now.node net true) c.own_net.ensures)

@@ -1,9 +1,8 @@
 use Rattle.std.proofs.Common.{◌∙◌, ap, sym, subst, arith}
-use Rattle.std.specs.Prelude.{Option, unwrap_or, option_map}
+use Rattle.std.specs.Prelude.{Option, Contains, unwrap_or, option_map}
 use Rattle.plant_types.specs.declared.net.NetPlan.{NetPlan}
 use Rattle.plant_types.specs.Plans.{no_net}
-use Rattle.ring_core.specs.Legal.{IsMember}
-use Rattle.live_workers.proofs.nets.net_of.Goals as goal
+use Rattle.plant_types.proofs.plan.Plant.own_net.Goals as goal
 
 pub returns : goal.returns
 returns c =
@@ -13,6 +12,6 @@ returns c =
 pub unreachable-requires : goal.unreachable-requires
 unreachable-requires c =
     let none = sym c.net_of.ensures ∙ ap (option_map _) c.in-None.is in
-    let member = subst (λ (net : NetPlan). IsMember net c.args.node)
-    (ap (λ (o : Option NetPlan). unwrap_or o no_net) none) c.requires in
+    let member = subst (λ (net : NetPlan). Contains net.members c.args.node)
+    (ap (λ (o : Option NetPlan). unwrap_or o no_net) none) c.requires.member in
     absurd (let low = member.1 in omega (arith, low))

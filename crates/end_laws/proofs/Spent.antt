@@ -1,9 +1,6 @@
 -- The worker of a bridge's end without a budget leaves its ring only when it is done.
-use Rattle.std.proofs.Common.{◌≡◌, ℕ, Bool, true, false, List, [], ◌∷◌, ◌++◌, Some, None, refl}
-use Rattle.std.proofs.Common.{sym, ap, ◌∙◌, subst, append-nil}
-use Rattle.std.specs.Prelude.{◌&&◌, if◌then◌else◌}
-use Rattle.std.specs.List.{AllByRecursion as Each}
-use Rattle.std.proofs.lemmas.List.Elements.{All-append}
+use Rattle.std.proofs.Common.{◌≡◌, ℕ, Bool, true, false, List, [], ◌∷◌, ◌++◌, sym, ap, ◌∙◌}
+use Rattle.std.proofs.Common.{subst, append-nil}
 use Rattle.plant_types.specs.declared.net.BridgePlan.{BridgePlan}
 use Rattle.plant_types.specs.declared.net.NetPlan.{NetPlan}
 use Rattle.bridge_relay.specs.declared.entry.BridgeEntry.{BridgeEntry}
@@ -11,8 +8,6 @@ use Rattle.bridge_relay.specs.Laws.{end_after}
 use Rattle.bridge_relay.specs.Machine.{is_idle_end}
 use Rattle.ring_core.specs.declared.entry.LeaveCause.TheVariants.{Ended}
 use Rattle.ring_core.specs.declared.entry.RingEntry.{RingEntry}
-use Rattle.ring_core.specs.declared.entry.RingEntry.TheVariants.{Post, Send, Take, Local, GiveUp}
-use Rattle.ring_core.specs.declared.entry.RingEntry.TheVariants.{Pass, Leave, Join}
 use Rattle.ring_core.specs.Machine.{ring_after}
 use Rattle.ring_core.specs.Scratch.{words_put}
 use Rattle.tied_lists.specs.Own.{is_of, own}
@@ -22,36 +17,11 @@ use Rattle.tied_lists.proofs.Histories.{legal-follows}
 use Rattle.comm_port.specs.Giving.{part_at}
 use Rattle.comm_port.specs.Leaving.{cause_due, is_due, last_entry}
 use Rattle.bridge_port.specs.EndParts.{AsksRing, EndAsksIfDone, HoldsEndTurn, LeavesIf, are_some}
-use Rattle.turn_laws.specs.KeepsOn.{NoneSpent, leaves_spent}
-use Rattle.turn_laws.proofs.Passes.{IsInner, all-push, each-map}
+use Rattle.turn_laws.specs.KeepsOn.{NoneSpent}
+use Rattle.turn_laws.proofs.Passes.{all-push}
+use Rattle.turn_laws.proofs.Spent.{IsUnspent, all-inner, more, not-spent}
 use Rattle.end_laws.proofs.Parts.{EndWent, grew-still, went-backs, went-forwards, went-gives}
 use Rattle.end_laws.proofs.Parts.{went-sends, went-serves, went-then}
-use Rattle.end_laws.proofs.Rows.{each-all}
-
-abbrev IsUnspent : RingEntry → Type 0
-IsUnspent e = leaves_spent e ≡ false
-
-inner-unspent : (e : RingEntry) → IsInner e → IsUnspent e
-inner-unspent (Post n f) inner = refl
-inner-unspent (Send n heard) inner = refl
-inner-unspent (Take n f) inner = refl
-inner-unspent (Local n id op result) inner = refl
-inner-unspent (GiveUp id word) inner = refl
-inner-unspent (Pass n done words) inner = refl
-inner-unspent (Leave n cause) inner = absurd (let no' : true ≡ false = inner in cc)
-inner-unspent (Join n) inner = refl
-
--- entries inside a turn behind those of before
-inner-more : (b c : List RingEntry) → NoneSpent b → Each IsInner c → NoneSpent (b ++ c)
-inner-more b c old inner = All-append IsUnspent b c old
-    (each-all IsUnspent c (each-map IsInner IsUnspent c inner-unspent inner))
-
--- without a budget a node leaves only where it is done
-last-unspent : (n : ℕ) (done due : Bool) (words : List ℕ)
-    → IsUnspent (last_entry n done words (if done && due then Some Ended else None))
-last-unspent n true true words = refl
-last-unspent n true false words = refl
-last-unspent n false due words = refl
 
 -- the question whether the end is done adds nothing of its own
 asked-own : (posted alone alone' : Bool) (plan : BridgePlan) (net : NetPlan) (n : ℕ)
@@ -99,7 +69,7 @@ module _ (alone alone' : Bool) (plan : BridgePlan) (net : NetPlan) (n : ℕ) (le
   given : NoneSpent (own n t.given_ring)
   given = subst NoneSpent
       (sym (grew-ours alone' (is_of n) ring went.done t.given_ring went.node))
-      (inner-more (own n ring) went.done old went.adds.inner)
+      (more (own n ring) went.done old (all-inner went.done went.adds.inner))
 
   -- up to the last entry
   abbrev last : RingEntry
@@ -115,7 +85,7 @@ module _ (alone alone' : Bool) (plan : BridgePlan) (net : NetPlan) (n : ℕ) (le
 
   handed : NoneSpent (own n t.ends.handed_ring)
   handed = subst NoneSpent (sym own-handed)
-      (all-push IsUnspent (own n t.given_ring) last given (last-unspent n t.ends.done
+      (all-push IsUnspent (own n t.given_ring) last given (not-spent n t.ends.done
       (is_due net (ring_after net t.ends.asked_ring) n Ended) (words_put n t.ends.asked_ring)))
 
   -- and what is given up behind a Leave
@@ -127,7 +97,8 @@ module _ (alone alone' : Bool) (plan : BridgePlan) (net : NetPlan) (n : ℕ) (le
       t.ends.handed_ring new_ring leaves.gives_up in
       subst NoneSpent
       (sym (grew-ours alone' (is_of n) t.ends.handed_ring gives.done new_ring gives.node))
-      (inner-more (own n t.ends.handed_ring) gives.done handed gives.adds.inner)
+      (more (own n t.ends.handed_ring) gives.done handed
+      (all-inner gives.done gives.adds.inner))
 
   pub end-spends : NoneSpent (own n new_ring)
   end-spends = behind left t.ends.leaves
