@@ -2,23 +2,16 @@
 use crate::plans::{host_of, host_plan, net_of, pdu_of};
 use host_port::{Host, HostEntry, HostResult};
 use mstr_block::CallId;
-use plant_types::{NetPlan, Route};
+use plant_types::Route;
 use std::alloc::{AllocError, Global};
 use std::process::Abort;
 use std::test::Fail;
 
-/// A net that no host looks at.
-fn unseen_net(alloc: Global) -> Result<NetPlan, AllocError> {
-    let mut net = net_of(alloc, &[], &[], 20, 100)?;
-    net.rotations = 4;
-    net.rounds = 2;
-    Ok(net)
-}
-
-/// Host 1, which asks nodes for their device and has asked nothing yet.
+/// Host 1, which asks nodes for their device and has asked nothing yet. Its net has no members, and
+/// these tests look at none.
 fn asking_host(rt: &impl Abort, alloc: Global, asks: &[(u32, u8)]) -> Result<Host, AllocError> {
     let plan = host_plan(alloc, 1, asks, &[17])?;
-    let net = unseen_net(alloc)?;
+    let net = net_of(alloc, &[], &[], 20, 100)?;
     host_of(rt, alloc, &plan, &net)
 }
 
