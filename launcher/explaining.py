@@ -5,16 +5,16 @@ import tomllib
 
 import cells
 import reasons
-from places import TEXT, Places
+from places import Places
 from reasons import Finding, Plant
 from schema import TOP, schema
+from toml_faults import of_toml
 
 PAGE = os.path.join(TOP, "docs/guide/REFUSALS.md")
 ROW = re.compile(r"^\| `(\d+ \w+)` \| ([^|]+) \| [^|]+ \| ([^|]+) \|$", re.MULTILINE)
 STEPS = {"module": "modules", "network": "networks", "order": "orders", "request": "requests"}
 # The steps of places that begin so, where a network is one of several.
 OWN_STEPS = {"network": "network", "bridge": "bridges"}
-MOST_BRACKETS = 80
 # How many characters of a line are shown.
 SHOWN = 100
 # A fault of the words and the plant together, and not of the plant file.
@@ -69,46 +69,6 @@ def findings(plant, refusal):
     if refusal.what in ("net", "segment"):
         return reasons.of_table(plant, refusal.path, plant.rule(refusal.what), reasons.TABLES[refusal.what])
     return TESTS[refusal.what](plant, refusal.path)
-
-
-def brackets(text):
-    """The place of the first bracket that is one too many open at once, or None."""
-    depth = 0
-    for found in re.finditer(TEXT.pattern + r"|#[^\n]*|[\[\]{}]", text, re.DOTALL):
-        depth += (found[0] in "[{") - (found[0] in "]}") if len(found[0]) == 1 else 0
-        if depth > MOST_BRACKETS:
-            return found.start()
-    return None
-
-
-def large_number(value, path=()):
-    """The path of a number beyond 64 bits, or None."""
-    if isinstance(value, int) and not -(2**63) <= value < 2**63:
-        return path
-    items = value.items() if isinstance(value, dict) else enumerate(value) if isinstance(value, list) else ()
-    return next((found for key, item in items if (found := large_number(item, path + (key,))) is not None), None)
-
-
-def of_toml(text):
-    """Why a text is no TOML document: what is wrong, details, and the number of the line."""
-    deep = brackets(text)
-    if deep is not None:
-        return "more than 80 open brackets", "the 81st opens here", text.count("\n", 0, deep) + 1
-    try:
-        document = tomllib.loads(text)
-    except (ValueError, RecursionError) as error:
-        found = re.fullmatch(r"(.*) \(at (?:line (\d+), column \d+|end of document)\)", str(error), re.DOTALL)
-        words, last = (found[1], found[2]) if found else (str(error), None)
-        line = int(last or text.rstrip("\n").count("\n") + 1)
-        if text.split("\n")[line - 1].startswith("%JOURNAL"):
-            return "a journal where none is read", "`run`, `trace` and `live` read a plant alone", line
-        if text.split("\n")[line - 1].rstrip("\r") == "%SESSION":
-            return "bytes of a port where none are read", "only `session` reads them, behind a line that is exactly %SESSION", line
-        if re.search("overwrite|twice|immutable|already", words):
-            return "a key or a table that stands there twice", words, line
-        return "a line that is no TOML", words[:1].lower() + words[1:], line
-    path = large_number(document)
-    return ("a number beyond 64 bits", "here", Places(text).line_of(path)) if path is not None else None
 
 
 def seen(text):

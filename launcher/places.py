@@ -53,7 +53,11 @@ class Places:
             if path in self.counts:
                 path += (self.counts[path],)
         self.at += 1 + is_array
-        self.found[path] = Span(begin, begin, self.at)
+        span = Span(begin, begin, self.at)
+        self.found[path] = span
+        # A list of tables, and a table that is only named in the name of another, begin where the first of these does.
+        for length in range(1, len(path)):
+            self.found.setdefault(path[:length], span)
         return path
 
     def pair(self, table):

@@ -66,11 +66,76 @@ def near(word, words):
     return f"; is it '{found[0]}'?" if found else f"; the keys are {', '.join(words)}"
 
 
-def of_keys(path, table, rule, name):
+# How alike a key has to be to one of its table, that it is taken for that one misspelt and not for one of another table.
+NEAR = 0.85
+# Where the keys of a table stand, and how the headers of tables are written.
+STANDS = {"": "at the head of the file, before the first line in brackets", "net": "under [net]", "network": "under a [[network]]"}
+STANDS |= {"controller": "under a [[controller]], before its first [[controller.drop]] or [[controller.segment]]", "host": "under a [[host]]"}
+STANDS |= {"drop": "under a [[controller.drop]]", "segment": "under a [[controller.segment]]"}
+HEADERS = {"controller": "[[controller]]", "segment": "[[controller.segment]]", "drop": "[[controller.drop]]", "host": "[[host]]", "net": "[net]"}
+HEADERS |= {"network": "[[network]]"}
+
+
+def is_tables(value):
+    """Whether a value is a table or a list of tables: what a line in brackets begins."""
+    return isinstance(value, dict) or isinstance(value, list) and bool(value) and isinstance(value[0], dict)
+
+
+def keys_of(plant, table, is_two):
+    """The keys of a table in version 1 or 2."""
+    name = RULES.get(table, table)
+    name = OF_VERSION_TWO.get(table, name) if is_two else name
+    return plant.schema["$defs"][name]["properties"]
+
+
+def owners(plant, key, is_two):
+    """The tables that have a key."""
+    return [table for table in TABLES if (is_two or table != "network") and key in keys_of(plant, table, is_two)]
+
+
+def header_of(path, value):
+    """The line that begins a table or a list of tables."""
+    name = ".".join(step for step in path if isinstance(step, str))
+    return f"[{name}]" if isinstance(value, dict) else f"[[{name}]]"
+
+
+def nearest_tables(path, is_two):
+    """The headers of all tables, the one first that is most like an unknown one."""
+    whole, last = ".".join(step for step in path if isinstance(step, str)), path[-1]
+
+    def likeness(header):
+        name = header.strip("[]")
+        pairs = ((whole, name), (last, name.rpartition(".")[2]))
+        return max(difflib.SequenceMatcher(None, one, other).ratio() for one, other in pairs)
+
+    return sorted((header for table, header in HEADERS.items() if is_two or table != "network"), key=likeness, reverse=True)
+
+
+def of_unknown(plant, path, value, name):
+    """Why a key is not known in its table: it is one of version 2, begins a table that is none, stands in the wrong table, or is misspelt."""
+    key, is_two = path[-1], plant.is_version_two()
+    table = next((step for step in reversed(path[:-1]) if isinstance(step, str)), "")
+    here, of_two = owners(plant, key, is_two), owners(plant, key, True)
+    words = list(keys_of(plant, table, is_two))
+    is_table, is_near = is_tables(value), difflib.get_close_matches(key.lower(), words, 1, NEAR)
+    if not is_two and (table in of_two or of_two and not (here or is_table or is_near)):
+        where = " or ".join(STANDS[owner] for owner in of_two if owner == table or table not in of_two)
+        return Finding(2, "a key of version 2", f"'{key}' is a key of version 2 ({where}), and this plant has version = 1", path)
+    if is_table:
+        first, *others = nearest_tables(path, is_two)
+        detail = f"there is no table {header_of(path, value)}; is it {first}? The others are {', '.join(others)}"
+        return Finding(2, "a table that is not known", detail, path)
+    if here and not is_near:
+        where = " or ".join(STANDS[owner] for owner in here)
+        return Finding(2, "a key in the wrong table", f"{name} has no key '{key}'; it belongs {where}", path)
+    return Finding(2, "a key that is not known", f"{name} has no key '{key}'{near(key, words)}", path)
+
+
+def of_keys(plant, path, table, rule, name):
     keys = rule["properties"]
-    for key in table:
+    for key, value in table.items():
         if key not in keys:
-            yield Finding(2, "a key that is not known", f"{name} has no key '{key}'{near(key, list(keys))}", path + (key,))
+            yield of_unknown(plant, path + (key,), value, name)
     for key in rule.get("required", []):
         if key not in table:
             yield Finding(2, "a key that is missing", f"{name} has to have the key '{key}'", path)
@@ -100,6 +165,14 @@ def of_number(path, key, value, rule):
         yield Finding(3, "a number of discretes that is no multiple of 16", f"'{key}' is {value}; {below} and {below + step} are", path)
 
 
+def of_type(path, value, rule):
+    """A value of another type, or one table where a list of them belongs, or the other way round."""
+    key, header = path[-1], HEADERS.get(path[-1])
+    if header and is_tables(value):
+        return Finding(3, "a table with the wrong brackets", f"it is {header_of(path, value)}, and has to be {header}", path)
+    return Finding(3, "a value of another type", f"'{key}' has to be {TYPE_NAMES[rule['type']]}", path)
+
+
 def of_value(plant, path, key, value, rule):
     if "enum" in rule:
         if not is_of(value, "integer"):
@@ -107,7 +180,7 @@ def of_value(plant, path, key, value, rule):
         elif value not in rule["enum"]:
             yield Finding(4, "another version", f"'{key}' is {value}, and has to be {' or '.join(map(str, rule['enum']))}", path)
     elif not is_of(value, rule["type"]):
-        yield Finding(3, "a value of another type", f"'{key}' has to be {TYPE_NAMES[rule['type']]}", path)
+        yield of_type(path, value, rule)
     elif rule["type"] == "array":
         yield from of_items(path, key, value, rule, rule_of(plant, rule["items"]))
     elif rule["type"] == "integer":
@@ -123,7 +196,7 @@ def of_table(plant, path, rule, name):
     table = plant.at(path)
     if not isinstance(table, dict):
         return
-    yield from of_keys(path, table, rule, name)
+    yield from of_keys(plant, path, table, rule, name)
     for key, value_rule in rule["properties"].items():
         if key in table:
             yield from of_value(plant, path + (key,), key, table[key], rule_of(plant, value_rule))

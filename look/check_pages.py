@@ -225,6 +225,23 @@ def try_bridges(window, folder):
     results.equal("bridges: errors", [], window.errors())
 
 
+def try_own_port(window, folder):
+    """An operation of a node's own port that fails is wrong in the list and in the chart, and one that ends well in neither."""
+    page = os.path.join(folder, "own_port.html")
+    status = run_script("view", "2", os.path.join(CASES, "all_lines.toml"), page)[0]
+    window.open("file://" + page)
+    results.equal("own ports: the outcomes", (0, ["good", "good", "bad"]), (status, own_ports(window, "#calls .row")[:3]))
+    window.value("byId('chart').scrollTop = 0; chart.draw()")
+    marks = window.value("""[...document.querySelectorAll('#chart .local')].map(row => ['i', 'svg .taken, svg .refused'].map(one =>
+        row.querySelector(one).getAttribute('class')).concat(row.querySelectorAll('.cross').length))""")
+    results.equal("own ports: the chart", [["good", "taken", 0], ["good", "taken", 0], ["bad", "refused", 1]], marks[:3])
+    results.equal("own ports: errors", [], window.errors())
+
+
+def own_ports(window, rows):
+    return window.value(f"""[...document.querySelectorAll('{rows}')].filter(row => row.textContent.includes('own port')).map(row => row.classList[2])""")
+
+
 def try_compare_page(window, folder):
     read_two, page = plant_file("read_two"), os.path.join(folder, "compare.html")
     lost = changed(folder, "lost.toml", "rounds = 1", 'rounds = 1\nfates = "A"', "read_two")
@@ -232,6 +249,16 @@ def try_compare_page(window, folder):
     window.open("file://" + page)
     marks = list(zip(window.fields(".differs[data-from]", "dataset.from"), window.fields(".differs[data-from]", "dataset.to")))
     results.equal("differences are marked, for was and is", [("2", "2")] * 10, marks)
+    results.equal("the line of the file that differs", ['new line 7: fates = "A"'], window.texts("#differences .file"))
+    results.equal("what can be chosen where no networks are shown", "messages of", window.text("#which-of"))
+    quiet = plant_file("traffic_light")
+    longer = changed(folder, "longer.toml", "T1.0 6 40001", "T1.0 7 40001", "traffic_light")
+    run_script("compare", "8", quiet, longer, page)
+    window.open("file://" + page)
+    hidden = window.value("['messages', 'networks'].map(one => byId(one).hidden).concat(byId('which').parentElement.hidden)")
+    results.equal("compare without calls: nothing is offered", [True] * 3, hidden)
+    found = (window.texts("#outcomes .run"), window.texts("#differences table"))
+    results.equal("compare without calls: no table", (["traffic_light.toml: no calls", "longer.toml: no calls"], []), found)
     results.equal("compare page: errors", [], window.errors())
 
 
@@ -250,6 +277,7 @@ def try_pages(folder):
         try_journal_pages(window, folder)
         try_routes(window, folder)
         try_bridges(window, folder)
+        try_own_port(window, folder)
         try_compare_page(window, folder)
     finally:
         window.close()

@@ -457,7 +457,8 @@ class Ring:
             self.row(place, entry, "take", int(f["take"]), id=f["taken"], what=f["what"], **more)
         elif "local" in f:
             result = decimal(f["good"]) or "done" if "good" in f else modbus.error_words(f["bad"])
-            self.row(place, entry, "local", int(f["local"]), id=f["own"], words=local_words(f["op"]), fate=result)
+            mark = "came" if "good" in f else "failed"
+            self.row(place, entry, "local", int(f["local"]), id=f["own"], words=local_words(f["op"]), fate=result, mark=mark)
         elif "given" in f:
             node = int(f["given"].split(".")[0])
             self.row(place, entry, "give up", node, id=f["given"], fate=modbus.error_words(f["word"]))

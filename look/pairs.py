@@ -2,6 +2,7 @@
 from dataclasses import dataclass
 
 import ladder
+import solving
 
 
 @dataclass
@@ -75,14 +76,14 @@ def compare_controller(old, new, node, scans, are_journals):
     if dark[0] != dark[1]:
         told = [f"without power in scans {ranges_text(ranges_of(them))}" if them else "never without power" for them in dark]
         lines.append(f"controller {node}: {told[0]} in {old.name}, {told[1]} in {new.name}")
-    panel, others = shared_references(old.plant.controller(node), new.plant.controller(node))
+    controllers = [run.plant.controller(node) for run in (old, new)]
+    panel, others = shared_references(*controllers)
     found = differing(old, new, node, panel + others)
     if not found:
         return lines, {}
-    # Within the first scan a reference of the panel is told before others.
     order = {reference: place for place, reference in enumerate(panel + others)}
-    first = min(found, key=lambda reference: (found[reference][0], order[reference]))
-    scan = found[first][0]
+    scan = min(scans[0] for scans in found.values())
+    first = solving.first_of(controllers, [reference for reference in found if found[reference][0] == scan], order)
     all_scans = sorted(set().union(*found.values()))
     values = [value_text(run, node, first, scan) for run in (old, new)]
     rest = [reference for reference in sorted(found, key=order.get) if reference != first]

@@ -6,9 +6,11 @@ import subprocess
 import sys
 from concurrent.futures import ThreadPoolExecutor
 
-import journal as journals
-
 TOP = os.path.dirname(os.path.dirname(os.path.abspath(__file__)))
+sys.path.append(os.path.join(TOP, "launcher"))
+import journal as journals  # noqa: E402
+from output import WRITE_FAULT, end_unread, named, say, write  # noqa: E402, F401
+
 LAUNCHER = os.path.join(TOP, "plant984")
 PANEL = 64
 UNPROVED = "PLANT984_UNPROVED" in os.environ
@@ -16,11 +18,8 @@ UNPROVED = "PLANT984_UNPROVED" in os.environ
 AT_ONCE = 1 if UNPROVED else os.cpu_count()
 
 
-# A reader that has gone, or control-C, ends a script without a word, as it ends other programs.
-signal.signal(signal.SIGPIPE, signal.SIG_DFL)
+# Control-C ends a script without a word, as it ends other programs.
 signal.signal(signal.SIGINT, signal.SIG_DFL)
-sys.stdout.reconfigure(encoding="utf-8", errors="replace")
-WRITE_FAULT = 4
 # The runs that were begun and have not ended.
 running = set()
 
@@ -50,10 +49,6 @@ class ProgramEnd(Exception):
     def __init__(self, status, text):
         super().__init__(status)
         self.status, self.text = status, text
-
-
-def say(text):
-    sys.stderr.write(f"plant984: {text}\n")
 
 
 def call(words, data=b"", file=None):
@@ -114,7 +109,7 @@ def read_file(name):
 
 def end_with(error):
     """Ends as the program did, with the line that it wrote."""
-    write_out(error.text)
+    write(error.text)
     sys.exit(error.status)
 
 
@@ -126,16 +121,6 @@ def shown(name):
 def number_of_scans(word):
     """A number of scans as the program takes it, or None."""
     return int(word) if word.isascii() and word.isdigit() and word[0] != "0" and len(word) < 5 and int(word) <= 2000 else None
-
-
-def write_out(text):
-    try:
-        sys.stdout.write(text)
-        sys.stdout.flush()
-    except OSError as error:
-        sys.stdout = None
-        say(f"writing failed: {error.strerror}")
-        sys.exit(WRITE_FAULT)
 
 
 def is_other_file(name):
@@ -151,14 +136,14 @@ def is_other_file(name):
 def write_page(text, name):
     """Writes a page to a file, or to standard output; a file that is there and is no such page is left alone."""
     if name is None:
-        write_out(text)
+        write(text)
         return
     try:
         if is_other_file(name):
-            say(f"{name} is there and is no page of this program; it is left as it is (the page is the last word)")
+            say(f"{named(name)} is there and is no page of this program; it is left as it is (the page is the last word)")
             sys.exit(2)
         with open(name, "w", encoding="utf-8", errors="replace") as file:
             file.write(text)
     except OSError as error:
-        say(f"{name}: {error.strerror}")
+        say(f"writing {named(name)} failed: {error.strerror}")
         sys.exit(WRITE_FAULT)

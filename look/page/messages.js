@@ -27,8 +27,8 @@ function virtualList(box, rowHeight, drawRow) {
 function drawOutcomes(box, view) {
   box.replaceChildren();
   runs.forEach((run, number) => {
-    const group = make(box, 'span', {class: 'group'}, isPair ? run.name + ': ' : '');
-    if (!run.calls.length) make(group, 'span', {}, 'no calls');
+    const group = make(box, 'span', {class: 'group run'}, isPair ? run.name + ': ' : '');
+    if (!run.calls.length) make(group, 'span', {class: 'open'}, 'no calls');
     for (const outcome of Object.keys(OUTCOMES)) {
       // A request that bridges send on counts once, under its first name.
       const calls = run.calls.filter(call => call.outcome === outcome && call.kind !== 'bridge');
@@ -98,6 +98,12 @@ function step(box, name, at, view) {
   }
 }
 
+// Whether a run has more to tell of its rings than that the token went round, and that all left when they were done.
+function tellsOfRings(run) {
+  const ends = row => row.kind === 'leave' && row.words.endsWith('all are done');
+  return run.calls.length > 0 || run.rows.some(row => !ends(row) && row.kind !== 'idle' && (row.kind !== 'pass' || row.words.includes('global')));
+}
+
 // The rows of the chart that are wanted.
 function chartRows(run, framesAlone) {
   return framesAlone ? run.rows.filter(row => row.kind === 'send' || row.kind === 'give up' || row.kind === 'leave' || row.kind === 'join') : run.rows;
@@ -131,7 +137,7 @@ function drawChartRow(element, rows, number, lanes, nodes, view) {
   if (row.id) element.addEventListener('click', () => view.select(row.id, view.charted));
 }
 
-function isBadMark(row) { return row.kind === 'give up' || (row.kind === 'send' && row.mark !== 'came'); }
+function isBadMark(row) { return row.kind === 'give up' || ((row.kind === 'send' || row.kind === 'local') && row.mark !== 'came'); }
 
 function frameName(row) { return (row.what === 'Q' ? 'request ' : 'reply to ') + row.id; }
 
@@ -159,7 +165,8 @@ function drawMark(svg, row, lanes) {
   } else if (row.kind === 'post') {
     draw(svg, 'circle', {cx: x, cy: middle, r: 4, class: 'posted'});
   } else if (row.kind === 'local') {
-    draw(svg, 'rect', {x: x - 5, y: middle - 5, width: 10, height: 10, class: 'taken'});
+    draw(svg, 'rect', {x: x - 5, y: middle - 5, width: 10, height: 10, class: isBadMark(row) ? 'refused' : 'taken'});
+    if (isBadMark(row)) draw(svg, 'text', {x: x + 13, y: middle + 5, 'text-anchor': 'middle', class: 'bad cross'}, '✕');
   } else if (row.kind === 'give up') {
     draw(svg, 'text', {x, y: middle + 6, 'text-anchor': 'middle', class: 'bad cross'}, '✕');
   } else {

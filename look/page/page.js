@@ -129,7 +129,10 @@ function showDifferences() {
   if (!isPair) return;
   const section = byId('differences'), box = section.querySelector('div');
   section.hidden = false;
+  for (const line of data.pair.files || []) make(box, 'p', {class: 'file'}, line);
   for (const line of data.pair.lines) make(box, 'p', {}, line);
+  if (!data.pair.files && !data.pair.lines.length) make(box, 'p', {}, 'No value differs.');
+  if (!data.pair.calls.length) return;
   const table = make(box, 'table', {class: 'answers'});
   const head = make(table, 'tr', {});
   for (const name of ['node', 'its request', runs[0].name, runs[1].name]) make(head, 'th', {}, name);
@@ -144,7 +147,9 @@ function showDifferences() {
 // With two runs there is a choice of the one whose networks and messages are shown.
 function listRuns() {
   runs.forEach((run, number) => make(byId('which'), 'option', {value: number}, run.name));
-  byId('which').parentElement.hidden = !isPair;
+  const things = [networks ? 'networks' : '', byId('messages').hidden ? '' : 'messages'].filter(one => one);
+  byId('which-of').textContent = things.join(' and ') + ' of';
+  byId('which').parentElement.hidden = !isPair || !things.length;
 }
 
 function listReferences() {
@@ -201,12 +206,13 @@ function begin() {
   showHead();
   showDifferences();
   listReferences();
-  listRuns();
   if (data.plant.controllers.some(one => one.segments.length) && !data.withoutNetworks) {
     networks = listNetworks(document.querySelector('#networks .list'), view);
   } else {
     byId('networks').hidden = true;
   }
+  byId('messages').hidden = !runs.some(tellsOfRings);
+  listRuns();
   drawOutcomes(byId('outcomes'), view);
   view.scale.width = view.box.clientWidth;
   view.scale.zoom = view.scale.fitted();

@@ -1,8 +1,8 @@
 -- What entries of the other end leave of an end, and what an entry of its own makes of it.
-use Rattle.std.proofs.Common.{◌≡◌, ◌≢◌, ℕ, ◌==◌, Bool, true, false, cond, List, [], ◌∷◌, ◌++◌}
+use Rattle.std.proofs.Common.{◌≡◌, ◌≢◌, ℕ, Bool, true, false, cond, List, [], ◌∷◌, ◌++◌}
 use Rattle.std.proofs.Common.{filter, Option, Some, None, refl, sym, ap, ◌∙◌, subst, inl, inr}
 use Rattle.std.proofs.Common.{append_assoc, append-nil, eq-eqb}
-use Rattle.std.proofs.lemmas.Bool.{cases_eq, cond-true, cond-false, ne_eqb}
+use Rattle.std.proofs.lemmas.Bool.{cases_eq, ne_eqb}
 use Rattle.plant_types.specs.declared.net.BridgePlan.{BridgePlan}
 use Rattle.bridge_relay.specs.declared.entry.BridgeEntry.{BridgeEntry}
 use Rattle.bridge_relay.specs.declared.entry.BridgeEntry.TheVariants.{Accept, Forward, Finish}
@@ -14,6 +14,7 @@ use Rattle.bridge_relay.specs.Laws.{end_after, is_by}
 use Rattle.bridge_relay.specs.Legal.{IsBridgeHistory, IsEnd, IsOpenEnd}
 use Rattle.bridge_relay.specs.Kept.{far_accepted, far_after, near_after}
 use Rattle.bridge_relay.proofs.Steps.{after_more, step_left, step_right}
+use Rattle.bridge_causes.proofs.Ends.{near-left, near-right}
 use Rattle.tied_lists.specs.Own.{WentOn}
 
 -- the paths of an end, and whether it has left, as they were
@@ -42,16 +43,6 @@ far-stays across near far (Forward side old id route request) =
 far-stays across near far (Finish side id result) = record { paths = refl; gone = refl }
 far-stays across near far (Back side id reply) = record { paths = refl; gone = refl }
 far-stays across near far (Gone side) = record { paths = refl; gone = refl }
-
-pub near-left : (plan : BridgePlan) (relay : RelayIs) (n : ℕ) → n ≡ plan.left
-    → near_end plan relay n ≡ relay.left
-near-left plan relay n is = cond-true (n == plan.left) relay.left relay.right
-    (eq-eqb n plan.left is)
-
-pub near-right : (plan : BridgePlan) (relay : RelayIs) (n : ℕ) → n ≢ plan.left
-    → near_end plan relay n ≡ relay.right
-near-right plan relay n is = cond-false (n == plan.left) relay.left relay.right
-    (ne_eqb n plan.left is)
 
 -- an entry of the other end
 step-across : (plan : BridgePlan) (relay : RelayIs) (n : ℕ) (e : BridgeEntry) → IsEnd plan n

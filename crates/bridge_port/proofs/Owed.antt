@@ -18,8 +18,7 @@ use Rattle.bridge_relay.specs.declared.entry.RelayResult.{RelayResult}
 use Rattle.bridge_relay.specs.Machine.{EndIs, OutCall, RelayIs, RelayPath, Returned, Waiting}
 use Rattle.bridge_relay.specs.Machine.{exception_to, far_end, far_side, near_end, new_relay}
 use Rattle.bridge_relay.specs.Machine.{relay_after, relay_path, relay_step, returned, side_of}
-use Rattle.bridge_relay.specs.Machine.{unsent}
-use Rattle.bridge_relay.specs.Machine.{unused_path}
+use Rattle.bridge_relay.specs.Machine.{out_call, unsent, unused_path}
 use Rattle.bridge_relay.specs.Kept.{code_between, far_accepted, far_after, near_accepted}
 use Rattle.bridge_relay.specs.Kept.{near_after, returned_by}
 use Rattle.bridge_relay.specs.Laws.{end_after, is_by}
@@ -245,8 +244,7 @@ owed-other : (Known : CallId → Type 0) (across : ℕ) (near far : EndIs) (back
 owed-other Known across near far backs accepts (Accept side id route request) owes o =
     other-accept Known near far backs accepts id route request (code_between across near route) o
 owed-other Known across near far backs accepts (Forward side old id route request) owes o =
-    let v : RelayPath =
-    record { last = id.seq; out = Some (record { old = old; request = request }) } in
+    let v : RelayPath = record { last = id.seq; out = Some (out_call old request) } in
     record {
       give = o.give;
       send = each-drop (λ (item : Waiting). Known item.id) far.to_send o.send;

@@ -68,7 +68,7 @@ pub(crate) fn give_up_where<B: BridgeSide, R: RingSide>(
     ensures part { OnOk result (GivesWhereOver R.RingSide side chosen.now ring.old ring.new) }
     ensures step { EndStep B.BridgeSide R.RingSide side bridge.old bridge.new ring.old ring.new }
 {
-    for path in 1..5 {
+    for path in NETWORK_PATHS {
         if !chosen[path as usize] {
             continue;
         }

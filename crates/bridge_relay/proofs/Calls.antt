@@ -17,7 +17,7 @@ use Rattle.bridge_relay.specs.declared.entry.BridgeEntry.{BridgeEntry}
 use Rattle.bridge_relay.specs.declared.entry.BridgeEntry.TheVariants.{Accept, Forward, Finish}
 use Rattle.bridge_relay.specs.declared.entry.BridgeEntry.TheVariants.{Back, Gone}
 use Rattle.bridge_relay.specs.declared.entry.RelayResult.{RelayResult}
-use Rattle.bridge_relay.specs.Machine.{OutCall, RelayPath, relay_path, unused_path, side_of}
+use Rattle.bridge_relay.specs.Machine.{RelayPath, out_call, relay_path, unused_path, side_of}
 use Rattle.bridge_relay.specs.Machine.{relay_after, near_end, new_end}
 use Rattle.bridge_relay.specs.Legal.{IsEnd, IsBridgeHistory, IsBridgeStep, is_network_path}
 use Rattle.bridge_relay.specs.Laws.{end_after, sends_on_path, sends_call, ends_call}
@@ -208,7 +208,7 @@ told_forward plan history side id old i route request sound own told step =
     let entry : BridgeEntry = Forward side old i route request in
     let more = history ++ entry ∷ [] in
     let made = forward_made plan history side old i route request step.fits in
-    let call : OutCall = record { old = old; request = request } in
+    let call = out_call old request in
     let now : RelayPath = record { last = i.seq; out = Some call } in
     let set_is : (end_after plan more side).paths
     ≡ set (end_after plan history side).paths (i.path - 1) now =

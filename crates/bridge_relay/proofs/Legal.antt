@@ -69,17 +69,6 @@ forward_made plan history side old id route request is =
     let end = near_end plan (relay_after plan history) side in
     made_of side end (slice_get end.to_send 0) (free_relay_path end) old id route request refl is
 
--- the path of a step is one of the four
-pub step_path : (plan : BridgePlan) (history : List BridgeEntry) (entry : BridgeEntry)
-    → IsBridgeStep plan history entry → HasRelayPath entry
-step_path plan history (Accept side id route request) fits = tt
-step_path plan history (Forward side old id route request) fits =
-    (forward_made plan history side old id route request fits.fits).path.is_path
-step_path plan history (Finish side id result) fits =
-    known_path id.path (and_parts _ _ (and_parts _ _ fits.fits).0).1
-step_path plan history (Back side id reply) fits = tt
-step_path plan history (Gone side) fits = tt
-
 -- what is due is a step
 if_forward : (P : BridgeEntry → Type 0) (side : ℕ) (end : EndIs) (waits : Option Waiting)
     (path : Option ℕ)

@@ -10,7 +10,7 @@ use Rattle.bridge_relay.specs.declared.entry.BridgeEntry.{BridgeEntry}
 use Rattle.bridge_relay.specs.declared.entry.BridgeEntry.TheVariants.{Accept, Forward, Finish}
 use Rattle.bridge_relay.specs.declared.entry.BridgeEntry.TheVariants.{Back, Gone}
 use Rattle.bridge_relay.specs.Machine.{EndIs, RelayIs, RelayPath, Waiting, unused_path, new_end}
-use Rattle.bridge_relay.specs.Machine.{new_relay, near_end, relay_step, side_of}
+use Rattle.bridge_relay.specs.Machine.{new_relay, near_end, out_call, relay_step, side_of}
 use Rattle.bridge_relay.specs.Legal.{IsEnd, IsBridgeHistory, IsBridgeStep}
 use Rattle.bridge_relay.specs.Kept.{code_between, near_accepted, far_accepted, near_after}
 use Rattle.bridge_relay.specs.Kept.{far_after}
@@ -29,7 +29,7 @@ abbrev pub part_step : Part → BridgeEntry → Part
 part_step part (Accept side id route request) = part
 part_step part (Forward side old id route request) = record part {
   paths = set part.paths (id.path - 1)
-      (record { last = id.seq; out = Some (record { old = old; request = request }) });
+      (record { last = id.seq; out = Some (out_call old request) });
 }
 part_step part (Finish side id outcome) = record part {
   paths = set part.paths (id.path - 1)

@@ -10,8 +10,9 @@ use Rattle.bridge_relay.specs.declared.entry.BridgeEntry.TheVariants.{Accept, Fo
 use Rattle.bridge_relay.specs.declared.entry.BridgeEntry.TheVariants.{Back, Gone}
 use Rattle.bridge_relay.specs.Machine.{EndIs, RelayIs, Waiting, Returned, waiting_limit}
 use Rattle.bridge_relay.specs.Machine.{no_path_code, busy_code, exception_to, queues, gives}
-use Rattle.bridge_relay.specs.Machine.{sent_on, freed, returned, relay_path, given_back, unsent}
-use Rattle.bridge_relay.specs.Machine.{left_for_good, relay_after, is_free_relay_path}
+use Rattle.bridge_relay.specs.Machine.{out_call, sent_on, freed, returned, relay_path}
+use Rattle.bridge_relay.specs.Machine.{given_back, unsent, left_for_good, relay_after}
+use Rattle.bridge_relay.specs.Machine.{is_free_relay_path}
 use Rattle.bridge_relay.specs.Legal.{IsBridgeHistory}
 
 -- The path of a call that an entry makes or ends is one of the four.
@@ -55,7 +56,7 @@ near_after across near far (Accept side id route request) =
     near_accepted near (record { id = id; route = route; request = request })
     (code_between across far route)
 near_after across near far (Forward side old id route request) =
-    sent_on near id (record { old = old; request = request })
+    sent_on near id (out_call old request)
 near_after across near far (Finish side id result) = freed near id.path
 near_after across near far (Back side id reply) = given_back near
 near_after across near far (Gone side) = left_for_good near

@@ -124,9 +124,13 @@ no_answer_code = 11
 abbrev pub busy_code : ℕ
 busy_code = 6
 
--- The exception that answers a request: its function with the highest bit set, and a code.
+-- The exception that answers a request of a function: its code with the highest bit set, and why.
+abbrev pub exception_of : ℕ → ℕ → List ℕ
+exception_of function code = reply_bytes (Exception function code)
+
+-- The exception that answers a request, whose first byte is its function code.
 abbrev pub exception_to : List ℕ → ℕ → List ℕ
-exception_to request code = reply_bytes (Exception (slice_index request 0) code)
+exception_to request code = exception_of (slice_index request 0) code
 
 -- The code with which a request by this route is answered at once; none where it waits to go on.
 abbrev pub code_at_once : BridgePlan → RelayIs → ℕ → List ℕ → Option ℕ
@@ -140,10 +144,14 @@ code_at_once plan relay side (next ∷ rest) =
 abbrev pub code_of_word : ℕ → ℕ
 code_of_word word = if word == 0x6103 then no_path_code else no_answer_code
 
+-- The reply to a request of a function whose call came to this.
+abbrev pub reply_of : ℕ → RelayResult → List ℕ
+reply_of function (Reply reply) = reply
+reply_of function (Bad word) = exception_of function (code_of_word word)
+
 -- The reply to a request whose call came to this.
 abbrev pub reply_for : List ℕ → RelayResult → List ℕ
-reply_for request (Reply reply) = reply
-reply_for request (Bad word) = exception_to request (code_of_word word)
+reply_for request result = reply_of (slice_index request 0) result
 
 -- ---- What each entry makes of the ends.
 
@@ -162,6 +170,10 @@ accepted plan relay side item (Some code) =
     let refused : Returned = record { id = item.id; reply = exception_to item.request code } in
     with_ends plan side (gives (near_end plan relay side) (refused ∷ [])) (far_end plan relay side)
 
+-- The call that sends a request on, which came under this name.
+abbrev pub out_call : CallId → List ℕ → OutCall
+out_call old request = record { old = old; function = slice_index request 0 }
+
 -- Forward: the first request that waits goes out on a path, under the next number of that path.
 abbrev pub sent_on : EndIs → CallId → OutCall → EndIs
 sent_on end id call = with_path (record end { to_send = drop 1 end.to_send }) id.path
@@ -175,7 +187,7 @@ freed end path = with_path end path (record (relay_path end path) { out = None }
 abbrev pub returned : Option OutCall → RelayResult → List Returned
 returned None result = []
 returned (Some call) result =
-    record { id = call.old; reply = reply_for call.request result } ∷ []
+    record { id = call.old; reply = reply_of call.function result } ∷ []
 
 abbrev pub relay_finished : BridgePlan → RelayIs → ℕ → CallId → RelayResult → RelayIs
 relay_finished plan relay side id result =
@@ -209,8 +221,7 @@ relay_step plan relay (Accept side id route request) =
     (code_at_once plan relay side route)
 relay_step plan relay (Forward side old id route request) =
     with_ends plan side
-    (sent_on (near_end plan relay side) id (record { old = old; request = request }))
-    (far_end plan relay side)
+    (sent_on (near_end plan relay side) id (out_call old request)) (far_end plan relay side)
 relay_step plan relay (Finish side id result) = relay_finished plan relay side id result
 relay_step plan relay (Back side id reply) =
     with_ends plan side (given_back (near_end plan relay side)) (far_end plan relay side)

@@ -18,7 +18,6 @@ use std::alloc::{AllocError, Global};
 use std::marker::Model;
 
 /// A bridge with the history of what it took, sent on, was told and gave back. This project's own.
-#[derive(Drop)]
 pub struct Bridge {
     alloc: Global,
     plan: BridgePlan,
@@ -35,6 +34,17 @@ impl Model for Bridge {
     ghost view = { λ b. record { plan = b.plan; history = b.history.items } };
 
     ghost invariant = { λ b. IsBridge b.plan b.relay b.history.items };
+}
+
+impl Drop for Bridge {
+    fn drop(self) {
+        let Bridge {
+            alloc: _,
+            plan: _,
+            relay: _,
+            history: _,
+        } = self;
+    }
 }
 
 /// Room for one more entry.
@@ -86,7 +96,13 @@ impl Bridge {
         ensures history { result ≡ self.history }
         ensures legal { IsBridgeHistory self.plan self.history }
     {
-        List::from_vec(self.history)
+        let Bridge {
+            alloc: _,
+            plan: _,
+            relay: _,
+            history,
+        } = self;
+        List::from_vec(history)
     }
 
     /// Whether this is the address of an end that has not left.

@@ -1,10 +1,10 @@
 //! One end of a bridge: what it has to send and to give back, and its paths.
 ghost use Rattle.std.specs.Prelude.{◌≡◌, ◌↔◌, ◌∷◌, [], true, Some, is_some, IfOk, IfSome, OnOk};
-ghost use Rattle.std.specs.Prelude.{OnErr, slice_get, option_copied, option_map, length};
+ghost use Rattle.std.specs.Prelude.{OnErr, slice_get, option_map, length};
 ghost use Rattle.ring_core.specs.Legal.{IsPath};
 ghost use Rattle.bridge_relay.specs.Machine.{new_end, unused_path, relay_path, is_out_on, none_out};
 ghost use Rattle.bridge_relay.specs.Machine.{is_free_relay_path, free_relay_path, is_idle_end};
-ghost use Rattle.bridge_relay.specs.Machine.{queues, gives};
+ghost use Rattle.bridge_relay.specs.Machine.{queues, gives, out_call};
 ghost use Rattle.bridge_relay.specs.Machine.{sent_on, freed, given_back, left_for_good};
 ghost use Rattle.bridge_relay.specs.Legal.{forward_id, forward_by};
 ghost use Rattle.bridge_relay.specs.Kept.{IsFreePath, returned_by};
@@ -17,25 +17,39 @@ use std::collections::VecDeque;
 use std::marker::Model;
 
 /// A request that an end has to send, under the name with which it came, and the way that is left.
-#[derive(Drop)]
 pub(crate) struct Waiting {
     pub id: CallId,
     pub route: Route,
     pub request: Pdu,
 }
 
+impl Drop for Waiting {
+    fn drop(self) {
+        let Waiting {
+            id: _,
+            route: _,
+            request: _,
+        } = self;
+    }
+}
+
 /// A reply that an end has to give back, under the name of its request.
-#[derive(Drop)]
 pub(crate) struct Returned {
     pub id: CallId,
     pub reply: Pdu,
 }
 
-/// A call that is out: the name with which its request came, and that request.
-#[derive(Drop)]
+impl Drop for Returned {
+    fn drop(self) {
+        let Returned { id: _, reply: _ } = self;
+    }
+}
+
+/// A call that is out: the name with which its request came, and the function code of that.
+#[derive(Clone, Copy)]
 pub(crate) struct OutCall {
     pub old: CallId,
-    pub request: Pdu,
+    pub function: u8,
 }
 
 /// A path of an end: the number that it gave last, 0 for none, and the call that is out on it.
@@ -46,7 +60,6 @@ pub(crate) struct RelayPath {
 }
 
 /// An end with its paths, and whether it has left for good.
-#[derive(Drop)]
 pub(crate) struct End {
     to_send: VecDeque<Waiting>,
     to_give: VecDeque<Returned>,
@@ -65,6 +78,17 @@ impl Model for End {
       paths = e.paths;
       gone = e.gone;
     } };
+}
+
+impl Drop for End {
+    fn drop(self) {
+        let End {
+            to_send: _,
+            to_give: _,
+            paths: _,
+            gone: _,
+        } = self;
+    }
 }
 
 /// A path that was not used yet.
@@ -105,12 +129,13 @@ impl Waiting {
 }
 
 impl OutCall {
-    /// The call that sends this request on, with memory of its own.
-    pub fn of(alloc: Global, old: CallId, request: &Pdu) -> Result<OutCall, AllocError>
-        ensures { IfOk result (λ call. call ≡ record { old = old; request = request.now }) }
+    /// The call that sends this request on.
+    pub fn of(old: CallId, request: &Pdu) -> OutCall
+        ensures { result ≡ out_call old request.now }
     {
-        let request = request.copied(alloc)?;
-        Ok(OutCall { old, request })
+        let bytes = request.bytes();
+        let function = bytes[0];
+        OutCall { old, function }
     }
 }
 
@@ -322,11 +347,11 @@ impl End {
     }
 
     /// The call that is out on a path.
-    pub fn call_out(&self, path: u8) -> Option<&OutCall>
+    pub fn call_out(&self, path: u8) -> Option<OutCall>
         requires { IsPath path }
-        ensures { option_copied result ≡ (relay_path self.now path).out }
+        ensures { result ≡ (relay_path self.now path).out }
     {
-        self.paths[usize::from(path) - 1].out.as_ref()
+        self.paths[usize::from(path) - 1].out
     }
 
     /// A path is free again.

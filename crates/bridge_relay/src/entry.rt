@@ -17,7 +17,6 @@ pub enum RelayResult {
 }
 
 /// One event of a bridge. The side is the address of the end that makes it.
-#[derive(Drop)]
 pub enum BridgeEntry {
     /// It took this request, under this name, with what is left of its route.
     Accept {
@@ -50,6 +49,37 @@ pub enum BridgeEntry {
     Gone {
         side: u8,
     },
+}
+
+impl Drop for BridgeEntry {
+    fn drop(self) {
+        match self {
+            BridgeEntry::Accept {
+                side: _,
+                id: _,
+                route: _,
+                request: _,
+            }
+            | BridgeEntry::Forward {
+                side: _,
+                old: _,
+                id: _,
+                route: _,
+                request: _,
+            }
+            | BridgeEntry::Finish {
+                side: _,
+                id: _,
+                result: _,
+            }
+            | BridgeEntry::Back {
+                side: _,
+                id: _,
+                reply: _,
+            }
+            | BridgeEntry::Gone { side: _ } => {}
+        }
+    }
 }
 
 impl BridgeEntry {

@@ -1,9 +1,10 @@
 //! Both ends of a bridge, and what each entry makes of them.
-ghost use Rattle.std.specs.Prelude.{◌≡◌, map, IfOk, OnOk, OnErr, option_copied};
+ghost use Rattle.std.specs.Prelude.{◌≡◌, map, IfOk, OnOk, OnErr};
 ghost use Rattle.std.specs.Prelude.{option_to_list};
 ghost use Rattle.ring_core.specs.Legal.{IsPath};
 ghost use Rattle.bridge_relay.specs.Machine.{new_relay, near_end, relay_step};
-ghost use Rattle.bridge_relay.specs.Machine.{exception_to, code_of_word, reply_for, returned};
+ghost use Rattle.bridge_relay.specs.Machine.{exception_of, exception_to, code_of_word};
+ghost use Rattle.bridge_relay.specs.Machine.{reply_of, returned};
 ghost use Rattle.bridge_relay.specs.Machine.{relay_path, freed, gives, left_for_good, unsent};
 ghost use Rattle.bridge_relay.specs.Kept.{HasRelayPath, code_between, near_accepted, far_accepted};
 ghost use Rattle.bridge_relay.specs.Kept.{near_after, far_after};
@@ -30,7 +31,6 @@ const NO_ANSWER: u8 = 11;
 const BUSY: u8 = 6;
 
 /// Both ends.
-#[derive(Drop)]
 pub(crate) struct Relay {
     left: End,
     right: End,
@@ -44,13 +44,26 @@ impl Model for Relay {
     ghost view = { λ r. record { left = r.left; right = r.right } };
 }
 
+impl Drop for Relay {
+    fn drop(self) {
+        let Relay { left: _, right: _ } = self;
+    }
+}
+
+/// The exception of this code that answers a request of a function.
+fn exception_of(alloc: Global, function: u8, code: u8) -> Result<Pdu, AllocError>
+    ensures { IfOk result (λ reply. reply ≡ exception_of function code) }
+{
+    encode_reply(alloc, &Reply::Exception { function, code })
+}
+
 /// The exception of this code that answers a request.
 fn exception_to(alloc: Global, request: &Pdu, code: u8) -> Result<Pdu, AllocError>
     ensures { IfOk result (λ reply. reply ≡ exception_to request.now code) }
 {
     let bytes = request.bytes();
     let function = bytes[0];
-    encode_reply(alloc, &Reply::Exception { function, code })
+    exception_of(alloc, function, code)
 }
 
 /// The code for an error word.
@@ -64,13 +77,13 @@ fn code_of_word(word: u16) -> u8
     }
 }
 
-/// The reply to a request whose call came to this.
-fn reply_for(alloc: Global, request: &Pdu, outcome: &RelayResult) -> Result<Pdu, AllocError>
-    ensures { IfOk result (λ reply. reply ≡ reply_for request.now outcome.now) }
+/// The reply to a request of a function whose call came to this.
+fn reply_of(alloc: Global, function: u8, outcome: &RelayResult) -> Result<Pdu, AllocError>
+    ensures { IfOk result (λ reply. reply ≡ reply_of function outcome.now) }
 {
     match outcome {
         RelayResult::Reply(reply) => reply.copied(alloc),
-        RelayResult::Bad(word) => exception_to(alloc, request, code_of_word(*word)),
+        RelayResult::Bad(word) => exception_of(alloc, function, code_of_word(*word)),
     }
 }
 
@@ -118,17 +131,16 @@ fn accept(
 /// The reply that a call which came to this gives back.
 fn returned(
     alloc: Global,
-    call: Option<&OutCall>,
+    call: Option<OutCall>,
     outcome: &RelayResult,
 ) -> Result<Option<Returned>, AllocError>
-    ensures { IfOk result
-        (λ item. option_to_list item ≡ returned (option_copied call.entry) outcome.now) }
+    ensures { IfOk result (λ item. option_to_list item ≡ returned call outcome.now) }
 {
     match call {
         None => Ok(None),
         Some(call) => Ok(Some(Returned {
             id: call.old,
-            reply: reply_for(alloc, &call.request, outcome)?,
+            reply: reply_of(alloc, call.function, outcome)?,
         })),
     }
 }
@@ -210,7 +222,7 @@ fn take_step(
             request,
             ..
         } => {
-            near.send_on(*id, OutCall::of(alloc, *old, request)?);
+            near.send_on(*id, OutCall::of(*old, request));
             Ok(())
         }
         BridgeEntry::Finish { id, result, .. } => finish(alloc, near, far, *id, result),

@@ -17,8 +17,7 @@ use Rattle.bridge_relay.specs.Laws.{is_by}
 use Rattle.bridge_relay.specs.Legal.{IsBridgeHistory, IsEnd}
 use Rattle.bridge_relay.specs.Machine.{side_of}
 use Rattle.tied_lists.specs.Waits.{has_left, status_at}
-use Rattle.tied_lists.specs.Tied.{TiedEnd}
-use Rattle.joint_history.specs.Bridges.{backs_of, made_at_end, side_items}
+use Rattle.joint_history.specs.Bridges.{made_at_end}
 use Rattle.comm_port.specs.Stands.{HasGrown}
 use Rattle.bridge_port.proofs.Standings.{ready-across, ready-new, ready-ring}
 use Rattle.turn_laws.proofs.Holders.{member-there}
@@ -27,7 +26,7 @@ use Rattle.end_laws.proofs.Complete.{end-complete}
 use Rattle.end_laws.proofs.Others.{end-across, end-others, end-starts}
 use Rattle.bridge_station.specs.Laws.{EndsKnowWhetherTheyLeft, HoldingEndsAreThere}
 use Rattle.bridge_station.specs.Laws.{EndsStandBesideOthers, LeftBridgesAreComplete}
-use Rattle.bridge_station.specs.Laws.{StandingBridgesAreTied, BridgesStandBehindHolds}
+use Rattle.bridge_station.specs.Laws.{BridgesStandBehindHolds}
 use Rattle.bridge_station.specs.Station.{BridgeStationIs, EndStationIs, end_station}
 use Rattle.bridge_station.specs.Stands.{EndMoved, EndStands, MovedByEnd, StandsBridge, StandsEnd}
 use Rattle.bridge_station.specs.Stands.{StartsBridge}
@@ -92,17 +91,6 @@ bridge-complete station left_net left_ring right_net right_ring sound s left rig
           (subst (EndKeepsOn plan left_net plan.left list left_ring) left s.left.keeps);
       right = end-complete plan right_net plan.right list right_ring sound s.right.ready.ties
           (subst (EndKeepsOn plan right_net plan.right list right_ring) right s.right.keeps);
-    }
-
-pub station-tied : StandingBridgesAreTied
-station-tied station left_net left_ring right_net right_ring rings s left right =
-    let plan = station.bridge.plan in
-    let list = station.bridge.history in
-    record {
-      left = subst (TiedEnd (side_items plan.left list) (backs_of plan.left list)) (sym left)
-          s.left.ready.ties.tied;
-      right = subst (TiedEnd (side_items plan.right list) (backs_of plan.right list)) (sym right)
-          s.right.ready.ties.tied;
     }
 
 -- ---- the start

@@ -24,7 +24,7 @@ use Rattle.ring_core.proofs.Stability.{membership-stays}
 use Rattle.tied_lists.specs.Own.{is_of, own, WentOn, Grew, Adds}
 use Rattle.tied_lists.specs.Items.{AController, Items, latest_down}
 use Rattle.tied_lists.specs.Tied.{Tied, TiedBut}
-use Rattle.tied_lists.specs.Waits.{waiting as waits_on, ArePatient, IsOnRing, HasLeft, status_at}
+use Rattle.tied_lists.specs.Waits.{waiting as waits_on, IsOnRing, HasLeft, status_at}
 use Rattle.tied_lists.proofs.Growth.{adds-grew, grew-ours}
 use Rattle.tied_lists.proofs.Histories.{legal-follows}
 use Rattle.tied_lists.proofs.Paths.{waiting-push}
@@ -244,26 +244,23 @@ rested-turn n ram known side ring w t = record {
 -- ---- a worker between two turns
 
 standing-on : {P Q : Type 0} (w : WorkerIs) (ram : RamSideIs P) (known : List Entry)
-    (side : RingSideIs Q) (ring : List RingEntry) → IsMemberWorker w.net w.node
-    → Standing w ram known side ring → IsOnRing side.net ring w.node
-standing-on w ram known side ring m s = subst (λ (net : NetPlan). IsLegalRing net ring
-    → ArePatient net w.node [] ring → IsOnRing net ring w.node) (sym s.net)
-    (λ legal patient. record {
-      members = m.members;
-      legal = legal;
-      member = m.member;
-      patient = patient;
-    }) s.legal s.patient
+    (side : RingSideIs Q) (ring : List RingEntry) → Standing w ram known side ring
+    → IsOnRing side.net ring w.node
+standing-on w ram known side ring s = record {
+  members = s.member.members;
+  legal = s.legal;
+  member = s.member.member;
+  patient = s.patient;
+}
 
 pub standing-back : {P Q : Type 0} (alone alone' : Bool) (joined : Bool) (w : WorkerIs)
     (ram ram' : RamSideIs P) (known known' : List Entry) (side side' : RingSideIs Q)
     (ring ring' : List RingEntry) → ram' ≡ ram → side' ≡ side → IsLegalRing side.net ring'
-    → IsMemberWorker w.net w.node
     → ComesBack alone alone' ram.fixed w.node known known' ring ring' joined
     → Standing w ram known side ring → Standing w ram' known' side' ring'
 standing-back {P} {Q} alone alone' joined w ram ram' known known' side side' ring ring' same same'
-    legal m back s =
-    let on = standing-on w ram known side ring m s in
+    legal back s =
+    let on = standing-on w ram known side ring s in
     let before : Rested w.node ram known side ring w.waiting = record {
       node = s.node;
       serves = s.serves;
@@ -276,7 +273,7 @@ standing-back {P} {Q} alone alone' joined w ram ram' known known' side side' rin
     subst (λ (x : RingSideIs Q). Standing w ram' known' x ring') (sym same')
     (subst (λ (x : RamSideIs P). Standing w x known' side ring') (sym same) (record {
       node = r.node;
-      net = s.net;
+      member = s.member;
       serves = r.serves;
       legal = legal;
       patient = r.on.patient;
@@ -297,7 +294,7 @@ pub standing-visited : {P Q : Type 0} (w : WorkerIs) (waiting : List (Option Fra
 standing-visited {P} {Q} w waiting ram ram' known known' side side' ring ring' same t rest still s =
     record {
       node = t.node;
-      net = ap (λ (x : RingSideIs Q). x.net) same ∙ s.net;
+      member = subst (λ (x : RingSideIs Q). IsMemberWorker x.net w.node) (sym same) s.member;
       serves = t.own_turn.serves;
       legal = t.own_turn.on.legal;
       patient = t.own_turn.on.patient;

@@ -1,8 +1,10 @@
 -- Calls that are given up on the paths of a node.
-use Rattle.std.proofs.Common.{◌≡◌, ℕ, ◌+◌, ◌<◌, ◌≤◌, Bool, true, false, List, [], ◌∷◌, ◌++◌, get_or}
+use Rattle.std.proofs.Common.{◌≡◌, ℕ, zero, suc, ◌+◌, ◌<◌, ◌≤◌, Bool, true, false, List, [], ◌∷◌}
+use Rattle.std.proofs.Common.{◌++◌, get_or}
 use Rattle.std.proofs.Common.{Option, Some, None, refl, sym, ap, ◌∙◌, subst, inl, inr, arith}
 use Rattle.std.specs.List.{cons_option}
 use Rattle.plant_types.specs.declared.net.NetPlan.{NetPlan}
+use Rattle.mstr_block.specs.Table.{network_paths}
 use Rattle.mstr_block.specs.declared.call.CallId.{CallId}
 use Rattle.mstr_block.specs.declared.call.MstrResult.TheVariants.{Bad}
 use Rattle.controller_core.specs.declared.entry.Entry.{Entry}
@@ -181,6 +183,14 @@ on-given alone net n p id word ring ring' own' path' j o is g' =
     }
 
 -- ---- path by path
+
+-- the path at a place
+pub path-next : (k : ℕ) → k < 4 → get_or network_paths k 0 ≡ k + 1
+path-next zero low = refl
+path-next (suc zero) low = refl
+path-next (suc (suc zero)) low = refl
+path-next (suc (suc (suc zero))) low = refl
+path-next (suc (suc (suc (suc k)))) low = absurd (omega (arith, low))
 
 pub where-none : (net : NetPlan) (n : ℕ) (chosen : List Bool) (ring : List RingEntry)
     → GivesWhere net n chosen 1 ring ring

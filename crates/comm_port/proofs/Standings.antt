@@ -21,7 +21,7 @@ use Rattle.comm_port.specs.Giving.{IsAtRest}
 use Rattle.joint_history.specs.Reading.{is_ours, items_of}
 use Rattle.comm_port.specs.Sides.{RingSideIs, RamSideIs, MayWrite}
 use Rattle.comm_port.specs.Turns.{AreWaiting}
-use Rattle.comm_port.specs.Worker.{WorkerIs, Standing}
+use Rattle.comm_port.specs.Worker.{IsMemberWorker, Standing, WorkerIs, new_worker}
 use Rattle.tied_lists.proofs.Steps.{tied-all, tied-none}
 use Rattle.comm_port.proofs.Later.{Later, later-same, tied-later, waits-later}
 use Rattle.comm_port.proofs.Through.{NotFailed, RestsIn, nothing-not-failed, rest-others}
@@ -102,22 +102,15 @@ nothing-tied = record {
 }
 
 -- a new worker, a controller that has scanned at most, and a ring on which nothing has happened
-pub standing-new : {P Q : Type 0} (n : ℕ) (net : NetPlan) (budget : Bool) (ram : RamSideIs P)
+pub standing-new : {P Q : Type 0} (n : ℕ) (budget : Bool) (ram : RamSideIs P)
     (known : List Entry) (side : RingSideIs Q) → ram.fixed.plan.node ≡ n
-    → side.net ≡ net → MayWrite side.writer n → filter is_ours known ≡ []
-    → Standing (record {
-      node = n;
-      net = net;
-      budget = budget;
-      noticed = 0;
-      waiting = replicate path_places
-          None;
-    }) ram known side []
-standing-new n net budget ram known side node same serves none =
+    → IsMemberWorker side.net n → MayWrite side.writer n → filter is_ours known ≡ []
+    → Standing (new_worker n budget) ram known side []
+standing-new n budget ram known side node member serves none =
     let later : Later no_items (items_of known) = scans-later [] known none in
     record {
       node = node;
-      net = same;
+      member = member;
       serves = serves;
       legal = tt;
       patient = tt;
@@ -137,7 +130,7 @@ standing-scans w ram known more side ring none s =
     let later = scans-later known more none in
     record {
       node = s.node;
-      net = s.net;
+      member = s.member;
       serves = s.serves;
       legal = s.legal;
       patient = s.patient;
@@ -156,7 +149,7 @@ standing-others w ram known side ring more on none s =
     let is : own w.node (ring ++ more) ≡ own w.node ring = own-found w.node ring more none in
     record {
       node = s.node;
-      net = s.net;
+      member = s.member;
       serves = s.serves;
       legal = on.legal;
       patient = on.patient;

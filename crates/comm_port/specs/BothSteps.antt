@@ -22,7 +22,7 @@ use Rattle.comm_port.specs.Making.{DoesAtHome, Owing, calls_from}
 use Rattle.comm_port.specs.Parts.{InOrder, PartOf}
 use Rattle.comm_port.specs.RingSteps.{RingStep}
 use Rattle.comm_port.specs.Serving.{IsAnswered}
-use Rattle.comm_port.specs.Sides.{KeepsRoom}
+use Rattle.comm_port.specs.Sides.{AddsNothing, KeepsRoom, NotesNothing}
 use Rattle.comm_port.specs.Stands.{RamStands}
 use Rattle.comm_port.specs.Turns.{Turning, Taking, Rested}
 use Rattle.comm_port.specs.Waiting.{IsIdle}
@@ -84,6 +84,11 @@ module _ {M P R Q : Type 0} (m : ram_sides.Ghosts M P) (r : ring_sides.Ghosts R 
   pub record BothStep (n : ℕ) (ram ram' : M) (ring ring' : R) : Type 0 where
     pub station : RamStep m ram ram'
     pub node : RingStep r n ring ring'
+
+  -- Nothing was noted at the controller, and no entry of the node was added to the ring.
+  pub record AddsNothingOver (n : ℕ) (ram ram' : M) (ring ring' : R) : Type 0 where
+    pub station : NotesNothing m.alone m.known m.reserved ram ram'
+    pub node : AddsNothing r.alone r.known r.room n ring ring'
 
   -- Both lists went on by what is due.
   abbrev pub PartOver : ℕ → (List Entry → List RingEntry → Type 0) → M → M → R → R → Type 0

@@ -15,20 +15,18 @@ use Rattle.comm_port.specs.Sides.{RingSideIs, RamSideIs, MayWrite}
 use Rattle.joint_history.specs.Reading.{items_of}
 use Rattle.comm_port.specs.Turns.{AreWaiting}
 
--- A controller's worker: its node, its net, whether it keeps to a budget of Passes, how many
--- failures it has noticed, and the Requests that its paths wait for.
+-- A controller's worker: its node, whether it keeps to a budget of Passes, how many failures it has
+-- noticed, and the Requests that its paths wait for.
 pub record WorkerIs : Type 0 where
   pub node : ℕ
-  pub net : NetPlan
   pub budget : Bool
   pub noticed : ℕ
   pub waiting : List (Option Frame)
 
 -- A worker that has noticed no failure, and none of whose calls waits.
-abbrev pub new_worker : ℕ → NetPlan → Bool → WorkerIs
-new_worker node net budget = record {
+abbrev pub new_worker : ℕ → Bool → WorkerIs
+new_worker node budget = record {
   node = node;
-  net = net;
   budget = budget;
   noticed = 0;
   waiting = replicate path_places None;
@@ -47,14 +45,14 @@ pub record IsMemberWorker (net : NetPlan) (n : ℕ) : Type 0 where
   pub member : IsMember net n
   pub answer : 0 < net.answer
 
--- A worker stands between two turns: its node is that of the controller, its net that of the ring,
+-- A worker stands between two turns: its node is that of the controller and a member of the ring,
 -- the lists of both are tied, the failures that it has noticed are those of its node's latest Leave
 -- for one, its Requests are those of its node's own list, nothing of the node is to be sent or has
 -- failed, and it posted nothing while it asked to come in.
 pub record Standing {P Q : Type 0} (w : WorkerIs) (ram : RamSideIs P) (known : List Entry)
     (side : RingSideIs Q) (ring : List RingEntry) : Type 0 where
   pub node : ram.fixed.plan.node ≡ w.node
-  pub net : side.net ≡ w.net
+  pub member : IsMemberWorker side.net w.node
   pub serves : MayWrite side.writer w.node
   pub legal : IsLegalRing side.net ring
   pub patient : ArePatient side.net w.node [] ring

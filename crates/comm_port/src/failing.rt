@@ -1,7 +1,7 @@
 //! Power that failed: the node leaves, gives up its calls, and comes back once there is power.
-ghost use Rattle.std.specs.Prelude.{◌≡◌, ◌<◌, OnOk, IfOk};
+ghost use Rattle.std.specs.Prelude.{◌≡◌, ◌<◌, OnOk, OnErr, IfOk};
 ghost use Rattle.ring_core.specs.declared.entry.LeaveCause.TheVariants.{Down};
-ghost use Rattle.comm_port.specs.BothSteps.{BothStep, Rejoins, LeavesDown};
+ghost use Rattle.comm_port.specs.BothSteps.{AddsNothingOver, BothStep, Rejoins, LeavesDown};
 ghost use Rattle.comm_port.specs.BothSteps.{HaveFailed, RestedBetween, TurningBetween};
 ghost use Rattle.comm_port.specs.RingSteps.{AwayAfter, HoldsAt, IsAwayAt, LeftOver, OwnTurnAt};
 ghost use Rattle.comm_port.specs.RingSteps.{RestsAfter, RestsAt, RingStep, down_at};
@@ -29,7 +29,8 @@ fn leave_down<R: RingSide>(node: u8, failures: u32, ring: &mut R) -> Result<(), 
     }
 }
 
-/// Asks to come in again where there is power; whether it did.
+/// Asks to come in again where there is power; whether it did. Where memory ran out, nothing was
+/// added.
 pub(crate) fn come_back<M: RamSide, R: RingSide>(
     node: u8,
     ram: &mut M,
@@ -39,6 +40,8 @@ pub(crate) fn come_back<M: RamSide, R: RingSide>(
     requires away { IsAwayAt R.RingSide node ring.old }
     ensures came { IfOk result
         (Rejoins M.RamSide R.RingSide node ram.old ram.new ring.old ring.new) }
+    ensures short { OnErr result
+        (AddsNothingOver M.RamSide R.RingSide node ram.old ram.new ring.old ring.new) }
     ensures step { BothStep M.RamSide R.RingSide node ram.old ram.new ring.old ring.new }
 {
     if ram.is_off() {

@@ -13,7 +13,7 @@ use crate::sending::{give_up_on, send_next};
 use crate::short::Short;
 use crate::waiting::Waiting;
 use mstr_block::MstrResult;
-use plant_types::PATH_PLACES;
+use plant_types::{NETWORK_PATHS, PATH_PLACES};
 use ring_core::Heard;
 
 /// Gives up the call that a path waits for, where that is due, and ends it.
@@ -66,7 +66,7 @@ pub(crate) fn give_up_where<M: RamSide, R: RingSide>(
     ensures part { OnOk result (GivesWhereOver R.RingSide node chosen.now ring.old ring.new) }
     ensures step { BothStep M.RamSide R.RingSide node ram.old ram.new ring.old ring.new }
 {
-    for path in 1..5 {
+    for path in NETWORK_PATHS {
         if !chosen[path as usize] {
             continue;
         }

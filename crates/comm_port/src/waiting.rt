@@ -11,7 +11,6 @@ use std::alloc::{AllocError, Global};
 use std::marker::Model;
 
 /// By path, the Request that waits there.
-#[derive(Drop)]
 pub(crate) struct Waiting {
     slots: Vec<Option<Frame>>,
 }
@@ -26,6 +25,12 @@ impl Model for Waiting {
     ghost view = { λ w. w.slots.items };
 
     ghost invariant = { λ w. length w.slots.items ≡ path_places };
+}
+
+impl Drop for Waiting {
+    fn drop(self) {
+        let Waiting { slots: _ } = self;
+    }
 }
 
 impl Waiting {

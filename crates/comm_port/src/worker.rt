@@ -1,8 +1,7 @@
 //! The worker between a controller and the ring.
-ghost use Rattle.std.specs.Prelude.{◌≡◌, ◌<◌, All, OnOk, IfOk};
-ghost use Rattle.ring_core.specs.Machine.{addresses};
-ghost use Rattle.ring_core.specs.Legal.{IsMember};
-ghost use Rattle.comm_port.specs.BothSteps.{BothStep, Rejoins, HoldsOver, HoldsTurnBy};
+ghost use Rattle.std.specs.Prelude.{◌≡◌, ◌<◌, OnOk, OnErr, IfOk};
+ghost use Rattle.comm_port.specs.BothSteps.{AddsNothingOver, BothStep, Rejoins, HoldsOver};
+ghost use Rattle.comm_port.specs.BothSteps.{HoldsTurnBy};
 ghost use Rattle.comm_port.specs.BothSteps.{RestedBetween, StandingBetween, TurningBetween, Visits};
 ghost use Rattle.comm_port.specs.BothSteps.{WorksOver};
 ghost use Rattle.comm_port.specs.RingSteps.{HasLeftAt, HoldsAt, IsAwayAt, IsNoBridgeAt, RestsAfter};
@@ -22,18 +21,15 @@ use crate::short::Short;
 use crate::turn_end::TurnEnd;
 use crate::visiting::visit;
 use crate::waiting::Waiting;
-use plant_types::{Copied, NetPlan};
 use std::alloc::{AllocError, Global};
 use std::marker::Model;
 
 /// A controller's worker: it keeps the Requests for whose Replies its node waits. A contract sees
-/// its node, its net, whether it keeps to a budget of Passes, how many failures it has noticed, and
-/// these Requests.
-#[derive(Drop)]
+/// its node, whether it keeps to a budget of Passes, how many failures it has noticed, and these
+/// Requests.
 pub struct CommWorker {
     alloc: Global,
     node: u8,
-    net: NetPlan,
     budget: bool,
     /// How many failures are noticed: the number of the node's latest Leave for one.
     noticed: u32,
@@ -41,22 +37,28 @@ pub struct CommWorker {
 }
 
 impl Model for CommWorker {
-    ghost use Rattle.std.specs.Prelude.{All, ◌<◌};
-    ghost use Rattle.ring_core.specs.Machine.{addresses};
-    ghost use Rattle.ring_core.specs.Legal.{IsMember};
-    ghost use Rattle.comm_port.specs.Worker.{WorkerIs, IsMemberWorker};
+    ghost use Rattle.comm_port.specs.Worker.{WorkerIs};
 
     ghost Value = { WorkerIs };
 
     ghost view = { λ w. record {
       node = w.node;
-      net = w.net;
       budget = w.budget;
       noticed = w.noticed;
       waiting = w.waiting;
     } };
+}
 
-    ghost invariant = { λ w. IsMemberWorker w.net w.node };
+impl Drop for CommWorker {
+    fn drop(self) {
+        let CommWorker {
+            alloc: _,
+            node: _,
+            budget: _,
+            noticed: _,
+            waiting: _,
+        } = self;
+    }
 }
 
 /// One turn in which no failure is unnoticed at first; whether the node left.
@@ -145,25 +147,15 @@ fn turn<M: RamSide, R: RingSide>(
 }
 
 impl CommWorker {
-    /// A worker for a node of this net, none of whose calls waits. Without a budget its turns never
-    /// leave for their Passes.
-    pub fn new(
-        alloc: Global,
-        node: u8,
-        net: &NetPlan,
-        budget: bool,
-    ) -> Result<CommWorker, AllocError>
-        requires members { All (λ m. m < addresses) net.now.members }
-        requires member { IsMember net.now node }
-        requires answer { 0 < net.now.answer }
-        ensures { IfOk result (λ worker. worker ≡ new_worker node net.now budget) }
+    /// The worker of a node, none of whose calls waits. Without a budget its turns never leave for
+    /// their Passes. Nothing of the ring's plan is kept.
+    pub fn new(alloc: Global, node: u8, budget: bool) -> Result<CommWorker, AllocError>
+        ensures { IfOk result (λ worker. worker ≡ new_worker node budget) }
     {
-        let net = net.copied(alloc)?;
         let waiting = Waiting::new(alloc)?;
         Ok(CommWorker {
             alloc,
             node,
-            net,
             budget,
             noticed: 0,
             waiting,
@@ -221,6 +213,8 @@ impl CommWorker {
             (StandingBetween M.RamSide R.RingSide self.new ram.new ring.new) }
         ensures came { IfOk result
             (Rejoins M.RamSide R.RingSide self.old.node ram.old ram.new ring.old ring.new) }
+        ensures short { OnErr result (AddsNothingOver M.RamSide R.RingSide self.old.node ram.old
+            ram.new ring.old ring.new) }
         ensures worker { self.new ≡ self.old }
         ensures step { BothStep M.RamSide R.RingSide self.old.node ram.old ram.new ring.old
             ring.new }

@@ -1,7 +1,7 @@
 -- What one more step keeps.
 use Rattle.std.proofs.Common.{◌≡◌, ◌≤◌, ◌<◌, ◌==◌, ℕ, suc, ◌+◌, ◌-◌, Bool, true, false, ◌&&◌, List}
 use Rattle.std.proofs.Common.{[], ◌∷◌, ◌++◌, length, drop, Option, Some, None, refl, sym, ap, ◌∙◌}
-use Rattle.std.proofs.Common.{subst, arith, append_assoc, append-nil, length-append}
+use Rattle.std.proofs.Common.{subst, arith, append-nil, length-append, length-drop}
 use Rattle.std.specs.Prelude.{fold, not, if◌then◌else◌}
 use Rattle.std.specs.List.{cons_option}
 use Rattle.std.proofs.lemmas.List.Elements.{filter_map-append}
@@ -18,9 +18,9 @@ use Rattle.scan_order.specs.declared.due.ScanStep.TheVariants as steps
 use Rattle.scan_order.specs.declared.power.ScanPower.{ScanPower}
 use Rattle.scan_order.specs.declared.power.ScanPower.TheVariants as powers
 use Rattle.scan_order.specs.Power.{power_in}
-use Rattle.scan_order.specs.Due.{row_of, due_after, rest_after}
-use Rattle.scan_order.specs.Due.{due_with}
-use Rattle.scan_order.specs.Due.{place_after, up_to_failure, IsStep}
+use Rattle.scan_order.specs.Due.{due, due_with, place_after, row_of, up_to_failure, IsNextOf}
+use Rattle.scan_order.specs.Due.{IsStep}
+use Rattle.scan_order.proofs.Places.{due-first}
 use Rattle.controller_core.specs.declared.fixed.Fixed.{Fixed}
 use Rattle.mstr_block.specs.declared.call.CallId.{CallId}
 use Rattle.mstr_block.specs.declared.call.MstrResult.{MstrResult}
@@ -35,14 +35,15 @@ use Rattle.controller_core.specs.Event.{entry_of, maker_of, scan_steps, step_of}
 use Rattle.controller_core.specs.Machine.{state_is, CanSolve, DoesEntry, IsSound, IsTimely, Tells}
 use Rattle.controller_core.specs.Machine.{most_steps}
 use Rattle.controller_core.specs.Scans.{all_due, closes_scan, gone_after, is_done}
-use Rattle.controller_core.specs.Scans.{remaining, scans_at, scans_from}
-use Rattle.controller_core.specs.Controller.{ControllerIs, EachFits, Fits, GoesOn, IsLegal}
+use Rattle.controller_core.specs.Scans.{left_in_scan, scans_at, scans_from, IsPlaced}
+use Rattle.controller_core.specs.Controller.{ControllerIs, EachFits, Fits, GoesOn}
 use Rattle.controller_core.specs.Controller.{ControllerWentOn}
 use Rattle.controller_core.specs.Controller.{first_step, grown}
 use Rattle.controller_core.specs.Controller.{state_of}
-use Rattle.controller_core.specs.Controller.{made}
 use Rattle.controller_core.specs.Kept.{IsKept, IsWatched}
 use Rattle.controller_core.proofs.Lengths.{scans_few}
+use Rattle.controller_core.proofs.Places.{all-made, left-all, placed-step, scans-whole}
+use Rattle.controller_core.proofs.Places.{step-is}
 
 -- ---- one more entry
 
@@ -181,10 +182,9 @@ left_made f s steps.End n watchdog left is = tt
 left_made f s steps.Fail n watchdog left is = tt
 left_made f s steps.Dark n watchdog left is = tt
 
--- the step that is next behind a place, in the scan behind those that have gone
+-- the step that is next at a place, in the scan behind those that have gone
 abbrev pub IsNext : Fixed → Machine → ScanPlace → ScanStep → Type 0
-IsNext f m at step =
-    due_after f.plan (m.gone + 1) at ≡ step ∷ rest_after f.plan (m.gone + 1) step
+IsNext f m at step = IsNextOf (due f.plan (m.gone + 1)) at step
 
 -- a scan begins, or is dark
 start_watched : (plan : ControllerPlan) (step : ScanStep) (s : ControllerState) (power : ScanPower)
@@ -202,7 +202,10 @@ due_watched : (f : Fixed) (m : Machine) (at : ScanPlace) (step : ScanStep)
     → IsNext f m at step → m.stop ≡ 0
     → IsWatched at m → WasWatched step (state_is m)
 due_watched f m places.Start step next goes watched =
-    start_watched f.plan step (state_is m) (power_in f.plan (m.gone + 1)) next
+    let first = due-first f.plan (m.gone + 1) in
+    let is : step ≡ first.first = next [] first.first first.rest (sym first.is) refl in
+    start_watched f.plan step (state_is m) (power_in f.plan (m.gone + 1))
+    (first.is ∙ ap (λ (s : ScanStep). s ∷ first.rest) (sym is))
 due_watched f m places.Began step next goes watched = was_of step (state_is m) (watched goes)
 due_watched f m (places.DidIn row) step next goes watched = was_of step (state_is m) (watched goes)
 due_watched f m (places.DidSolve row) step next goes watched =
@@ -223,63 +226,33 @@ can_solve f m at steps.Dark next goes watched = tt
 
 -- ---- what is left
 
-after_scan : (f : Fixed) (gone : ℕ)
-    → remaining f (gone + 1) places.Start ≡ scans_from f (gone + 1 + 1) (f.scans - suc gone)
-after_scan f gone =
-    let e : f.scans - (gone + 1) ≡ f.scans - suc gone = omega arith in
-    ap (scans_from f (gone + 1 + 1)) e
-
--- behind a step is left what was left behind its place
-after_step : (f : Fixed) (gone : ℕ) (step : ScanStep)
-    → remaining f (gone_after step gone) (place_after step)
-    ≡ rest_after f.plan (gone + 1) step ++ scans_from f (gone + 1 + 1) (f.scans - suc gone)
-after_step f gone steps.Begin = refl
-after_step f gone (steps.In row) = refl
-after_step f gone (steps.Solve row) = refl
-after_step f gone (steps.Out row) = refl
-after_step f gone steps.End = after_scan f gone
-after_step f gone steps.Fail = after_scan f gone
-after_step f gone steps.Dark = after_scan f gone
-
--- where a scan is due, what is left begins with what is due behind the place
-pub remains : (f : Fixed) (gone : ℕ) (at : ScanPlace) → gone < f.scans → remaining f gone at
-    ≡ due_after f.plan (gone + 1) at ++ scans_from f (gone + 1 + 1) (f.scans - suc gone)
-remains f gone places.Start lt = let e : f.scans - gone ≡ suc (f.scans - suc gone) =
-    omega arith in ap (scans_from f (gone + 1)) e
-remains f gone places.Began lt = refl
-remains f gone (places.DidIn row) lt = refl
-remains f gone (places.DidSolve row) lt = refl
-remains f gone (places.DidOut row) lt = refl
-
 -- the steps so far, the due step in front of what is left behind it
 in_front : (f : Fixed) (m : Machine) (h : List Entry) (at : ScanPlace) (step : ScanStep)
-    → IsKept f m h at → m.gone < f.scans
-    → IsNext f m at step
-    → scan_steps h ++ (step ∷ (rest_after f.plan (m.gone + 1) step
-    ++ scans_from f (m.gone + 1 + 1) (f.scans - suc m.gone))) ≡ all_due f
+    → IsKept f m h at → m.gone < f.scans → IsNext f m at step
+    → (rest : List ScanStep) × (scan_steps h ++ step ∷ rest ≡ all_due f)
 in_front f m h at step k lt next =
+    let p = k.steps in
     let later = scans_from f (m.gone + 1 + 1) (f.scans - suc m.gone) in
-    ap (λ (l : List ScanStep). scan_steps h ++ l)
-    (sym (remains f m.gone at lt ∙ ap (λ (l : List ScanStep). l ++ later) next)) ∙ k.steps
+    let is = step-is f (scan_steps h) m.gone at step p next in (
+      p.after ++ later,
+      ap (λ (s : ScanStep). scan_steps h ++ s ∷ (p.after ++ later)) is
+          ∙ scans-whole f (scan_steps h) m.gone at p lt,
+    )
 
 pub due_first : (f : Fixed) (m : Machine) (h : List Entry) (at : ScanPlace) (step : ScanStep)
     → IsKept f m h at → m.gone < f.scans
     → IsNext f m at step → first_step (drop (length (scan_steps h)) (all_due f)) ≡ Some step
 due_first f m h at step k lt next =
-    let later = scans_from f (m.gone + 1 + 1) (f.scans - suc m.gone) in
-    ap (λ (l : List ScanStep). first_step (drop (length (scan_steps h)) l))
-    (sym (in_front f m h at step k lt next))
-    ∙ ap first_step
-    (drop-append_seam (scan_steps h) (step ∷ (rest_after f.plan (m.gone + 1) step ++ later)))
+    let front = in_front f m h at step k lt next in
+    ap (λ (l : List ScanStep). first_step (drop (length (scan_steps h)) l)) (sym front.1)
+    ∙ ap first_step (drop-append_seam (scan_steps h) (step ∷ front.0))
 
 pub due_none : (f : Fixed) (m : Machine) (h : List Entry) → IsKept f m h places.Start
     → m.gone ≡ f.scans
     → first_step (drop (length (scan_steps h)) (all_due f)) ≡ None
 due_none f m h k all =
-    let none : f.scans - m.gone ≡ 0 = omega arith in
-    let is : scan_steps h ++ [] ≡ all_due f =
-    ap (λ n. scan_steps h ++ scans_from f (m.gone + 1) n) (sym none) ∙ k.steps in
-    ap (λ (l : List ScanStep). first_step (drop (length (scan_steps h)) l)) (sym is)
+    ap (λ (l : List ScanStep). first_step (drop (length (scan_steps h)) l))
+    (sym (all-made f (scan_steps h) m.gone k.steps all))
     ∙ ap first_step (drop-append_seam (scan_steps h) [])
 
 -- ---- the invariant
@@ -301,7 +274,6 @@ pub kept_step : (f : Fixed) (m n : Machine) (h : List Entry) (at : ScanPlace) (s
 kept_step f m n h at step k goes lt next is does =
     let s = state_is m in
     let e = entry_of f s step in
-    let later = scans_from f (m.gone + 1 + 1) (f.scans - suc m.gone) in
     let watchdog : 1 ≤ f.watchdog =
     subst (λ (g : Fixed). 1 ≤ g.watchdog) k.fixed_is k.sound.runs.watchdog in
     let now : state_is n ≡ apply f s e = does.state ∙ ap (λ (g : Fixed). apply g s e) k.fixed_is in
@@ -310,22 +282,28 @@ kept_step f m n h at step k goes lt next is does =
     let more = scan_steps-more f s h step in
     let long : length (scan_steps h) + 1 ≡ length (scan_steps (h ++ e ∷ [])) =
     omega (arith, ap length more, length-append (scan_steps h) (step ∷ [])) in
+    let placed : IsPlaced f (scan_steps (h ++ e ∷ [])) n.gone (place_after step) =
+    subst (λ x. IsPlaced f (scan_steps (h ++ e ∷ [])) x (place_after step)) (sym gone)
+    (subst (λ (l : List ScanStep). IsPlaced f l (gone_after step m.gone) (place_after step))
+    (sym more) (placed-step f (scan_steps h) m.gone at step k.steps next)) in
+    let within : scans_at (place_after step) n.gone ≤ f.scans =
+    subst (λ x. scans_at (place_after step) x ≤ f.scans) (sym gone)
+    (within_after step m.gone f.scans lt) in
     record {
       fixed_is = does.fixed ∙ k.fixed_is;
       sound = does.sound;
-      each = EachFits-more f (start f.plan) h e k.each
-          (subst (λ (t : ControllerState). Fits f t e) k.state (fits_made f s step goes));
+      legal = record {
+        each = EachFits-more f (start f.plan) h e k.legal.each
+            (subst (λ (t : ControllerState). Fits f t e) k.state (fits_made f s step goes));
+        due = left-all f (scan_steps (h ++ e ∷ [])) n.gone (place_after step) placed within
+            (is_done f.scans (place_after step) n.gone) refl;
+      };
       state = now ∙ ap (λ (t : ControllerState). apply f t e) k.state
           ∙ sym (replay_more f (start f.plan) h e);
-      steps = ap (λ x. scan_steps (h ++ e ∷ []) ++ remaining f x (place_after step)) gone
-          ∙ ap (λ (l : List ScanStep). scan_steps (h ++ e ∷ []) ++ l) (after_step f m.gone step)
-          ∙ ap (λ (l : List ScanStep). l ++ (rest_after f.plan (m.gone + 1) step ++ later)) more
-          ∙ append_assoc (scan_steps h) (step ∷ []) (rest_after f.plan (m.gone + 1) step ++ later)
-          ∙ in_front f m h at step k lt next;
+      steps = placed;
       place = is;
       watched = left_made f s step n watchdog (due_watched f m at step next goes k.watched) now;
-      within = subst (λ x. scans_at (place_after step) x ≤ f.scans) (sym gone)
-          (within_after step m.gone f.scans lt);
+      within = within;
       timely = subst (IsTimely n) long (does.timely (length (scan_steps h)) k.timely);
     }
 
@@ -433,12 +411,16 @@ kept_told f m n h at e told k tells fits =
     record {
       fixed_is = tells.fixed ∙ fixed;
       sound = tells.sound;
-      each = EachFits-more f (start f.plan) h e k.each
-          (subst (λ (t : ControllerState). Fits f t e) k.state fits);
+      legal = record {
+        each = EachFits-more f (start f.plan) h e k.legal.each
+            (subst (λ (t : ControllerState). Fits f t e) k.state fits);
+        due = subst (λ (l : List ScanStep). (rest : List ScanStep) × (l ++ rest ≡ all_due f))
+            (sym same) k.legal.due;
+      };
       state = after ∙ ap (λ (t : ControllerState). apply f t e) k.state
           ∙ sym (replay_more f (start f.plan) h e);
-      steps = ap (λ (l : List ScanStep). l ++ remaining f n.gone at) same
-          ∙ ap (λ x. scan_steps h ++ remaining f x at) gone ∙ k.steps;
+      steps = subst (λ x. IsPlaced f (scan_steps (h ++ e ∷ [])) x at) (sym gone)
+          (subst (λ (l : List ScanStep). IsPlaced f l m.gone at) (sym same) k.steps);
       place = k.place;
       watched = watched_told at m n (ap (λ (t : ControllerState). t.stop) after
           ∙ told.stop f (state_is m))
@@ -456,18 +438,15 @@ kept_with f m n h l at e told k tells fits items =
     let after = kept_told f m n h at e told k tells fits in
     kept_as f n.fixed n (h ++ e ∷ []) l at at after.fixed_is items refl after
 
-pub legal_of : (f : Fixed) (m : Machine) (h : List Entry) (at : ScanPlace)
-    → IsKept f m h at → IsLegal f h
-legal_of f m h at k = record { each = k.each; due = (remaining f m.gone at, k.steps) }
-
 -- a history of all scans is short enough for the counts of a machine
 pub timely_enough : (f : Fixed) (m : Machine) (h : List Entry) (at : ScanPlace) → IsKept f m h at
     → f.scans ≤ 2000 → length f.plan.orders ≤ 32
     → IsTimely m most_steps
 timely_enough f m h at k scans rows =
     let few = scans_few f 1 f.scans rows in
-    let all = ap length k.steps in
-    let parts = length-append (scan_steps h) (remaining f m.gone at) in
+    let due = k.legal.due in
+    let all = ap length due.1 in
+    let parts = length-append (scan_steps h) due.0 in
     let short : length (scan_steps h) ≤ 196000 = omega arith in
     record {
       clock = let t = k.timely.clock in omega arith;
@@ -475,14 +454,6 @@ timely_enough f m h at k scans rows =
       gone = let t = k.timely.gone in omega arith;
       failures = let t = k.timely.failures in omega arith;
     }
-
-pub not_done : (scans : ℕ) (at : ScanPlace) (gone : ℕ) → scans_at at gone ≤ scans
-    → is_done scans at gone ≡ false → gone < scans
-not_done scans places.Start gone within not = grind arith
-not_done scans places.Began gone within not = omega arith
-not_done scans (places.DidIn row) gone within not = omega arith
-not_done scans (places.DidSolve row) gone within not = omega arith
-not_done scans (places.DidOut row) gone within not = omega arith
 
 -- what a step leaves is kept, in what its calls answer
 pub kept_made : (f : Fixed) (m n : Machine) (h l : List Entry) (at to : ScanPlace) (step : ScanStep)
@@ -518,7 +489,7 @@ went_on_step f m n h l at to r after step v is k new fixed items = record {
   history = items ∙ ap (λ (t : ControllerState). h ++ entry_of f t step ∷ []) k.state
       ∙ ap (λ (u : ControllerIs). u.history ++ entry_of u.fixed (state_of u) step ∷ []) is;
   made = (maker_of_made v.fixed (state_of v) step, tt);
-  legal = legal_of n.fixed n l to new;
+  legal = new.legal;
 }
 
 -- the table of the blocks is that of the state
@@ -557,22 +528,31 @@ went_on_told f m n h l at r e v told is new fixed items = record {
   fixed = fixed ∙ ap (λ (u : ControllerIs). u.fixed) is;
   history = items ∙ ap (λ (u : ControllerIs). u.history ++ e ∷ []) is;
   made = (told.maker, tt);
-  legal = legal_of n.fixed n l at new;
+  legal = new.legal;
 }
 
+left_less : (f : Fixed) (h : List ScanStep) (gone : ℕ) (step : ScanStep)
+    → length (left_in_scan f gone (h ++ step ∷ [])) ≡ length (left_in_scan f gone h) - 1
+left_less f h gone step =
+    let all = scans_from f 1 (gone + 1) in
+    let one = length-drop (length (h ++ step ∷ [])) all in
+    let two = length-drop (length h) all in
+    let more = length-append h (step ∷ []) in
+    omega arith
+
 -- a step that does not close its scan leaves one step less of it
-pub room_step : (r : Bool) (f : Fixed) (m : Machine) (at : ScanPlace) (step : ScanStep) (stop : ℕ)
-    → (r && not (closes_scan step stop)) ≡ true → IsNext f m at step → (r ≡ true)
-    × (length (due_after f.plan (m.gone + 1) at)
-    ≡ suc (length (due_after f.plan (gone_after step m.gone + 1) (place_after step))))
-room_step false f m at step stop is next = cc
-room_step true f m at steps.Begin stop is next = (refl, ap length next)
-room_step true f m at (steps.In row) stop is next = (refl, ap length next)
-room_step true f m at (steps.Solve row) stop is next = (refl, ap length next)
-room_step true f m at (steps.Out row) stop is next = (refl, ap length next)
-room_step true f m at steps.End stop is next = cc
-room_step true f m at steps.Fail stop is next = cc
-room_step true f m at steps.Dark stop is next = cc
+pub room_step : (r : Bool) (f : Fixed) (h : List ScanStep) (gone : ℕ) (step : ScanStep) (stop : ℕ)
+    → (r && not (closes_scan step stop)) ≡ true → (r ≡ true)
+    × (length (left_in_scan f (gone_after step gone) (h ++ step ∷ []))
+    ≡ length (left_in_scan f gone h) - 1)
+room_step false f h gone step stop is = cc
+room_step true f h gone steps.Begin stop is = (refl, left_less f h gone steps.Begin)
+room_step true f h gone (steps.In row) stop is = (refl, left_less f h gone (steps.In row))
+room_step true f h gone (steps.Solve row) stop is = (refl, left_less f h gone (steps.Solve row))
+room_step true f h gone (steps.Out row) stop is = (refl, left_less f h gone (steps.Out row))
+room_step true f h gone steps.End stop is = cc
+room_step true f h gone steps.Fail stop is = cc
+room_step true f h gone steps.Dark stop is = cc
 
 -- a controller when it starts
 pub kept_new : (f : Fixed) (m : Machine) (h : List Entry) → m.fixed ≡ f → state_is m ≡ start f.plan
@@ -581,17 +561,21 @@ pub kept_new : (f : Fixed) (m : Machine) (h : List Entry) → m.fixed ≡ f → 
 unfolding EachFits
 kept_new f m h fixed state none timely sound =
     let gone : m.gone ≡ 0 = ap (λ (t : ControllerState). t.gone) state in
-    let all : f.scans - m.gone ≡ f.scans = omega arith in
     let P : List Entry → Type 0 = λ l. IsKept f m l places.Start in
-    let first : scans_from f (m.gone + 1) (f.scans - m.gone) ≡ all_due f =
-    ap (λ n. scans_from f (n + 1) (f.scans - m.gone)) gone
-    ∙ ap (scans_from f 1) all in
+    let first = due-first f.plan (m.gone + 1) in
     subst P (sym none) (record {
       fixed_is = fixed;
       sound = sound;
-      each = tt;
+      legal = record { each = tt; due = (all_due f, refl) };
       state = state;
-      steps = first;
+      steps = record {
+        before = [];
+        next = first.first;
+        after = first.rest;
+        scan = sym first.is;
+        place = refl;
+        steps = sym (ap (λ n. scans_from f 1 n ++ []) gone);
+      };
       place = tt;
       watched = tt;
       within = omega arith;

@@ -1,4 +1,5 @@
 pub mod MachineLemmas
+pub mod Places
 pub mod Lengths
 pub mod Keeping
 pub mod Stepping

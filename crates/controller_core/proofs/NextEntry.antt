@@ -1,7 +1,7 @@
 -- Which entries may come next.
 use Rattle.std.proofs.Common.{◌≡◌, ◌==◌, ℕ, Bool, true, false, List, [], ◌∷◌, ◌++◌, length, drop}
 use Rattle.std.proofs.Common.{Option, Some, None, refl, sym, ap, subst, ◌∙◌, append_assoc}
-use Rattle.std.proofs.Common.{append-nil, arith}
+use Rattle.std.proofs.Common.{append-nil}
 use Rattle.std.specs.Prelude.{fold, if◌then◌else◌}
 use Rattle.std.specs.Prelude.{IfOk, OnErr, Result, Ok, Err}
 use Rattle.std.specs.List.{cons_option}
@@ -29,7 +29,6 @@ use Rattle.controller_core.specs.Controller.{reply_to, state_of, store_of}
 use Rattle.controller_core.specs.Controller.{stepped, uncollected, collecting}
 use Rattle.controller_core.specs.Controller.{has_started}
 use Rattle.controller_core.specs.Following.{HasWords, MayFollow, followed, followed_step}
-use Rattle.controller_core.proofs.Keeping.{EachFits-more, fits_made, scan_steps-more}
 use Rattle.controller_core.proofs.Keeping.{scan_steps-quiet, told_entry, off_told, peer_told}
 use Rattle.controller_core.proofs.Keeping.{IsTold}
 
@@ -134,48 +133,6 @@ due_of v e step is may =
     let due : due_step v ≡ Some step =
     ap (λ n. if n == 0 then first_step (left_of f h) else None) fits.0 ∙ ap first_step left in
     ap (entry_for v) due ∙ ap Some (entry_is f (state_of v) e step is fits.1)
-
--- ---- and the other way round
-
-step_in : (v : ControllerIs) (due : Option ScanStep) (e : Entry) → entry_for v due ≡ Some e
-    → (step : ScanStep) × (due ≡ Some step) × (entry_of v.fixed (state_of v) step ≡ e)
-step_in v None e is = absurd cc
-step_in v (Some step) e is = (step, refl, cc)
-
-first_in : (left : List ScanStep) (step : ScanStep) → first_step left ≡ Some step
-    → (rest : List ScanStep) × (left ≡ step ∷ rest)
-first_in [] step is = absurd cc
-first_in (x ∷ rest) step is =
-    let same : x ≡ step = cc in (rest, ap (λ (y : ScanStep). y ∷ rest) same)
-
-due_in : (v : ControllerIs) (b : Bool) → ((state_of v).stop == 0) ≡ b → (step : ScanStep)
-    → (if b then first_step (left_of v.fixed v.history) else None) ≡ Some step
-    → GoesOn (state_of v) × ((rest : List ScanStep) × (left_of v.fixed v.history ≡ step ∷ rest))
-due_in v false b step is = absurd cc
-due_in v true b step is = (grind arith, first_in (left_of v.fixed v.history) step is)
-
-pub may_of : (v : ControllerIs) (e : Entry) → IsLegal v.fixed v.history → due_entry v ≡ Some e
-    → MayFollow v e
-may_of v e legal is =
-    let f = v.fixed in
-    let h = v.history in
-    let s = state_of v in
-    let step = step_in v (due_step v) e is in
-    let due = due_in v (s.stop == 0) refl step.0 step.1 in
-    let rest = due.1.0 in
-    let all : scan_steps h ++ (step.0 ∷ rest) ≡ all_due f =
-    ap (λ (l : List ScanStep). scan_steps h ++ l)
-    (sym due.1.1 ∙ left_is f h legal.due.0 legal.due.1) ∙ legal.due.1 in
-    let next : IsLegal f (h ++ entry_of f s step.0 ∷ []) = record {
-      each = EachFits-more f (start f.plan) h (entry_of f s step.0) legal.each
-          (fits_made f s step.0 due.0);
-      due = (
-        rest,
-        ap (λ (l : List ScanStep). l ++ rest) (scan_steps-more f s h step.0)
-            ∙ append_assoc (scan_steps h) (step.0 ∷ []) rest ∙ all,
-      );
-    } in
-    subst (λ (x : Entry). IsLegal f (h ++ x ∷ [])) step.2 next
 
 -- ---- what the communication does
 

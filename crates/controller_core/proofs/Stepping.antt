@@ -1,22 +1,12 @@
 -- What a step gives, and whether all scans are gone.
 use Rattle.std.proofs.Common.{◌≡◌, ◌<◌, ◌==◌, ℕ, suc, ◌+◌, ◌-◌, Bool, true, false, ◌&&◌, List}
-use Rattle.std.proofs.Common.{[], ◌∷◌, ◌++◌, length, drop, Option, Some, None, refl, sym, ap, ◌∙◌}
+use Rattle.std.proofs.Common.{[], ◌∷◌, ◌++◌, length, drop, Some, None, refl, sym, ap, ◌∙◌}
 use Rattle.std.proofs.Common.{subst, arith}
 use Rattle.std.specs.Prelude.{not, if◌then◌else◌}
-use Rattle.std.specs.List.{flat_map, range_with_len}
 use Rattle.std.proofs.Math.Seq.{drop-append_seam}
-use Rattle.plant_types.specs.declared.plan.ControllerPlan.{ControllerPlan}
 use Rattle.scan_order.specs.declared.due.ScanPlace.{ScanPlace}
 use Rattle.scan_order.specs.declared.due.ScanPlace.TheVariants as places
 use Rattle.scan_order.specs.declared.due.ScanStep.{ScanStep}
-use Rattle.scan_order.specs.declared.due.ScanStep.TheVariants as steps
-use Rattle.scan_order.specs.declared.power.ScanPower.{ScanPower}
-use Rattle.scan_order.specs.declared.power.ScanPower.TheVariants as powers
-use Rattle.scan_order.specs.Power.{power_in}
-use Rattle.scan_order.specs.Due.{output_steps, row_steps, rows_from, due_after}
-use Rattle.scan_order.specs.Due.{cut_by, full_after, is_failing, last_off, left_with}
-use Rattle.scan_order.specs.Due.{place_after, up_to_failure}
-use Rattle.scan_order.proofs.Powers.{after-is}
 use Rattle.controller_core.specs.declared.fixed.Fixed.{Fixed}
 use Rattle.controller_core.specs.declared.entry.Entry.{Entry}
 use Rattle.controller_core.specs.declared.entry.StepEnd.TheVariants as ends
@@ -31,7 +21,8 @@ use Rattle.controller_core.specs.Controller.{answered, due_step, first_step, gro
 use Rattle.controller_core.specs.Controller.{state_of}
 use Rattle.controller_core.specs.Controller.{has_ended, is_none, made, step_end, stepped}
 use Rattle.controller_core.specs.Kept.{IsKept}
-use Rattle.controller_core.proofs.Keeping.{IsNext, due_first, due_none, not_done, remains}
+use Rattle.controller_core.proofs.Keeping.{IsNext, due_first, due_none}
+use Rattle.controller_core.proofs.Places.{not_done, scans-whole}
 
 -- ---- what a step gives
 
@@ -124,71 +115,16 @@ stopped_due f h r stop is not =
 
 -- ---- whether all scans are done
 
--- a list with a step at its end begins with one
-front_of : (xs : List ScanStep) (y : ScanStep)
-    → (x : ScanStep) × (rest : List ScanStep) × (xs ++ y ∷ [] ≡ x ∷ rest)
-front_of [] y = (y, [], refl)
-front_of (x ∷ xs) y = (x, xs ++ y ∷ [], refl)
-
-rows_some : (plan : ControllerPlan) (row : ℕ)
-    → (x : ScanStep) × (rest : List ScanStep) × (rows_from plan row ≡ x ∷ rest)
-unfolding rows_from
-rows_some plan row = front_of
-    (flat_map (row_steps plan) (range_with_len row (suc (length plan.orders) - row))) steps.End
-
-behind_some : (xs ys : List ScanStep) → (x : ScanStep) × (rest : List ScanStep) × (ys ≡ x ∷ rest)
-    → (x : ScanStep) × (rest : List ScanStep) × (xs ++ ys ≡ x ∷ rest)
-behind_some [] ys some = some
-behind_some (x ∷ xs) ys some = (x, xs ++ ys, refl)
-
--- something is due at each place
-abbrev HasFirst : List ScanStep → Type 0
-HasFirst due = (x : ScanStep) × (rest : List ScanStep) × (due ≡ x ∷ rest)
-
-full_some : (plan : ControllerPlan) (at : ScanPlace) → HasFirst (full_after plan at)
-full_some plan places.Start = (steps.Begin, rows_from plan 1, refl)
-full_some plan places.Began = rows_some plan 1
-full_some plan (places.DidIn row) =
-    (steps.Solve row, output_steps plan row ++ rows_from plan (row + 1), refl)
-full_some plan (places.DidSolve row) =
-    behind_some (output_steps plan row) (rows_from plan (row + 1)) (rows_some plan (row + 1))
-full_some plan (places.DidOut row) = rows_some plan (row + 1)
-
-cut_some : (row : ℕ) (due : List ScanStep) → HasFirst due → HasFirst (up_to_failure row due)
-unfolding up_to_failure
-cut_some row due some = (
-  some.0,
-  (if is_failing row (place_after some.0) then steps.Fail ∷ [] else up_to_failure row some.1),
-  ap (up_to_failure row) some.2,
-)
-
-by_some : (power : ScanPower) (due : List ScanStep) → HasFirst due → HasFirst (cut_by power due)
-by_some powers.Stays due some = some
-by_some (powers.Fails row) due some = cut_some row due some
-by_some powers.Dark due some = some
-
-some_left : (plan : ControllerPlan) (power : ScanPower) (at : ScanPlace) (last : Option ScanStep)
-    → HasFirst (left_with plan power at last)
-some_left plan power at None = by_some power (full_after plan at) (full_some plan at)
-some_left plan power at (Some step) = (step, [], refl)
-
-some_due : (plan : ControllerPlan) (scan : ℕ) (at : ScanPlace) → HasFirst (due_after plan scan at)
-some_due plan scan at =
-    let power = power_in plan scan in
-    subst HasFirst (sym (after-is plan scan at)) (some_left plan power at (last_off power at))
-
 goes_on : (f : Fixed) (m : Machine) (h : List Entry) (at : ScanPlace) → IsKept f m h at
     → m.gone < f.scans
     → is_none (first_step (drop (length (scan_steps h)) (all_due f))) ≡ false
 goes_on f m h at k lt =
+    let p = k.steps in
     let later = scans_from f (m.gone + 1 + 1) (f.scans - suc m.gone) in
-    let some = some_due f.plan (m.gone + 1) at in
-    let front : scan_steps h ++ (some.0 ∷ (some.1 ++ later)) ≡ all_due f =
-    ap (λ (l : List ScanStep). scan_steps h ++ l)
-    (sym (remains f m.gone at lt ∙ ap (λ (l : List ScanStep). l ++ later) some.2)) ∙ k.steps in
-    ap (λ (l : List ScanStep). is_none (first_step (drop (length (scan_steps h)) l))) (sym front)
+    ap (λ (l : List ScanStep). is_none (first_step (drop (length (scan_steps h)) l)))
+    (sym (scans-whole f (scan_steps h) m.gone at p lt))
     ∙ ap (λ (l : List ScanStep). is_none (first_step l))
-    (drop-append_seam (scan_steps h) (some.0 ∷ (some.1 ++ later)))
+    (drop-append_seam (scan_steps h) (p.next ∷ (p.after ++ later)))
 
 all_ended : (f : Fixed) (m : Machine) (h : List Entry) (at : ScanPlace) → IsKept f m h at
     → is_done f.scans at m.gone ≡ true

@@ -12,3 +12,4 @@ pub mod Run
 pub mod Following
 pub mod Laws
 pub mod Parts
+pub mod StateView

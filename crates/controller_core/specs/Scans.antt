@@ -1,12 +1,12 @@
 -- What is due in all scans, and what of it is left.
-use Rattle.std.specs.Prelude.{ℕ, suc, ◌+◌, ◌-◌, ◌==◌, Bool, true, false, not, if◌then◌else◌, List}
-use Rattle.std.specs.Prelude.{◌++◌}
+use Rattle.std.specs.Prelude.{◌≡◌, ℕ, ◌+◌, ◌==◌, Bool, true, false, not, if◌then◌else◌, List, ◌∷◌}
+use Rattle.std.specs.Prelude.{◌++◌, drop, length}
 use Rattle.std.specs.List.{flat_map, range_with_len}
 use Rattle.scan_order.specs.declared.due.ScanPlace.{ScanPlace}
 use Rattle.scan_order.specs.declared.due.ScanPlace.TheVariants as places
 use Rattle.scan_order.specs.declared.due.ScanStep.{ScanStep}
 use Rattle.scan_order.specs.declared.due.ScanStep.TheVariants as steps
-use Rattle.scan_order.specs.Due.{due, due_after, ends_scan}
+use Rattle.scan_order.specs.Due.{due, ends_scan, place_behind}
 use Rattle.controller_core.specs.declared.fixed.Fixed.{Fixed}
 
 -- What is due in so many scans from one on. This project's own.
@@ -17,13 +17,21 @@ scans_from fixed scan count = flat_map (due fixed.plan) (range_with_len scan cou
 abbrev pub all_due : Fixed → List ScanStep
 all_due fixed = scans_from fixed 1 fixed.scans
 
--- What is due from a place on, where so many scans are gone: the rest of the scan that runs, and
--- the scans behind it. This project's own.
-abbrev pub remaining : Fixed → ℕ → ScanPlace → List ScanStep
-remaining fixed gone places.Start = scans_from fixed (gone + 1) (fixed.scans - gone)
-remaining fixed gone at =
-    due_after fixed.plan (gone + 1) at
-    ++ scans_from fixed (gone + 1 + 1) (fixed.scans - suc gone)
+-- Steps are those of all scans that are gone, and the first ones of the next scan, which lead to
+-- this place; some of that scan are left. This project's own.
+pub record IsPlaced (fixed : Fixed) (made : List ScanStep) (gone : ℕ) (at : ScanPlace)
+    : Type 0 where
+  pub before : List ScanStep
+  pub next : ScanStep
+  pub after : List ScanStep
+  pub scan : before ++ next ∷ after ≡ due fixed.plan (gone + 1)
+  pub place : place_behind before ≡ at
+  pub steps : made ≡ scans_from fixed 1 gone ++ before
+
+-- What is left of the scan behind those that are gone, where these steps were made in all. This
+-- project's own.
+abbrev pub left_in_scan : Fixed → ℕ → List ScanStep → List ScanStep
+left_in_scan fixed gone made = drop (length made) (scans_from fixed 1 (gone + 1))
 
 -- The scans that have begun. This project's own.
 abbrev pub scans_at : ScanPlace → ℕ → ℕ

@@ -11,7 +11,6 @@ use ring_core::LocalOp;
 use std::alloc::{AllocError, Global};
 
 /// What a call is for (*Modicon Ladder Logic Block Library User Guide*).
-#[derive(Drop)]
 pub enum CallKind {
     /// A request by a route to another node: at least one address, each 1 to 64.
     Net { route: Route, pdu: Pdu },
@@ -19,11 +18,24 @@ pub enum CallKind {
     Local(LocalOp),
 }
 
+impl Drop for CallKind {
+    fn drop(self) {
+        match self {
+            CallKind::Net { route: _, pdu: _ } | CallKind::Local(_) => {}
+        }
+    }
+}
+
 /// A call with its name.
-#[derive(Drop)]
 pub struct Call {
     pub id: CallId,
     pub kind: CallKind,
+}
+
+impl Drop for Call {
+    fn drop(self) {
+        let Call { id: _, kind: _ } = self;
+    }
 }
 
 fn net_request(alloc: Global, route: Route, request: &Request) -> Result<CallKind, AllocError>

@@ -17,6 +17,8 @@ ghost use Rattle.controller_core.specs.Controller.{at_start, fixed_with, IsLegal
 ghost use Rattle.controller_core.specs.Following.{HasWords, IsRowOf};
 ghost use Rattle.controller_core.specs.Machine.{IsRunnable};
 ghost use Rattle.controller_core.specs.Notes.{noted_values, notes_of};
+ghost use Rattle.controller_core.specs.Replay.{replay};
+ghost use Rattle.controller_core.specs.StateView.{state_seen};
 ghost use Rattle.scan_order.specs.Due.{IsStep};
 ghost use Rattle.controller_core.specs.Scans.{closes_scan, is_done, is_over};
 ghost use Rattle.controller_core.specs.Panel.{has_line};
@@ -26,6 +28,7 @@ use crate::entry::{Entry, Maker, StepEnd};
 use crate::fixed::Fixed;
 use crate::machine::Machine;
 use crate::notes::{Notes, closes_scan, value_at};
+use crate::state::StateView;
 use mstr_block::{CallId, MstrResult};
 use plant_types::{
     ControllerPlan, Copied, List, Pdu, Ref, RefStore, checked_plans_find_all, kept_stores_find_all,
@@ -36,7 +39,6 @@ use std::alloc::{AllocError, Global};
 use std::marker::Model;
 
 /// One controller with the history of its events. This project's own.
-#[derive(Drop)]
 pub struct Controller {
     alloc: Global,
     machine: Machine,
@@ -63,6 +65,19 @@ impl Model for Controller {
     ghost invariant = { λ c.
         IsWhole c.machine c.history.items c.at c.reserved (vec_capacity c.history) c.values.items
         (vec_capacity c.values) };
+}
+
+impl Drop for Controller {
+    fn drop(self) {
+        let Controller {
+            alloc: _,
+            machine: _,
+            at: _,
+            history: _,
+            values: _,
+            reserved: _,
+        } = self;
+    }
 }
 
 /// One more entry, for which there is room: takes no memory.
@@ -169,6 +184,13 @@ impl Controller {
         self.machine.ram()
     }
 
+    /// All of its state, which is the replay of its history. Takes no memory.
+    pub fn state(&self) -> StateView<'_>
+        ensures { state_seen result ≡ replay self.now.fixed self.now.history }
+    {
+        self.machine.state()
+    }
+
     /// How many scans are gone: they ended, failed or were dark.
     pub fn scans_gone(&self) -> u32
         ensures { result ≡ (state_of self.now).gone }
@@ -242,7 +264,15 @@ impl Controller {
         ensures history { result ≡ self.history }
         ensures legal { IsLegal self.fixed self.history }
     {
-        List::from_vec(self.history)
+        let Controller {
+            alloc: _,
+            machine: _,
+            at: _,
+            history,
+            values: _,
+            reserved: _,
+        } = self;
+        List::from_vec(history)
     }
 
     /// The values of the panel's references as each scan was over, one scan after another.
@@ -258,12 +288,20 @@ impl Controller {
         ensures notes { result.1 ≡ notes_of self.fixed self.history }
         ensures legal { IsLegal self.fixed self.history }
     {
+        let Controller {
+            alloc: _,
+            machine,
+            at: _,
+            history,
+            values,
+            reserved: _,
+        } = self;
         let notes = Notes {
-            values: List::from_vec(self.values),
-            gone: self.machine.gone,
-            stop: self.machine.stop,
+            values: List::from_vec(values),
+            gone: machine.gone,
+            stop: machine.stop,
         };
-        (List::from_vec(self.history), notes)
+        (List::from_vec(history), notes)
     }
 
     /// Whether a call of an MSTR block was started and not yet collected.

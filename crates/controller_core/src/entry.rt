@@ -8,7 +8,6 @@ use plant_types::{Block, List, Pdu};
 use scan_order::ScanStep;
 
 /// One event of a controller; rows of its order of solve count from 1. This project's own.
-#[derive(Drop)]
 pub enum Entry {
     /// A scan begins.
     Begin,
@@ -45,6 +44,28 @@ pub enum Entry {
         id: CallId,
         result: MstrResult,
     },
+}
+
+impl Drop for Entry {
+    fn drop(self) {
+        match self {
+            Entry::Begin
+            | Entry::Input(_)
+            | Entry::Solve(_)
+            | Entry::Output { row: _, words: _ }
+            | Entry::End
+            | Entry::Fail
+            | Entry::Dark
+            | Entry::Collect(_)
+            | Entry::Peer {
+                id: _,
+                request: _,
+                reply: _,
+            }
+            | Entry::Off { id: _, request: _ }
+            | Entry::Finish { id: _, result: _ } => {}
+        }
+    }
 }
 
 /// Who makes events of a controller. This project's own.

@@ -12,6 +12,7 @@ mod laws;
 mod machine;
 mod notes;
 mod parts;
+mod state;
 
 pub use call::{Call, CallKind};
 pub use controller::Controller;
@@ -23,3 +24,4 @@ pub use laws::{
     notes_ask_no_scans, notes_tell_the_lines, steps_add_their_lines, steps_make_the_run,
 };
 pub use notes::Notes;
+pub use state::StateView;

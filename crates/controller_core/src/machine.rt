@@ -8,6 +8,7 @@ ghost use Rattle.controller_core.specs.Event.{entry_of, outputs_at, peer_entry, 
 ghost use Rattle.controller_core.specs.Replay.{control_is_on, start};
 ghost use Rattle.traffic_cop.specs.Rows.{HasControl, HasDrop};
 ghost use Rattle.controller_core.specs.Machine.{state_is, DoesEntry, Exchanges};
+ghost use Rattle.controller_core.specs.StateView.{state_seen};
 ghost use Rattle.controller_core.specs.Machine.{CanSolve, IsRunnable, IsSound, IsTimely};
 ghost use Rattle.controller_core.specs.Machine.{most_steps};
 ghost use Rattle.controller_core.specs.Calls.{calls_of};
@@ -21,6 +22,7 @@ use crate::failing::switch_coils_off;
 use crate::fixed::Fixed;
 use crate::notes::{closes_scan, push_values};
 use crate::parts::{Parts, Solver, Stores, parts_of};
+use crate::state::StateView;
 use ladder_solver::{Ladder, SolveEnd, Watch, grids_ask_no_more, segments_keep_calls};
 use modbus_exec::answer_twice;
 use mstr_block::{
@@ -40,7 +42,6 @@ use traffic_cop::Cop;
 const WATCHDOG_STOP: u16 = 1;
 
 /// The store of a controller and all that its events change beside it.
-#[derive(Drop)]
 pub(crate) struct Machine {
     pub(crate) fixed: Fixed,
     ladder: Ladder,
@@ -62,6 +63,26 @@ pub(crate) struct Machine {
     pub(crate) powered: bool,
     /// How often power failed.
     pub(crate) failures: u32,
+}
+
+impl Drop for Machine {
+    fn drop(self) {
+        let Machine {
+            fixed: _,
+            ladder: _,
+            bank: _,
+            cop: _,
+            ram: _,
+            past: _,
+            clock: _,
+            watch: _,
+            exchanges: _,
+            gone: _,
+            stop: _,
+            powered: _,
+            failures: _,
+        } = self;
+    }
 }
 
 /// The stop code behind a solve.
@@ -122,6 +143,25 @@ impl Machine {
         ensures { result.now ≡ self.now.ram }
     {
         &self.ram
+    }
+
+    /// All of its state.
+    pub(crate) fn state(&self) -> StateView<'_>
+        ensures { state_seen result ≡ state_is self.now }
+    {
+        StateView {
+            ram: &self.ram,
+            past: &self.past,
+            ladder: &self.ladder,
+            bank: &self.bank,
+            clock: self.clock,
+            left: self.watch.left,
+            exchanges: self.exchanges.as_slice(),
+            gone: self.gone,
+            stop: self.stop,
+            powered: self.powered,
+            failures: self.failures,
+        }
     }
 
     /// The references of the panel.

@@ -11,7 +11,6 @@ use scan_order::{ScanStep, ends_scan};
 use state_ram::PackedRam;
 
 /// What the panel of a controller showed. This project's own.
-#[derive(Drop)]
 pub struct Notes {
     /// The values of the panel's references as each scan was over, one scan after another.
     pub values: List<u16>,
@@ -19,6 +18,16 @@ pub struct Notes {
     pub gone: u32,
     /// The code with which the controller stopped; 0 where it did not.
     pub stop: u16,
+}
+
+impl Drop for Notes {
+    fn drop(self) {
+        let Notes {
+            values: _,
+            gone: _,
+            stop: _,
+        } = self;
+    }
 }
 
 /// Whether a step is the last of its scan, by the stop code behind it.

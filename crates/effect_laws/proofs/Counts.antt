@@ -1,9 +1,9 @@
 -- Counts over lists, and over the entries of each node.
-use Rattle.std.proofs.Common.{◌≡◌, ℕ, suc, ◌+◌, ◌<◌, ◌≤◌, Bool, true, false, cond, List, [], ◌∷◌}
-use Rattle.std.proofs.Common.{length, refl, sym, ap, ◌∙◌, subst, arith}
+use Rattle.std.proofs.Common.{◌≡◌, ℕ, suc, ◌+◌, ◌≤◌, Bool, true, false, cond, List, [], ◌∷◌}
+use Rattle.std.proofs.Common.{refl, ap, ◌∙◌, arith}
 use Rattle.std.specs.Prelude.{◌==◌}
-use Rattle.std.specs.List.{All, AllPairs, count_by, sum_by, slice_index_or}
-use Rattle.std.proofs.lemmas.Bool.{true≢false, ne_eqb, eqb-true}
+use Rattle.std.specs.List.{All, count_by, sum_by}
+use Rattle.std.proofs.lemmas.Bool.{true≢false}
 use Rattle.std.proofs.lemmas.List.Sums.{sum_by-append}
 use Rattle.ring_core.specs.declared.entry.RingEntry.{RingEntry}
 use Rattle.ring_core.specs.Words.{maker}
@@ -25,38 +25,6 @@ skip p x xs off = count_cons p x xs ∙ nothing (p x) (count_by p xs) off where
   nothing : (b : Bool) (k : ℕ) → b ≡ false → cond b 1 0 + k ≡ k
   nothing true k e = absurd (true≢false e)
   nothing false k e = omega arith
-
--- a count by whether its first passes
-zero_of : (b : Bool) (rest total : ℕ) → total ≡ cond b 1 0 + rest → b ≡ false → rest ≡ 0
-    → total ≡ 0
-zero_of true rest total is off none = absurd (true≢false off)
-zero_of false rest total is off none = omega arith
-
--- no number of a list that lies above
-none_above : (m : ℕ) (ys : List ℕ) → ((j d : ℕ) → j < length ys → m < slice_index_or ys j d)
-    → count_by (λ n. m == n) ys ≡ 0
-none_above m [] above = refl
-none_above m (y ∷ ys) above =
-    let more = above 0 0 (omega arith) in
-    zero_of (m == y) (count_by (λ n. m == n) ys) (count_by (λ n. m == n) (y ∷ ys))
-    (count_cons (λ n. m == n) y ys)
-    (ne_eqb m y (λ h. omega arith)) (none_above m ys (λ j d within. above (suc j) d (omega arith)))
-
--- a number stands at most once in a list that rises
-once_by : (m : ℕ) (x : ℕ) (rest : ℕ) (b : Bool) → (m == x) ≡ b → (m ≡ x → rest ≡ 0) → rest ≤ 1
-    → cond b 1 0 + rest ≤ 1
-once_by m x rest true e none some = let zero_rest = none (eqb-true m x e) in omega arith
-once_by m x rest false e none some = omega arith
-
-pub once_rising : (m : ℕ) (xs : List ℕ) → AllPairs (λ x y. x < y) xs
-    → count_by (λ n. m == n) xs ≤ 1
-once_rising m [] pairs = omega arith
-once_rising m (x ∷ xs) pairs =
-    subst (λ (k : ℕ). k ≤ 1) (sym (count_cons (λ n. m == n) x xs))
-    (once_by m x (count_by (λ n. m == n) xs) (m == x) refl
-    (λ same. none_above m xs (λ j d within. subst (λ (n : ℕ). n < slice_index_or xs j d) (sym same)
-    (pairs 0 (suc j) d (omega arith) (omega arith))))
-    (once_rising m xs (λ i j d less within. pairs (suc i) (suc j) d (omega arith) (omega arith))))
 
 module _ (p : RingEntry → Bool) where
   -- the count of a node's own entries, with one entry more

@@ -10,5 +10,5 @@ end-complete plan net side list ring sound t k =
       finished = each-ended plan list side sound t.legal g.none;
       gone = gone-made plan side list sound t.end t.legal g.bridge;
       left = g.on_ring;
-      quiet = k.leaves;
+      quiet = g.quietly;
     }

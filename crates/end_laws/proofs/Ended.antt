@@ -5,7 +5,7 @@ use Rattle.std.proofs.Common.{inl, inr, arith, append_assoc, append-nil}
 use Rattle.std.specs.Prelude.{is_some, not}
 use Rattle.std.specs.List.{Contains, count_by, list_all, AllByRecursion as Each}
 use Rattle.std.proofs.lemmas.Bool.{and_parts, cases_Bool, eq-eqb, eqb-true, not-true}
-use Rattle.std.proofs.lemmas.List.Elements.{Contains-append_right}
+use Rattle.std.proofs.lemmas.List.Elements.{All-from_recursion, Contains-append_right}
 use Rattle.std.proofs.lemmas.List.Sums.{sum_by-append}
 use Rattle.plant_types.specs.declared.net.BridgePlan.{BridgePlan}
 use Rattle.plant_types.specs.Plans.{IsBridgePlan}
@@ -29,7 +29,6 @@ use Rattle.tied_lists.proofs.Asked.{same-refl}
 use Rattle.tied_lists.proofs.Boxes.{count-cons, count-push, each-filter, each-push, one-if}
 use Rattle.joint_history.specs.Bridges.{made_at_end, side_item_next, side_items, side_items_after}
 use Rattle.joint_history.specs.Complete.{EndsEachCall}
-use Rattle.end_laws.proofs.Rows.{each-all}
 
 -- ---- none is out
 
@@ -205,7 +204,7 @@ pub each-ended : (plan : BridgePlan) (list : List BridgeEntry) (side : ℕ) → 
     → EndsEachCall (side_items side list)
 each-ended plan list side sound legal none =
     let ended = EndedOnce (side_items side list) in
-    each-all ended (side_items side list).calls
+    All-from_recursion ended (side_items side list).calls
     (calls-each ended no_items (made_at_end side list) tt
     (each-filter (λ e. SentIn list e × IsCallOf plan side e) (CallsHave ended) (is_by side) list
     sends (both-each (SentIn list) (IsCallOf plan side) list (sent-each [] list)

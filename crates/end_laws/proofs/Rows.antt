@@ -1,36 +1,17 @@
 -- A node's own list with its row of done Passes, as the list goes on.
-use Rattle.std.proofs.Common.{◌≡◌, ℕ, zero, suc, true, false, List, [], ◌∷◌, ◌++◌, sym}
-use Rattle.std.proofs.Common.{ap, subst, ◌∙◌, arith, append_assoc, append-nil}
+use Rattle.std.proofs.Common.{◌≡◌, ℕ, true, false, List, [], ◌∷◌, ◌++◌, refl, sym}
+use Rattle.std.proofs.Common.{ap, subst, ◌∙◌, append_assoc, append-nil}
 use Rattle.std.specs.List.{All, AllByRecursion as Each}
+use Rattle.std.proofs.lemmas.List.Elements.{All-append, All-from_recursion, All-head, All-nil}
+use Rattle.std.proofs.lemmas.List.Elements.{All-push, All-tail}
 use Rattle.ring_core.specs.declared.entry.LeaveCause.TheVariants.{Ended as AllDone}
 use Rattle.ring_core.specs.declared.entry.RingEntry.{RingEntry}
 use Rattle.ring_core.specs.declared.entry.RingEntry.TheVariants.{Pass, Leave}
 use Rattle.joint_history.specs.Complete.{IsQuiet, LeavesQuietly, SaysDone, is_pass}
-use Rattle.end_laws.specs.EndKeeps.{EndsDone, IsQuietSinceDone}
-use Rattle.turn_laws.proofs.Passes.{Stands, last, earlier, stands-in, nil-cons, all-push}
-use Rattle.turn_laws.proofs.Passes.{IsNoPass, IsInner, is_last}
-
--- ---- lists
-
-pub each-all : {X : Type 0} (P : X → Type 0) (xs : List X) → Each P xs → All P xs
-each-all P [] all k d within = absurd (omega (arith, within))
-each-all P (x ∷ xs) all zero d within = all.0
-each-all P (x ∷ xs) all (suc k) d within = each-all P xs all.1 k d (omega (arith, within))
-
-all-front : {X : Type 0} (P : X → Type 0) (xs : List X) (x : X) → All P (xs ++ x ∷ [])
-    → All P xs
-all-front P [] x all k d within = absurd (omega (arith, within))
-all-front P (y ∷ xs) x all zero d within = all 0 d (omega arith)
-all-front P (y ∷ xs) x all (suc k) d within =
-    all-front P xs x (λ j e less. all (suc j) e (omega (arith, less))) k d (omega (arith, within))
-
-all-last : {X : Type 0} (P : X → Type 0) (xs : List X) (x : X) → All P (xs ++ x ∷ []) → P x
-all-last P [] x all = all 0 x (omega arith)
-all-last P (y ∷ xs) x all =
-    all-last P xs x (λ j e less. all (suc j) e (omega (arith, less)))
-
-all-none : {X : Type 0} (P : X → Type 0) → All P []
-all-none P k d within = absurd (omega (arith, within))
+use Rattle.joint_history.proofs.Lists.{all-front, all-behind}
+use Rattle.end_laws.specs.EndKeeps.{EndsDone, IsNoDoneLeave, IsQuietSinceDone}
+use Rattle.turn_laws.proofs.Passes.{Stands, last, earlier, stands-in, cons-head, cons-tail}
+use Rattle.turn_laws.proofs.Passes.{nil-cons, each-map, IsNoPass, IsInner, is_last}
 
 -- ---- rows
 
@@ -66,8 +47,8 @@ row-in b e before node words between d =
     at (last p q r) = begins (sym q) r
     at (earlier rest p q) =
         let all = subst (All SaysDone) q d.done in
-        goes rest (record { stands = p; done = all-front SaysDone rest e all })
-        (all-last SaysDone rest e all) q
+        goes rest (record { stands = p; done = all-front SaysDone rest (e ∷ []) all })
+        (All-head SaysDone e [] (all-behind SaysDone rest (e ∷ []) all)) q
 
 row-still : (b : List RingEntry) (e : RingEntry) → IsNoPass e → DoneRow (b ++ e ∷ []) → DoneRow b
 row-still b e none r = at (row-in b e r.before r.node r.words r.between r.ends)
@@ -102,9 +83,9 @@ quiet-push b e old new before between node words d =
     at (row-in b e before node words between d)
   where
     at : Row b e before node words between → All IsQuiet between
-    at (begins is same) = subst (All IsQuiet) (sym same) (all-none IsQuiet)
+    at (begins is same) = subst (All IsQuiet) (sym same) (All-nil IsQuiet)
     at (goes rest k says same) = subst (All IsQuiet) (sym same)
-        (all-push IsQuiet rest e (old before rest node words k)
+        (All-push IsQuiet rest e (old before rest node words k)
         (new (record {
           before = before;
           between = rest;
@@ -138,33 +119,60 @@ quiet-more b (e ∷ c) none of old =
 
 -- ---- where it left
 
-pub leaves-none : LeavesQuietly []
-leaves-none before between after' n m words is done = absurd
-    (at (before ++ Pass m true words ∷ between) is)
-  where
-    at : (front : List RingEntry) → [] ≡ front ++ Leave n AllDone ∷ after' → ⊥
-    at [] same = nil-cons same
-    at (x ∷ xs) same = nil-cons same
+inner-no-leave : (e : RingEntry) → IsInner e → IsNoDoneLeave e
+inner-no-leave e inner n is =
+    let there : is_last e ≡ true = ap is_last is in let both : true ≡ false =
+    sym there ∙ inner in cc
 
-pub leaves-push : (b : List RingEntry) (e : RingEntry) → LeavesQuietly b
-    → ((n : ℕ) → e ≡ Leave n AllDone → IsQuietSinceDone b) → LeavesQuietly (b ++ e ∷ [])
-leaves-push b e old new before between after' n m words is done =
-    at (stands-in b e (before ++ Pass m true words ∷ between) (Leave n AllDone) after' is)
-  where
-    at : Stands b e (before ++ Pass m true words ∷ between) (Leave n AllDone) after'
-        → All IsQuiet between
-    at (last p q r) = new n (sym q) before between m words
-        (record { stands = sym p; done = done })
-    at (earlier rest p q) = old before between rest n m words p done
+-- entries inside a turn are none
+pub inner-here : (c : List RingEntry) → Each IsInner c → All IsNoDoneLeave c
+inner-here c inner = All-from_recursion IsNoDoneLeave c
+    (each-map IsInner IsNoDoneLeave c inner-no-leave inner)
 
-inner-no-leave : (e : RingEntry) (n : ℕ) {C : Type 0} → IsInner e → e ≡ Leave n AllDone → C
-inner-no-leave e n inner is = absurd
-    (let there : is_last e ≡ true = ap is_last is in let both : true ≡ false =
-    sym there ∙ inner in cc)
+pub here-more : (b c : List RingEntry) → Each IsInner c → All IsNoDoneLeave b
+    → All IsNoDoneLeave (b ++ c)
+here-more b c inner none = All-append IsNoDoneLeave b c none (inner-here c inner)
 
-pub leaves-more : (b c : List RingEntry) → Each IsInner c → LeavesQuietly b
-    → LeavesQuietly (b ++ c)
-leaves-more b [] inner old = subst LeavesQuietly (sym (append-nil b)) old
-leaves-more b (e ∷ c) inner old =
-    shift LeavesQuietly b e c (leaves-more (b ++ e ∷ []) c inner.1
-    (leaves-push b e old (λ n is. inner-no-leave e n inner.0 is)))
+no-leave-at : (front after : List RingEntry) (n : ℕ)
+    → All IsNoDoneLeave (front ++ Leave n AllDone ∷ after) → ⊥
+no-leave-at [] after n all = All-head IsNoDoneLeave (Leave n AllDone) after all n refl
+no-leave-at (x ∷ front) after n all =
+    no-leave-at front after n
+    (All-tail IsNoDoneLeave x (front ++ Leave n AllDone ∷ after) all)
+
+-- where one entry alone can be such a Leave, that is the one
+record IsAlone (b c : List RingEntry) (e : RingEntry) (front after : List RingEntry) (n : ℕ)
+    : Type 0 where
+  before : b ≡ front
+  leave : e ≡ Leave n AllDone
+  behind : c ≡ after
+
+alone-at : (b c : List RingEntry) (e : RingEntry) (front after : List RingEntry) (n : ℕ)
+    → All IsNoDoneLeave b → All IsNoDoneLeave c → b ++ e ∷ c ≡ front ++ Leave n AllDone ∷ after
+    → IsAlone b c e front after n
+alone-at [] c e [] after n none none' is =
+    record { before = refl; leave = cons-head is; behind = cons-tail is }
+alone-at [] c e (x ∷ front) after n none none' is = absurd
+    (no-leave-at front after n (subst (All IsNoDoneLeave) (cons-tail is) none'))
+alone-at (y ∷ b) c e [] after n none none' is = absurd
+    (All-head IsNoDoneLeave y b none n (cons-head is))
+alone-at (y ∷ b) c e (x ∷ front) after n none none' is =
+    let rest = alone-at b c e front after n (All-tail IsNoDoneLeave y b none) none'
+    (cons-tail is) in
+    record {
+      before = λ i. cons-head is i ∷ rest.before i;
+      leave = rest.leave;
+      behind = rest.behind;
+    }
+
+-- it leaves quietly where it was quiet before and is behind
+pub leaves-now : (b c : List RingEntry) (e : RingEntry) → All IsNoDoneLeave b
+    → All IsNoDoneLeave c
+    → ((n : ℕ) → e ≡ Leave n AllDone → IsQuietSinceDone b × All IsQuiet c)
+    → LeavesQuietly (b ++ e ∷ c)
+leaves-now b c e none none' quiet before between after n m words is says =
+    let alone = alone-at b c e (before ++ Pass m true words ∷ between) after n none none' is in
+    let both = quiet n alone.leave in (
+      both.0 before between m words (record { stands = alone.before; done = says }),
+      subst (All IsQuiet) alone.behind both.1,
+    )

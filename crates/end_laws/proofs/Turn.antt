@@ -1,9 +1,10 @@
 -- A turn keeps what a bridge's end keeps.
 use Rattle.std.proofs.Common.{◌≡◌, ℕ, Bool, true, false, List, [], ◌∷◌, ◌++◌, Option, Some}
-use Rattle.std.proofs.Common.{None, refl, sym, ap, subst, ◌∙◌}
+use Rattle.std.proofs.Common.{None, refl, sym, ap, subst, ◌∙◌, append_assoc}
 use Rattle.std.specs.Prelude.{is_some, if◌then◌else◌, ◌&&◌}
-use Rattle.std.specs.List.{AllByRecursion as Each}
+use Rattle.std.specs.List.{All, AllByRecursion as Each}
 use Rattle.std.proofs.lemmas.Bool.{and_parts}
+use Rattle.std.proofs.lemmas.List.Elements.{All-from_recursion, All-push}
 use Rattle.plant_types.specs.declared.net.BridgePlan.{BridgePlan}
 use Rattle.plant_types.specs.declared.net.NetPlan.{NetPlan}
 use Rattle.plant_types.specs.Plans.{IsBridgePlan}
@@ -35,12 +36,12 @@ use Rattle.bridge_port.specs.Stands.{own_bridge}
 use Rattle.bridge_port.proofs.Across.{legal-front}
 use Rattle.end_times.specs.EndTimes.{IsEndInTime}
 use Rattle.end_times.proofs.Turn.{end-in-time}
-use Rattle.end_laws.specs.EndKeeps.{EndKeepsOn, IsQuietSinceDone}
+use Rattle.end_laws.specs.EndKeeps.{EndKeepsOn, IsNoDoneLeave, IsQuietSinceDone}
 use Rattle.end_laws.specs.Laws.{EndTurnsKeepOn}
 use Rattle.end_laws.proofs.Parts.{EndWent, grew-same, grew-still, went-backs, went-forwards}
 use Rattle.end_laws.proofs.Parts.{went-gives, went-none, went-sends, went-serves, went-then}
-use Rattle.end_laws.proofs.Rows.{DoneRow, leaves-more, leaves-push, no-row-now, quiet-more}
-use Rattle.end_laws.proofs.Rows.{quiet-push}
+use Rattle.end_laws.proofs.Rows.{DoneRow, here-more, inner-here, leaves-now, no-row-now}
+use Rattle.end_laws.proofs.Rows.{quiet-more, quiet-push}
 use Rattle.end_laws.proofs.Silent.{IsNoForward, IsOfNoCall, LeftAtLast, left-now, silent}
 use Rattle.turn_laws.proofs.Gone.{inner-keeps}
 use Rattle.turn_laws.proofs.Parted.{gone-for-good}
@@ -159,8 +160,8 @@ module _ (alone alone' : Bool) (plan : BridgePlan) (net : NetPlan) (n : ℕ) (bu
       went.adds.quiet (subst (Each IsOfNoCall)
       went.station.ours_are s.calls)
 
-  leaves-so : LeavesQuietly (own n ring ++ went.done)
-  leaves-so = leaves-more (own n ring) went.done went.adds.inner k.leaves
+  here-so : All IsNoDoneLeave (own n ring ++ went.done)
+  here-so = here-more (own n ring) went.done went.adds.inner (k.here refl)
 
   quiet-so : IsBridgeHistory plan t.ends.asked_list → t.ends.done ≡ true
       → IsQuietSinceDone (own n ring ++ went.done)
@@ -181,8 +182,9 @@ module _ (alone alone' : Bool) (plan : BridgePlan) (net : NetPlan) (n : ℕ) (bu
   passed : cause ≡ None → EndKeepsOn plan net n new_list new_ring false
   passed is = record {
     in_time = timely;
-    leaves = subst LeavesQuietly (sym own-is) (leaves-push (own n ring ++ went.done)
-        (Pass n t.ends.done words) leaves-so (λ m bad. absurd cc));
+    here = λ stays. subst (All IsNoDoneLeave) (sym own-is)
+        (All-push IsNoDoneLeave (own n ring ++ went.done) (Pass n t.ends.done words) here-so
+        (λ m bad. absurd cc));
     quiet = λ stays. subst IsQuietSinceDone (sym own-is) (quiet-at t.ends.done refl);
     none_out = λ stays before between node said d.
         none-at t.ends.done refl (subst DoneRow own-is (record {
@@ -235,10 +237,7 @@ module _ (alone alone' : Bool) (plan : BridgePlan) (net : NetPlan) (n : ℕ) (bu
   parted : (why : LeaveCause) → cause ≡ Some why → EndKeepsOn plan net n new_list new_ring true
   parted why is = record {
     in_time = timely;
-    leaves = subst LeavesQuietly (sym own-is)
-        (leaves-more ((own n ring ++ went.done) ++ Leave n why ∷ []) gives.done gives.adds.inner
-        (leaves-push (own n ring ++ went.done) (Leave n why) leaves-so
-        (λ m same. quiet-so legal (said m same))));
+    here = λ bad. absurd (let no : true ≡ false = bad in cc);
     quiet = λ bad. absurd (let no : true ≡ false = bad in cc);
     none_out = λ bad. absurd (let no : true ≡ false = bad in cc);
     gone = λ here. record {
@@ -249,6 +248,10 @@ module _ (alone alone' : Bool) (plan : BridgePlan) (net : NetPlan) (n : ℕ) (bu
           gives.adds.inner
           (λ asks. let bad : Gone ≡ Asking = sym there ∙ asks in absurd cc) ∙ there;
       none = ap (λ l. none_out (end_after plan l n)) list-is ∙ off.none;
+      quietly = subst LeavesQuietly (sym own-is)
+          (leaves-now (own n ring ++ went.done) gives.done (Leave n why) here-so
+          (inner-here gives.done gives.adds.inner)
+          (λ m same. (quiet-so legal (said m same), quiet-behind (said m same))));
     };
   }
     where
@@ -278,11 +281,23 @@ module _ (alone alone' : Bool) (plan : BridgePlan) (net : NetPlan) (n : ℕ) (bu
       off = left-now plan n (leaves.given_list ++ leaves.gone.between) sound open_end.end
           (subst (IsBridgeHistory plan) list-is new.legal)
 
-      own-is : own n new_ring
-          ≡ ((own n ring ++ went.done) ++ Leave n why ∷ []) ++ gives.done
+      own-is : own n new_ring ≡ (own n ring ++ went.done) ++ Leave n why ∷ gives.done
       own-is = grew-ours alone' (is_of n) t.ends.handed_ring gives.done new_ring gives.node
-          ∙ ap (λ l. l ++ gives.done) (own-handed
+          ∙ (ap (λ l. l ++ gives.done) (own-handed
           ∙ ap (λ c. (own n ring ++ went.done) ++ last_entry n t.ends.done words c ∷ []) is)
+          ∙ append_assoc (own n ring ++ went.done) (Leave n why ∷ []) gives.done)
+
+      -- where the end was done nothing is out, so that it gives up nothing behind its Leave
+      quiet-behind : t.ends.done ≡ true → All IsQuiet gives.done
+      quiet-behind is_done =
+          let at_rest = done-end posted alone alone' plan net n t.given_list t.ends.asked_list
+          t.given_ring t.ends.asked_ring t.ends.done t.ends.asked is_done in
+          let s = silent plan n t.ends.asked_list gives.station.more sound open_end.end
+          (subst (IsBridgeHistory plan) gives.station.after_is legal-given)
+          (idle-none plan n t.ends.asked_list at_rest.idle)
+          (subst (Each IsNoForward) (sym gives.station.ours_are) (gives.adds.calm refl)) in
+          All-from_recursion IsQuiet gives.done
+          (gives.adds.quiet (subst (Each IsOfNoCall) gives.station.ours_are s.calls))
 
       there : status_at net t.ends.handed_ring n ≡ Gone
       there = ap (λ (l : List RingEntry). status_at net l n) t.ends.handed.grew.after_is

@@ -1,6 +1,8 @@
 -- Worked lists of the end 7 of a bridge, which answers a request for its statistics between two
 -- Passes that say done, and leaves; and of one that asks something there.
-use Rattle.std.proofs.Common.{◌≡◌, true, false, List, [], ◌∷◌, refl, arith}
+use Rattle.std.proofs.Common.{◌≡◌, true, false, List, [], ◌∷◌, ◌++◌, refl, arith}
+use Rattle.std.specs.List.{All}
+use Rattle.std.proofs.lemmas.List.Elements.{All-from_recursion, All-nil}
 use Rattle.plant_types.specs.declared.net.BridgePlan.{BridgePlan}
 use Rattle.plant_types.specs.declared.net.Fate.TheVariants.{D}
 use Rattle.plant_types.specs.declared.net.NetPlan.{NetPlan}
@@ -15,14 +17,13 @@ use Rattle.ring_core.specs.declared.entry.LeaveCause.TheVariants.{Ended}
 use Rattle.ring_core.specs.declared.entry.LocalOp.TheVariants.{RemoteGet}
 use Rattle.ring_core.specs.declared.entry.RingEntry.{RingEntry}
 use Rattle.ring_core.specs.declared.entry.RingEntry.TheVariants.{Post, Take, Local, Pass, Leave}
-use Rattle.joint_history.specs.Complete.{LeavesQuietly, SaysDone}
+use Rattle.joint_history.specs.Complete.{IsQuiet, SaysDone}
 use Rattle.one_order.specs.Merges.{Merged, AsNoted, AsDone}
 use Rattle.end_times.specs.EndCauses.{no_end_notes, no_end_deeds}
 use Rattle.end_times.specs.EndTimes.{IsEndInTime}
 use Rattle.end_times.proofs.Worked.{runs-by}
-use Rattle.end_laws.specs.EndKeeps.{EndKeepsOn, IsQuietSinceDone}
-use Rattle.end_laws.proofs.Rows.{each-all, leaves-more, leaves-none, leaves-push}
-use Rattle.end_laws.proofs.Rows.{quiet-more, quiet-none, quiet-push}
+use Rattle.end_laws.specs.EndKeeps.{EndKeepsOn, IsNoDoneLeave, IsQuietSinceDone}
+use Rattle.end_laws.proofs.Rows.{leaves-now, quiet-more, quiet-none, quiet-push}
 
 abbrev bridge : BridgePlan
 bridge = record { left_net = 1; left = 7; right_net = 2; right = 8 }
@@ -65,11 +66,20 @@ is-quiet = quiet-push (done ∷ answers) done
     (quiet-push [] done quiet-none (λ row. tt)))
     (λ row. tt)
 
-leaves-no : LeavesQuietly answered
-leaves-no = leaves-push (done ∷ answers) done
-    (leaves-more (done ∷ []) answers (refl, (refl, (refl, tt)))
-    (leaves-push [] done leaves-none (λ n is. absurd cc)))
-    (λ n is. absurd cc)
+is-here : All IsNoDoneLeave answered
+is-here = All-from_recursion IsNoDoneLeave answered (
+  (λ n is. absurd cc),
+  (
+    (λ n is. absurd cc),
+    (
+      (λ n is. absurd cc),
+      (
+        (λ n is. absurd cc),
+        ((λ n is. absurd cc), tt),
+      ),
+    ),
+  ),
+)
 
 -- it answers at the port what it took for it
 answers-in-time : IsEndInTime 7 [] answered
@@ -82,7 +92,7 @@ answers-in-time =
 keeps : EndKeepsOn bridge net 7 [] answered false
 keeps = record {
   in_time = answers-in-time;
-  leaves = leaves-no;
+  here = λ stays. is-here;
   quiet = λ stays. is-quiet;
   none_out = λ stays before between node words d. refl;
   gone = λ left. absurd (let bad : false ≡ true = left in cc);
@@ -104,10 +114,16 @@ left-in-time =
 keeps-left : EndKeepsOn bridge net 7 (Gone 7 ∷ []) left_ring true
 keeps-left = record {
   in_time = left-in-time;
-  leaves = leaves-push answered (Leave 7 Ended) leaves-no (λ n is. is-quiet);
+  here = λ stays. absurd (let bad : true ≡ false = stays in cc);
   quiet = λ stays. absurd (let bad : true ≡ false = stays in cc);
   none_out = λ stays. absurd (let bad : true ≡ false = stays in cc);
-  gone = λ left. record { bridge = refl; on_ring = refl; none = refl };
+  gone = λ left. record {
+    bridge = refl;
+    on_ring = refl;
+    none = refl;
+    quietly = leaves-now answered [] (Leave 7 Ended) is-here (All-nil IsNoDoneLeave)
+        (λ n is. (is-quiet, All-nil IsQuiet));
+  };
 }
 
 -- ---- it asks between them
@@ -121,9 +137,19 @@ asked = record { kind = Request; to = 5; rest = []; id = own_call; pdu = get_sta
 not-quiet : IsQuietSinceDone (done ∷ Post 7 asked ∷ done ∷ []) → ⊥
 not-quiet law =
     let quiet = law [] (Post 7 asked ∷ done ∷ []) 7 []
-    (record { stands = refl; done = each-all SaysDone (Post 7 asked ∷ done ∷ []) (tt, (refl, tt)) })
-    in
+    (record {
+      stands = refl;
+      done = All-from_recursion SaysDone (Post 7 asked ∷ done ∷ []) (tt, (refl, tt));
+    }) in
     let bad : Request ≡ Reply = quiet 0 done (omega arith) in cc
 
 not-so : EndKeepsOn bridge net 7 [] (done ∷ Post 7 asked ∷ done ∷ []) false → ⊥
 not-so k = not-quiet (k.quiet refl)
+
+-- ---- it asks behind its Leave
+
+not-left : EndKeepsOn bridge net 7 (Gone 7 ∷ []) (left_ring ++ Post 7 asked ∷ []) true → ⊥
+not-left k =
+    let quiet = ((k.gone refl).quietly (done ∷ answers) [] (Post 7 asked ∷ []) 7 7 [] refl
+    (All-nil SaysDone)).1 in
+    let bad : Request ≡ Reply = quiet 0 done (omega arith) in cc

@@ -1,5 +1,5 @@
 -- What the turns of a bridge's end keep. This project's own.
-use Rattle.std.specs.Prelude.{◌≡◌, ℕ, Bool, true, false, List}
+use Rattle.std.specs.Prelude.{◌≡◌, ◌≢◌, ℕ, Bool, true, false, List}
 use Rattle.std.specs.List.{All}
 use Rattle.plant_types.specs.declared.net.BridgePlan.{BridgePlan}
 use Rattle.plant_types.specs.declared.net.NetPlan.{NetPlan}
@@ -7,7 +7,8 @@ use Rattle.bridge_relay.specs.declared.entry.BridgeEntry.{BridgeEntry}
 use Rattle.bridge_relay.specs.Laws.{end_after}
 use Rattle.bridge_relay.specs.Machine.{none_out}
 use Rattle.ring_core.specs.declared.entry.RingEntry.{RingEntry}
-use Rattle.ring_core.specs.declared.entry.RingEntry.TheVariants.{Pass}
+use Rattle.ring_core.specs.declared.entry.LeaveCause.TheVariants.{Ended as AllDone}
+use Rattle.ring_core.specs.declared.entry.RingEntry.TheVariants.{Pass, Leave}
 use Rattle.ring_core.specs.declared.status.NodeStatus.TheVariants.{Gone}
 use Rattle.tied_lists.specs.Own.{own}
 use Rattle.tied_lists.specs.Waits.{status_at}
@@ -31,20 +32,25 @@ HasNoneOutSinceDone plan list side own_list =
     (before between : List RingEntry) (node : ℕ) (words : List ℕ)
     → EndsDone own_list before node words between → none_out (end_after plan list side) ≡ true
 
--- An end has left for good, in its bridge's list and on the ring, and none of its calls is out.
+-- An entry by which no node leaves as all was done.
+abbrev pub IsNoDoneLeave : RingEntry → Type 0
+IsNoDoneLeave entry = (n : ℕ) → entry ≢ Leave n AllDone
+
+-- An end has left for good, in its bridge's list and on the ring, none of its calls is out, and it
+-- was quiet before and stayed so.
 pub record HasLeftForGood (plan : BridgePlan) (net : NetPlan) (side : ℕ) (list : List BridgeEntry)
     (ring : List RingEntry) : Type 0 where
   pub bridge : (end_after plan list side).gone ≡ true
   pub on_ring : status_at net ring side ≡ Gone
   pub none : none_out (end_after plan list side) ≡ true
+  pub quietly : LeavesQuietly (own side ring)
 
--- An end is in time with its node, and what a complete run says of its Passes holds so far; as long
--- as it has not left it was quiet, and none of its calls was out, since it said done; where it left
--- it left for good.
+-- An end is in time with its node; as long as it has not left its node has not, it was quiet, and
+-- none of its calls was out, since it said done; where it left it left for good.
 pub record EndKeepsOn (plan : BridgePlan) (net : NetPlan) (side : ℕ) (list : List BridgeEntry)
     (ring : List RingEntry) (left : Bool) : Type 0 where
   pub in_time : IsEndInTime side list ring
-  pub leaves : LeavesQuietly (own side ring)
+  pub here : left ≡ false → All IsNoDoneLeave (own side ring)
   pub quiet : left ≡ false → IsQuietSinceDone (own side ring)
   pub none_out : left ≡ false → HasNoneOutSinceDone plan list side (own side ring)
   pub gone : left ≡ true → HasLeftForGood plan net side list ring

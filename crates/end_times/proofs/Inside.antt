@@ -16,7 +16,7 @@ use Rattle.bridge_relay.specs.declared.entry.RelayResult.{RelayResult}
 use Rattle.bridge_relay.specs.Machine.{EndIs, OutCall, RelayIs, RelayPath, Returned, Waiting}
 use Rattle.bridge_relay.specs.Machine.{exception_to, far_side, near_end, new_end}
 use Rattle.bridge_relay.specs.Machine.{relay_after, relay_path, returned, side_of, unsent}
-use Rattle.bridge_relay.specs.Machine.{unused_path}
+use Rattle.bridge_relay.specs.Machine.{out_call, unused_path}
 use Rattle.bridge_relay.specs.Kept.{code_between, far_accepted, far_after, near_accepted}
 use Rattle.bridge_relay.specs.Kept.{near_after, returned_by}
 use Rattle.bridge_relay.specs.Laws.{is_by}
@@ -113,7 +113,7 @@ own-entry across near far a b (Accept side id route request) has k =
     (code_between across far route) k
 own-entry across near far a b (Forward side old id route request) has k =
     let v : RelayPath =
-    record { last = id.seq; out = Some (record { old = old; request = request }) } in
+    record { last = id.seq; out = Some (out_call old request) } in
     record {
       sends = k.sends;
       ends =

@@ -2,4 +2,3 @@ pub mod Counts
 pub mod Worked
 pub mod Turn
 pub mod Inside
-pub mod Behind

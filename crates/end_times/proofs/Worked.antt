@@ -2,18 +2,15 @@
 -- another, and the ends 9 and 12 of a bridge are in time with their nodes. No end accepts a
 -- Request before its node took it, and none is gone before its node left for good. Inside the
 -- bridge nothing is sent on before it was accepted, and nothing given back before the call ended.
-use Rattle.std.proofs.Common.{◌≡◌, ℕ, zero, suc, ◌+◌, ◌≤◌, ◌&&◌, Bool, true, false, List, [], ◌∷◌}
-use Rattle.std.proofs.Common.{refl, sym, subst, arith}
-use Rattle.std.specs.Prelude.{Contains}
+use Rattle.std.proofs.Common.{◌≡◌, ℕ, ◌+◌, ◌≤◌, ◌&&◌, Bool, true, false, List, [], ◌∷◌, refl, subst}
+use Rattle.std.proofs.Common.{arith}
 use Rattle.std.proofs.Math.Dec.{leb}
 use Rattle.std.proofs.lemmas.Bool.{and_parts, leb-true}
-use Rattle.plant_types.specs.declared.net.BridgePlan.{BridgePlan}
 use Rattle.mstr_block.specs.declared.call.CallId.{CallId}
 use Rattle.bridge_relay.specs.declared.entry.BridgeEntry.{BridgeEntry}
-use Rattle.bridge_relay.specs.declared.entry.BridgeEntry.TheVariants.{Accept, Forward, Finish}
-use Rattle.bridge_relay.specs.declared.entry.BridgeEntry.TheVariants.{Back, Gone}
+use Rattle.bridge_relay.specs.declared.entry.BridgeEntry.TheVariants.{Accept, Forward, Finish, Back}
+use Rattle.bridge_relay.specs.declared.entry.BridgeEntry.TheVariants.{Gone}
 use Rattle.bridge_relay.specs.declared.entry.RelayResult.TheVariants as results
-use Rattle.bridge_relay.specs.Machine.{exception_to}
 use Rattle.ring_core.specs.declared.frame.Frame.{Frame}
 use Rattle.ring_core.specs.declared.frame.FrameKind.{FrameKind}
 use Rattle.ring_core.specs.declared.frame.FrameKind.TheVariants.{Request, Reply}
@@ -27,7 +24,6 @@ use Rattle.end_times.specs.EndCauses.{EndNoted, EndDone, no_end_notes, no_end_de
 use Rattle.end_times.specs.EndCauses.{end_deed, AreEndCaused}
 use Rattle.end_times.specs.EndTimes.{EndInTime, IsEndInTime}
 use Rattle.end_times.specs.Inside.{noted_at_end, IsOrderedInside}
-use Rattle.end_times.specs.Behind.{BackCause, OfCall, OfRefusal, OfUnsent}
 use Rattle.end_times.proofs.Counts.{none-caused}
 
 -- ---- the conditions as tests
@@ -189,39 +185,3 @@ given-first =
 
 given-first-is-not : IsOrderedInside (noted_at_end 9 given-first) (noted_at_end 12 given-first) → ⊥
 given-first-is-not x = let early : 2 ≤ 1 = x.gives in absurd (omega (arith, early))
-
--- ---- the reply that end 9 gives back is that of the call which end 12 made
-abbrev up-to-back : List BridgeEntry
-up-to-back =
-    Accept 9 own-name (5 ∷ []) reads ∷ Forward 12 own-name onward-name (5 ∷ []) reads
-    ∷ Finish 12 onward-name (results.Reply tells) ∷ []
-
-back-is-of-call : (plan : BridgePlan) → BackCause plan up-to-back 9 12 own-name tells
-back-is-of-call plan = OfCall (record {
-  onward = onward-name;
-  route = 5 ∷ [];
-  request = reads;
-  result = results.Reply tells;
-  accepted = (0, omega arith, refl);
-  sent = (1, omega arith, refl);
-  ended = (2, omega arith, refl);
-  reply_is = refl;
-})
-
--- it has no cause where the Request was accepted alone
-abbrev accepted-alone : List BridgeEntry
-accepted-alone = Accept 9 own-name (5 ∷ []) reads ∷ []
-
-alone-is-it : (e : BridgeEntry) → Contains accepted-alone e
-    → e ≡ Accept 9 own-name (5 ∷ []) reads
-alone-is-it e (zero, low, is) = sym is
-alone-is-it e (suc k, low, is) = absurd (omega (arith, low))
-
-back-has-none : (plan : BridgePlan) → BackCause plan accepted-alone 9 12 own-name tells → ⊥
-back-has-none plan (OfCall from) =
-    absurd (let no' : Forward 12 own-name from.onward from.route from.request
-    ≡ Accept 9 own-name (5 ∷ []) reads = alone-is-it _ from.sent in cc)
-back-has-none plan (OfRefusal from) =
-    absurd (let no' : tells ≡ exception_to from.request from.code = from.reply_is in cc)
-back-has-none plan (OfUnsent from) =
-    absurd (let no' : Gone 12 ≡ Accept 9 own-name (5 ∷ []) reads = alone-is-it _ from.gone in cc)

@@ -1,6 +1,5 @@
 pub mod EndCauses
 pub mod EndTimes
 pub mod Inside
-pub mod Behind
 pub mod Joint
 pub mod Laws

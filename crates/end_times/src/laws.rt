@@ -1,5 +1,4 @@
 //! Laws of ends of bridges in time, whoever else writes between their entries. This project's own.
-ghost use Rattle.end_times.specs.Behind.{BacksFollowCauses, ForwardsFollowAccepts};
 ghost use Rattle.end_times.specs.Inside.{BridgesKeepOrder};
 ghost use Rattle.end_times.specs.Laws.{EndTurnsStayInTime, EndOthersStayInTime, EndsStartInTime};
 
@@ -21,14 +20,4 @@ pub fn ends_start_in_time()
 /// In each front of a bridge's legal list nothing stands before its cause.
 pub fn bridges_keep_order()
     ensures { BridgesKeepOrder }
-{}
-
-/// A bridge sends a Request on behind the entry by which it accepted it across.
-pub fn forwards_follow_accepts()
-    ensures { ForwardsFollowAccepts }
-{}
-
-/// A bridge gives a reply back behind what it came from.
-pub fn backs_follow_causes()
-    ensures { BacksFollowCauses }
 {}

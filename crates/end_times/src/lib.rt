@@ -5,6 +5,5 @@
 mod laws;
 
 pub use laws::{
-    backs_follow_causes, bridges_keep_order, end_others_stay_in_time, end_turns_stay_in_time,
-    ends_start_in_time, forwards_follow_accepts,
+    bridges_keep_order, end_others_stay_in_time, end_turns_stay_in_time, ends_start_in_time,
 };

@@ -1,3 +1,3 @@
-pub mod Places
+pub mod Entries
 mod Members
 mod Changes

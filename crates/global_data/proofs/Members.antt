@@ -1,15 +1,17 @@
--- The members of a ring join its book one after another, and a book after what a member did.
+-- The members of a ring join its book one after another.
 use Rattle.std.proofs.Common.{◌≡◌, ℕ, ◌+◌, ◌<◌, Bool, true, false, cond, List, [], ◌∷◌, drop}
 use Rattle.std.proofs.Common.{length}
-use Rattle.std.proofs.Common.{get_or, set, replicate, Option, Some, None, refl, sym, ap, ◌∙◌}
-use Rattle.std.proofs.Common.{nat_cmp, arith}
+use Rattle.std.proofs.Common.{get_or, Option, Some, refl, sym, ap, ◌∙◌, nat_cmp}
 use Rattle.std.proofs.lemmas.List.{at_drop_more}
+use Rattle.std.proofs.lemmas.Map.Lookups.{exact_unsigned}
+use Rattle.std.specs.BTreeMap.{is_at}
+use Rattle.std.specs.Map.{lookup}
 use Rattle.std.specs.Cmp.{nat_cmp_total}
 use Rattle.std.specs.Ordering.{eq_by_cmp}
-use Rattle.std.specs.FinMap.{insert, empty, get-insert, same_map, nat_cmp-IsAntisymmetric}
+use Rattle.std.specs.FinMap.{insert, empty, from_entries, get-insert, same_map}
+use Rattle.std.specs.FinMap.{nat_cmp-IsAntisymmetric}
 use Rattle.global_data.specs.Book.{Book, GlobalIs, no_words, new_book}
-use Rattle.global_data.specs.Places.{map_of_places, byte_addresses}
-use Rattle.global_data.proofs.Places.{numbered-set, filled-none}
+use Rattle.global_data.proofs.Entries.{entry-written}
 
 -- the members of a list join a book one after another
 abbrev pub joined : Book → List ℕ → Book
@@ -40,27 +42,19 @@ joined-last book m (n ∷ ms) = ap (λ b. joined b ms) (swapped book m n)
     ∙ joined-last (insert book n no_words) m ms
 
 -- who joins an empty book is in the new one
-joined-new : (ms : List ℕ) → joined empty ms ≡ new_book ms
+pub joined-new : (ms : List ℕ) → joined empty ms ≡ new_book ms
 joined-new [] = refl
 joined-new (m ∷ ms) = joined-last empty m ms ∙ ap (λ b. insert b m no_words) (joined-new ms)
 
--- the next member joins by a write of its place
-pub joined-next : (places : List (Option GlobalIs)) (ms : List ℕ) (k m : ℕ) (words : GlobalIs)
-    (book : Book) → m < 256 → length places ≡ byte_addresses
-    → k < length ms → m ≡ get_or ms k 0 → words ≡ no_words
-    → joined (map_of_places (λ i. i) places) (drop k ms) ≡ book
-    → joined (map_of_places (λ i. i) (set places m (Some words))) (drop (k + 1) ms) ≡ book
-joined-next places ms k m words book low size more read none is =
-    ap (λ (w : GlobalIs).
-    joined (map_of_places (λ i. i) (set places m (Some w))) (drop (k + 1) ms)) none
-    ∙ (ap (λ (b : Book). joined b (drop (k + 1) ms))
-    (numbered-set places m no_words (omega (arith, low, size)))
-    ∙ (ap (λ (n : ℕ). joined (map_of_places (λ i. i) places) (n ∷ drop (k + 1) ms)) read
-    ∙ (sym (at_drop_more (joined (map_of_places (λ i. i) places)) ms k 0 more) ∙ is)))
-
--- all join where no place is filled yet
-pub joined-first : (places : List (Option GlobalIs)) (ms : List ℕ) (k : ℕ)
-    → places ≡ replicate k None → joined (map_of_places (λ i. i) places) ms ≡ new_book ms
-joined-first places ms k is =
-    ap (λ (l : List (Option GlobalIs)). joined (map_of_places (λ i. i) l) ms) is
-    ∙ (ap (λ (b : Book). joined b ms) (filled-none (λ i. i) k) ∙ joined-new ms)
+-- the next member joins by an entry of its own
+pub joined-next : (es fs : List (ℕ × GlobalIs)) (ms : List ℕ) (k : ℕ) (words : GlobalIs)
+    (book : Book) → k < length ms → words ≡ no_words
+    → ((q : ℕ) → lookup (is_at (nat_cmp q)) fs
+    ≡ cond (is_at (nat_cmp (get_or ms k 0)) q) (Some words) (lookup (is_at (nat_cmp q)) es))
+    → joined (from_entries es) (drop k ms) ≡ book
+    → joined (from_entries fs) (drop (k + 1) ms) ≡ book
+joined-next es fs ms k words book more none updates is =
+    ap (λ (b : Book). joined b (drop (k + 1) ms))
+    (entry-written nat_cmp_total exact_unsigned es fs (get_or ms k 0) words updates
+    ∙ ap (insert (from_entries es) (get_or ms k 0)) none)
+    ∙ (sym (at_drop_more (joined (from_entries es)) ms k 0 more) ∙ is)

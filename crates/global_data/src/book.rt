@@ -6,30 +6,26 @@ ghost use Rattle.plant_types.specs.Words.{global_limit};
 
 use crate::words::GlobalWords;
 use std::alloc::{AllocError, Global};
+use std::collections::BTreeMap;
 use std::marker::Model;
-
-// A place for each address that a byte can say.
-const PLACES: usize = 256;
 
 /// The words that each member put, and those that went with its latest token
 /// (*Modbus Plus Network Planning and Installation Guide*).
 #[derive(Drop)]
 pub struct GlobalBook {
-    places: Vec<Option<GlobalWords>>,
+    words: BTreeMap<u8, GlobalWords>,
 }
 
 impl Model for GlobalBook {
-    ghost use Rattle.std.specs.Prelude.{◌≡◌, length};
+    ghost use Rattle.std.specs.FinMap.{from_entries};
     ghost use Rattle.global_data.specs.Book.{Book};
-    ghost use Rattle.global_data.specs.Places.{map_of_places, byte_addresses, coded_book};
+    ghost use Rattle.global_data.specs.Coded.{coded_book};
 
     ghost Value = { Book };
 
     ghost coded = { coded_book };
 
-    ghost view = { λ b. map_of_places (λ node. node) b.places.items };
-
-    ghost invariant = { λ b. length b.places.items ≡ byte_addresses };
+    ghost view = { λ b. from_entries b.words.entries };
 }
 
 impl GlobalBook {
@@ -37,14 +33,11 @@ impl GlobalBook {
     pub fn new(alloc: Global, members: &[u8]) -> Result<GlobalBook, AllocError>
         ensures { IfOk result (λ book. book ≡ new_book members.now) }
     {
-        let mut places = Vec::new(alloc);
-        for _ in 0..PLACES {
-            places.push(None)?;
-        }
+        let mut words = BTreeMap::new(alloc);
         for member in members {
-            places[*member as usize] = Some(GlobalWords::new());
+            words.insert(*member, GlobalWords::new())?;
         }
-        Ok(GlobalBook { places })
+        Ok(GlobalBook { words })
     }
 
     /// A member puts words, at most 32. Takes no memory.
@@ -53,8 +46,8 @@ impl GlobalBook {
         requires words { length words.now ≤ global_limit }
         ensures { self.new ≡ with_put self.old node words.now }
     {
-        if let Some(place) = &mut self.places[node as usize] {
-            place.put(words);
+        if let Some(own) = self.words.get_mut(&node) {
+            own.put(words);
         }
     }
 
@@ -63,8 +56,8 @@ impl GlobalBook {
         requires member { contains_key self.old node ≡ true }
         ensures { self.new ≡ with_passed self.old node }
     {
-        if let Some(place) = &mut self.places[node as usize] {
-            place.pass();
+        if let Some(own) = self.words.get_mut(&node) {
+            own.pass();
         }
     }
 
@@ -75,9 +68,9 @@ impl GlobalBook {
         ensures none { result ≡ None → (words_at self.now node).heard ≡ [] }
         ensures member { is_some result ≡ contains_key self.now node }
     {
-        match &self.places[node as usize] {
+        match self.words.get(&node) {
             None => None,
-            Some(place) => Some(place.heard()),
+            Some(own) => Some(own.heard()),
         }
     }
 
@@ -87,9 +80,9 @@ impl GlobalBook {
         ensures none { result ≡ None → (words_at self.now node).put ≡ [] }
         ensures member { is_some result ≡ contains_key self.now node }
     {
-        match &self.places[node as usize] {
+        match self.words.get(&node) {
             None => None,
-            Some(place) => Some(place.waiting()),
+            Some(own) => Some(own.waiting()),
         }
     }
 }

@@ -20,7 +20,6 @@ pub struct Op {
 }
 
 /// One column of a network.
-#[derive(Drop)]
 pub struct Column {
     /// Its cells, in strictly rising row.
     pub ops: List<Op>,
@@ -28,10 +27,21 @@ pub struct Column {
     pub shorts: u8,
 }
 
+impl Drop for Column {
+    fn drop(self) {
+        let Column { ops: _, shorts: _ } = self;
+    }
+}
+
 /// The eleven columns of a network.
-#[derive(Drop)]
 pub struct Grid {
     pub columns: List<Column>,
+}
+
+impl Drop for Grid {
+    fn drop(self) {
+        let Grid { columns: _ } = self;
+    }
 }
 
 impl Grid {

@@ -14,7 +14,6 @@ pub enum HostResult {
 }
 
 /// One event of a host.
-#[derive(Drop)]
 pub enum HostEntry {
     /// It made this request, under this name, by a route of at least one address.
     Ask {
@@ -33,6 +32,24 @@ pub enum HostEntry {
         request: Pdu,
         reply: Pdu,
     },
+}
+
+impl Drop for HostEntry {
+    fn drop(self) {
+        match self {
+            HostEntry::Ask {
+                id: _,
+                route: _,
+                pdu: _,
+            }
+            | HostEntry::Answer { id: _, result: _ }
+            | HostEntry::Served {
+                id: _,
+                request: _,
+                reply: _,
+            } => {}
+        }
+    }
 }
 
 impl HostEntry {

@@ -35,7 +35,6 @@ struct Path {
 }
 
 /// A host with the history of what it asked, was told and refused. This project's own.
-#[derive(Drop)]
 pub struct Host {
     alloc: Global,
     plan: HostPlan,
@@ -53,6 +52,18 @@ impl Model for Host {
     ghost view = { λ h. record { plan = h.plan; history = h.history.items } };
 
     ghost invariant = { λ h. IsHost h.plan h.made h.paths h.history.items };
+}
+
+impl Drop for Host {
+    fn drop(self) {
+        let Host {
+            alloc: _,
+            plan: _,
+            made: _,
+            paths: _,
+            history: _,
+        } = self;
+    }
 }
 
 /// The reply to whatever another node asks: a host serves no function.
@@ -135,7 +146,14 @@ impl Host {
         ensures history { result ≡ self.history }
         ensures legal { IsHostHistory self.plan self.history }
     {
-        List::from_vec(self.history)
+        let Host {
+            alloc: _,
+            plan: _,
+            made: _,
+            paths: _,
+            history,
+        } = self;
+        List::from_vec(history)
     }
 
     /// Whether the call of this name was made and has no answer.

@@ -97,12 +97,21 @@ sent-on zero d low = refl
 sent-on (suc k) d low = absurd (omega arith)
 
 -- an end that asks behind a done Pass, and says done again, does not leave quietly
-restless : LeavesQuietly (Pass 12 true [] ∷ Post 12 (frame Request 5 [] onward-name reads)
-    ∷ Pass 12 true [] ∷ Leave 12 Ended ∷ []) → ⊥
+abbrev asked : RingEntry
+asked = Post 12 (frame Request 5 [] onward-name reads)
+
+restless : LeavesQuietly (Pass 12 true [] ∷ asked ∷ Pass 12 true [] ∷ Leave 12 Ended ∷ []) → ⊥
 restless quiet =
-    let asks = Post 12 (frame Request 5 [] onward-name reads) in
-    let done : All SaysDone (asks ∷ Pass 12 true [] ∷ []) =
-    All-cons SaysDone asks (Pass 12 true [] ∷ []) tt
+    let done : All SaysDone (asked ∷ Pass 12 true [] ∷ []) =
+    All-cons SaysDone asked (Pass 12 true [] ∷ []) tt
     (All-cons SaysDone (Pass 12 true []) [] refl (All-nil SaysDone)) in
-    let first = quiet [] (asks ∷ Pass 12 true [] ∷ []) [] 12 12 [] refl done 0 asks (omega arith) in
+    let between = (quiet [] (asked ∷ Pass 12 true [] ∷ []) [] 12 12 [] refl done).0 in
+    let first = between 0 asked (omega arith) in
+    absurd (let kind : Request ≡ Reply = first in cc)
+
+-- nor does one that asks behind its Leave
+restless-behind : LeavesQuietly (Pass 12 true [] ∷ Leave 12 Ended ∷ asked ∷ []) → ⊥
+restless-behind quiet =
+    let after = (quiet [] [] (asked ∷ []) 12 12 [] refl (All-nil SaysDone)).1 in
+    let first = after 0 asked (omega arith) in
     absurd (let kind : Request ≡ Reply = first in cc)

@@ -24,14 +24,16 @@ use Rattle.controller_core.specs.declared.fixed.Fixed.{Fixed}
 use Rattle.controller_core.specs.declared.entry.Entry.{Entry}
 use Rattle.controller_core.specs.declared.entry.Entry.TheVariants.{End, Fail, Dark}
 use Rattle.controller_core.specs.Replay.{replay}
+use Rattle.host_port.specs.declared.entry.HostEntry.{HostEntry}
 use Rattle.bridge_relay.specs.declared.entry.BridgeEntry.{BridgeEntry}
 use Rattle.bridge_relay.specs.declared.entry.BridgeEntry.TheVariants as entries
 use Rattle.joint_history.specs.declared.joint.ControllerLog.{ControllerLog}
 use Rattle.joint_history.specs.declared.joint.HostLog.{HostLog}
 use Rattle.joint_history.specs.declared.joint.BridgeLog.{BridgeLog}
+use Rattle.joint_history.specs.declared.joint.RingLog.{RingLog}
 use Rattle.joint_history.specs.declared.joint.Joint.{Joint}
 use Rattle.joint_history.specs.JointLaws.{fixed_of}
-use Rattle.joint_history.specs.Nets.{noted_on_rings}
+use Rattle.joint_history.specs.Nets.{own_ring}
 use Rattle.joint_history.specs.Bridges.{side_items}
 use Rattle.joint_history.specs.Reading.{items_of, host_items_of, has_started_at}
 
@@ -134,19 +136,30 @@ ControllerIsOut net ring node fixed entries =
     (status_at net ring node ≡ Gone)
     ⊎ ((status_at net ring node ≡ Away) × StaysOff fixed entries)
 
--- The list of a controller and its node on the ring are complete.
-abbrev pub IsCompleteLog : Plant → ℕ → List RingEntry → ControllerPlan → ControllerLog → Type 0
-IsCompleteLog plant scans ring plan log =
-    ControllerIsComplete (fixed_of plant scans plan) log.entries
-    × ControllerIsOut (net_of plant log.node) ring log.node (fixed_of plant scans plan) log.entries
-    × NodeIsComplete (items_of log.entries) (own log.node ring)
+-- A controller with its node on a ring is complete: the node is out of it, too.
+abbrev pub ControllerIsCompleteOn : NetPlan → List RingEntry → ℕ → Fixed → List Entry → Type 0
+ControllerIsCompleteOn net ring node fixed entries =
+    ControllerIsComplete fixed entries × ControllerIsOut net ring node fixed entries
+    × NodeIsComplete (items_of entries) (own node ring)
 
--- The list of a host and its node on the ring are complete: the node is gone, too.
-abbrev pub IsCompleteHostLog : Plant → List RingEntry → HostPlan → HostLog → Type 0
-IsCompleteHostLog plant ring plan log =
-    HostIsComplete plan (host_items_of log.entries) (own log.node ring)
-    × (status_at (net_of plant log.node) ring log.node ≡ Gone)
-    × NodeIsComplete (host_items_of log.entries) (own log.node ring)
+-- A host with its node on a ring is complete: the node is gone from it, too.
+abbrev pub HostIsCompleteOn : NetPlan → List RingEntry → ℕ → HostPlan → List HostEntry → Type 0
+HostIsCompleteOn net ring node plan entries =
+    HostIsComplete plan (host_items_of entries) (own node ring)
+    × (status_at net ring node ≡ Gone)
+    × NodeIsComplete (host_items_of entries) (own node ring)
+
+-- The list of a controller and its node are complete, on the ring of its own network.
+abbrev pub IsCompleteLog : Plant → ℕ → List RingLog → ControllerPlan → ControllerLog → Type 0
+IsCompleteLog plant scans rings plan log =
+    ControllerIsCompleteOn (net_of plant log.node) (own_ring plant rings log.node) log.node
+    (fixed_of plant scans plan) log.entries
+
+-- So are the list of a host and its node.
+abbrev pub IsCompleteHostLog : Plant → List RingLog → HostPlan → HostLog → Type 0
+IsCompleteHostLog plant rings plan log =
+    HostIsCompleteOn (net_of plant log.node) (own_ring plant rings log.node) log.node plan
+    log.entries
 
 -- An end of a bridge asks nothing and gives nothing up.
 abbrev pub IsQuiet : RingEntry → Type 0
@@ -161,14 +174,14 @@ SaysDone (Pass n done words) = done ≡ true
 SaysDone _ = Unit {0}
 
 -- Where an end left as all was done it was quiet from the first of the done Passes on that stand in
--- an unbroken row before.
+-- an unbroken row before, and stayed so behind its Leave.
 abbrev pub LeavesQuietly : List RingEntry → Type 0
 LeavesQuietly ring = (before between after : List RingEntry) (n m : ℕ) (words : List ℕ)
     → StandsIn ring (before ++ Pass m true words ∷ between) (Leave n AllDone) after
-    → All SaysDone between → All IsQuiet between
+    → All SaysDone between → All IsQuiet between × All IsQuiet after
 
--- An end of a bridge is complete: each call that it sent on has ended, once, it has left for good, in
--- its bridge's list and on the ring, and it was quiet before.
+-- An end of a bridge is complete: each call that it sent on has ended, once, it has left for good,
+-- in its bridge's list and on the ring, and it was quiet before and stayed so.
 pub record EndIsComplete (net : NetPlan) (ring : List RingEntry) (list : List BridgeEntry)
     (side : ℕ) : Type 0 where
   pub finished : EndsEachCall (side_items side list)
@@ -176,16 +189,19 @@ pub record EndIsComplete (net : NetPlan) (ring : List RingEntry) (list : List Br
   pub left : status_at net ring side ≡ Gone
   pub quiet : LeavesQuietly (own side ring)
 
--- Both ends of a bridge are complete.
-abbrev pub IsCompleteBridgeLog : Plant → List RingEntry → BridgePlan → BridgeLog → Type 0
-IsCompleteBridgeLog plant ring plan log =
-    EndIsComplete (net_of plant log.left) ring log.entries log.left
-    × EndIsComplete (net_of plant log.right) ring log.entries log.right
+-- An end of a bridge is, on the ring of its own network.
+abbrev pub IsCompleteSide : Plant → List RingLog → BridgeLog → ℕ → Type 0
+IsCompleteSide plant rings log side =
+    EndIsComplete (net_of plant side) (own_ring plant rings side) log.entries side
+
+-- Both ends of a bridge are.
+abbrev pub IsCompleteBridgeLog : Plant → List RingLog → BridgePlan → BridgeLog → Type 0
+IsCompleteBridgeLog plant rings plan log =
+    IsCompleteSide plant rings log log.left × IsCompleteSide plant rings log log.right
 
 -- A run is complete: all stations and all bridges are.
 pub record IsComplete (plant : Plant) (scans : ℕ) (joint : Joint) : Type 0 where
-  pub controllers : AllZip (IsCompleteLog plant scans (noted_on_rings joint)) plant.controllers
+  pub controllers : AllZip (IsCompleteLog plant scans joint.rings) plant.controllers
       joint.controllers
-  pub hosts : AllZip (IsCompleteHostLog plant (noted_on_rings joint)) plant.hosts joint.hosts
-  pub bridges : AllZip (IsCompleteBridgeLog plant (noted_on_rings joint)) plant.bridges
-      joint.bridges
+  pub hosts : AllZip (IsCompleteHostLog plant joint.rings) plant.hosts joint.hosts
+  pub bridges : AllZip (IsCompleteBridgeLog plant joint.rings) plant.bridges joint.bridges

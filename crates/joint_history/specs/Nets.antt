@@ -1,6 +1,8 @@
 -- The rings of the networks of a plant. This project's own.
 use Rattle.std.specs.Prelude.{ℕ, ◌==◌, List, [], ◌∷◌, ◌++◌, Option, Some, None}
 use Rattle.std.specs.List.{find}
+use Rattle.plant_types.specs.declared.plan.Plant.{Plant}
+use Rattle.plant_types.specs.Plans.{net_of}
 use Rattle.ring_core.specs.declared.entry.RingEntry.{RingEntry}
 use Rattle.joint_history.specs.declared.joint.RingLog.{RingLog}
 use Rattle.joint_history.specs.declared.joint.Joint.{Joint}
@@ -28,3 +30,7 @@ entries_on network rings = entries_if (find (λ (ring : RingLog). ring.network =
 -- What the nodes of a network noted on their ring.
 abbrev pub noted_on : ℕ → Joint → List RingEntry
 noted_on network joint = entries_on network joint.rings
+
+-- What the nodes of a node's own network noted on their ring.
+abbrev pub own_ring : Plant → List RingLog → ℕ → List RingEntry
+own_ring plant rings node = entries_on (net_of plant node).number rings

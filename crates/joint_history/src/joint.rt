@@ -7,41 +7,84 @@ use ring_core::RingEntry;
 use std::alloc::{AllocError, Global};
 
 /// The history of a controller, under its node.
-#[derive(Drop)]
 pub struct ControllerLog {
     pub node: u8,
     pub entries: List<Entry>,
 }
 
+impl Drop for ControllerLog {
+    fn drop(self) {
+        let ControllerLog {
+            node: _,
+            entries: _,
+        } = self;
+    }
+}
+
 /// The history of a host, under its node.
-#[derive(Drop)]
 pub struct HostLog {
     pub node: u8,
     pub entries: List<HostEntry>,
 }
 
+impl Drop for HostLog {
+    fn drop(self) {
+        let HostLog {
+            node: _,
+            entries: _,
+        } = self;
+    }
+}
+
 /// The history of a bridge, under the addresses of its two ends.
-#[derive(Drop)]
 pub struct BridgeLog {
     pub left: u8,
     pub right: u8,
     pub entries: List<BridgeEntry>,
 }
 
+impl Drop for BridgeLog {
+    fn drop(self) {
+        let BridgeLog {
+            left: _,
+            right: _,
+            entries: _,
+        } = self;
+    }
+}
+
 /// The history of a ring, under the number of its network.
-#[derive(Drop)]
 pub struct RingLog {
     pub network: u8,
     pub entries: List<RingEntry>,
 }
 
+impl Drop for RingLog {
+    fn drop(self) {
+        let RingLog {
+            network: _,
+            entries: _,
+        } = self;
+    }
+}
+
 /// The joint history of a plant: one list per station, per bridge and per ring. This project's own.
-#[derive(Drop)]
 pub struct Joint {
     pub controllers: List<ControllerLog>,
     pub hosts: List<HostLog>,
     pub bridges: List<BridgeLog>,
     pub rings: List<RingLog>,
+}
+
+impl Drop for Joint {
+    fn drop(self) {
+        let Joint {
+            controllers: _,
+            hosts: _,
+            bridges: _,
+            rings: _,
+        } = self;
+    }
 }
 
 impl Copied for ControllerLog {

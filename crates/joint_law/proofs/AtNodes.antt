@@ -2,11 +2,10 @@
 use Rattle.std.proofs.Common.{◌≡◌, ℕ, ◌+◌, ◌<◌, ◌≤◌, Bool, true, false, List, [], ◌∷◌, ◌++◌}
 use Rattle.std.proofs.Common.{length, get_or, map}
 use Rattle.std.proofs.Common.{refl, sym, ap, subst, ◌∙◌, ⊎_elim, arith}
-use Rattle.std.specs.Prelude.{◌↔◌, IsTrue, count_by, Option}
+use Rattle.std.specs.Prelude.{◌↔◌, IsTrue, count_by}
 use Rattle.std.specs.List.{All, Contains, flat_map, zip}
 use Rattle.std.proofs.lemmas.Bool.{cases_lt}
-use Rattle.std.proofs.lemmas.List.{get_or_default, length-append, get_or_append_left}
-use Rattle.std.proofs.lemmas.List.{get_or-append-add}
+use Rattle.std.proofs.lemmas.List.{get_or_default}
 use Rattle.std.proofs.lemmas.List.Elements.{All-append, All-contains, All-contains_itself, All-map}
 use Rattle.std.proofs.lemmas.Slice.Zip.{get_or-zip, length-zip}
 use Rattle.plant_types.specs.declared.net.BridgePlan.{BridgePlan}
@@ -20,10 +19,11 @@ use Rattle.ring_core.specs.Machine.{addresses, admitted_status}
 use Rattle.ring_core.specs.declared.entry.RingEntry.{RingEntry}
 use Rattle.ring_core.specs.declared.status.NodeStatus.{NodeStatus}
 use Rattle.ring_core.specs.declared.status.NodeStatus.TheVariants.{Gone}
-use Rattle.tied_lists.specs.Items.{Items, no_items, replies_in}
+use Rattle.tied_lists.specs.Items.{Items, no_items}
 use Rattle.tied_lists.specs.Own.{own}
 use Rattle.tied_lists.specs.Waits.{status_at}
 use Rattle.controller_core.specs.declared.entry.Entry.{Entry}
+use Rattle.controller_core.specs.declared.fixed.Fixed.{Fixed}
 use Rattle.host_port.specs.declared.entry.HostEntry.{HostEntry}
 use Rattle.bridge_relay.specs.declared.entry.BridgeEntry.{BridgeEntry}
 use Rattle.bridge_relay.specs.declared.entry.BridgeEntry.TheVariants as bridge_entries
@@ -32,21 +32,24 @@ use Rattle.joint_history.specs.declared.joint.ControllerLog.{ControllerLog}
 use Rattle.joint_history.specs.declared.joint.HostLog.{HostLog}
 use Rattle.joint_history.specs.declared.joint.Joint.{Joint}
 use Rattle.joint_history.specs.Bridges.{side_items}
-use Rattle.joint_history.specs.Complete.{ControllerIsComplete, EndIsComplete, EndsEachCall}
-use Rattle.joint_history.specs.Complete.{IsComplete, IsCompleteBridgeLog, IsCompleteHostLog}
-use Rattle.joint_history.specs.Complete.{IsCompleteLog, LeavesQuietly, NodeIsComplete}
-use Rattle.joint_history.specs.JointLaws.{fixed_of}
-use Rattle.joint_history.specs.Nets.{noted_on_rings}
+use Rattle.joint_history.specs.declared.joint.RingLog.{RingLog}
+use Rattle.joint_history.specs.Complete.{ControllerIsComplete, ControllerIsCompleteOn}
+use Rattle.joint_history.specs.Complete.{EndsEachCall, HostIsCompleteOn, IsComplete}
+use Rattle.joint_history.specs.Complete.{IsCompleteBridgeLog, IsCompleteHostLog, IsCompleteLog}
+use Rattle.joint_history.specs.Complete.{IsCompleteSide, LeavesQuietly, NodeIsComplete}
+use Rattle.joint_history.specs.JointLaws.{IsLegalJoint, fixed_of}
+use Rattle.joint_history.specs.Nets.{noted_on_rings, own_ring}
 use Rattle.joint_history.specs.Reading.{host_items_of, items_of}
 use Rattle.net_laws.specs.Standing.{status_by}
 use Rattle.net_laws.proofs.On.{IsOn, controller-on, host-on, left-on, right-on}
+use Rattle.net_laws.proofs.Rings.{own-ring}
 use Rattle.net_laws.proofs.Standing.{is-gone}
 use Rattle.joint_law.specs.AllComplete.{AreControllersDone, AreEndsDoneOn, AreHostNodesDone}
 use Rattle.joint_law.specs.AllComplete.{IsControllerDone, IsEndDone, IsEndDoneOn, IsFollowed}
 use Rattle.joint_law.specs.AllComplete.{IsHostNodeDone, IsNodeDone, IsOutBy, IsStandingOf}
 use Rattle.joint_law.specs.AllComplete.{own_entries}
 use Rattle.station_laws.specs.Bound.{Bound, bounds_of, controller_bound, host_bound, side_bounds}
-use Rattle.list_courses.specs.Completing.{EachAllows, HostAllows}
+use Rattle.list_courses.specs.Completing.{EachAllows, HostAllows, given_in}
 use Rattle.station_laws.specs.Failing.{is_fail}
 use Rattle.joint_law.specs.Spots.{AreCompleteEndsAt, HasSections, IsCompleteAt}
 use Rattle.joint_law.specs.declared.complete.Followed.{Followed}
@@ -84,16 +87,6 @@ right_of plan = plan.right
 
 abbrev right_log : BridgeLog → ℕ
 right_log log = log.right
-
-pub first-part : {X : Type 0} (P : X → Type 0) (xs ys : List X) → All P (xs ++ ys) → All P xs
-first-part P xs ys all k d low =
-    let n = length-append xs ys in
-    subst P (get_or_append_left xs ys d k low) (all k d (omega (arith, n)))
-
-pub second-part : {X : Type 0} (P : X → Type 0) (xs ys : List X) → All P (xs ++ ys) → All P ys
-second-part P xs ys all k d low =
-    let n = length-append xs ys in
-    subst P (get_or-append-add xs ys k d) (all (length xs + k) d (omega (arith, n)))
 
 pub item-of : {X : Type 0} (xs : List X) (k : ℕ) → k < length xs → X
 item-of [] k low = absurd (omega arith)
@@ -178,91 +171,123 @@ bounds-low plant joint sound sections =
     (sides-all low ring joint.bridges (λ k d within.
     let at = sides-at plant joint sound sections k d within in (at.0.low, at.1.low)))
 
+-- as many controllers and hosts were followed as there are lists
+pub controllers-sized : (plant : Plant) (scans : ℕ) (joint : Joint) (followed : Followed)
+    → HasSections plant joint → IsFollowed plant scans joint followed
+    → length followed.done.now ≡ length joint.controllers
+controllers-sized plant scans joint followed sections is =
+    is.done.size
+    ∙ sym (same-size plan_node log_node plant.controllers joint.controllers sections.controllers)
+
+pub plans-sized : (plant : Plant) (joint : Joint) → HasSections plant joint
+    → length plant.hosts ≡ length joint.hosts
+plans-sized plant joint sections =
+    sym (same-size host_plan_node host_log_node plant.hosts joint.hosts sections.hosts)
+
+pub hosts-sized : (plant : Plant) (scans : ℕ) (joint : Joint) (followed : Followed)
+    → HasSections plant joint → IsFollowed plant scans joint followed
+    → length followed.hosts_done.now ≡ length joint.hosts
+hosts-sized plant scans joint followed sections is =
+    is.hosts.size ∙ plans-sized plant joint sections
+
 -- ---- one node
 
--- a node's entries behind the whole list
-stands-own : (ring : List RingEntry) (node : ℕ) (on : Standing) → IsStandingOf ring node on
-    → own_entries on ≡ own on.node ring
-stands-own ring node on stands =
-    stands.places.own_is ∙ (λ i. own ((sym stands.node_is) i) (stands.ring_is i))
+-- a node with its entries on the ring of its own network, and where it stands by them
+pub record StandsOnOwn (plant : Plant) (rings : List RingLog) (node : ℕ) (on : Standing)
+    : Type 0 where
+  pub node_is : on.node ≡ node
+  pub own_is : own_entries on ≡ own on.node (own_ring plant rings on.node)
+  pub status : on.status ≡ status_by (own_entries on)
 
--- and where it stands, at the address of a log
-stands-at : (plant : Plant) (ring : List RingEntry) (node at : ℕ) (on : Standing)
-    → IsStandingOf ring node on → IsAt plant at → at ≡ on.node
-    → on.status ≡ admitted_status (status_at (net_of plant at) ring at)
-stands-at plant ring node at on stands is same =
+-- they are all of its entries
+pub stands-on : (plant : Plant) (scans : ℕ) (joint : Joint) (node : ℕ) (on : Standing)
+    → IsPlant plant → IsLegalJoint plant scans joint → IsStandingOf (noted_on_rings joint) node on
+    → StandsOnOwn plant joint.rings node on
+stands-on plant scans joint node on sound legal stands = record {
+  node_is = stands.node_is;
+  own_is = stands.places.own_is
+      ∙ (stands.own_is
+      ∙ (ap (λ (m : ℕ). own m (noted_on_rings joint)) (sym stands.node_is)
+      ∙ own-ring plant scans joint on.node sound legal));
+  status = stands.status;
+}
+
+-- so they are at the address of a log
+own-at : (plant : Plant) (rings : List RingLog) (node at : ℕ) (on : Standing)
+    → StandsOnOwn plant rings node on → at ≡ on.node
+    → own_entries on ≡ own at (own_ring plant rings at)
+own-at plant rings node at on stands same =
+    stands.own_is ∙ ap (λ (m : ℕ). own m (own_ring plant rings m)) (sym same)
+
+stands-at : (plant : Plant) (rings : List RingLog) (node at : ℕ) (on : Standing)
+    → StandsOnOwn plant rings node on → IsAt plant at → at ≡ on.node
+    → on.status ≡ admitted_status (status_at (net_of plant at) (own_ring plant rings at) at)
+stands-at plant rings node at on stands is same =
     stands.status
-    ∙ (ap status_by (stands-own ring node on stands ∙ ap (λ (m : ℕ). own m ring) (sym same))
-    ∙ sym (stands-by (net_of plant at) ring at is.low is.member))
+    ∙ (ap status_by (own-at plant rings node at on stands same)
+    ∙ sym (stands-by (net_of plant at) (own_ring plant rings at) at is.low is.member))
 
 node-complete : (items : Items) (fails : ℕ) (b : List RingEntry) → items.fails ≡ fails
-    → IsNodeDone (replies_in items.answers) fails b → NodeIsComplete items b
+    → IsNodeDone (given_in items.answers) fails b → NodeIsComplete items b
 node-complete items fails b count d = record {
   replied = replies-from items b d.fits;
-  done = done-from (replies_in items.answers) b d.fits;
+  done = done-from (given_in items.answers) b d.fits;
   noticed = noticed-from items fails b count d.noticed;
 }
 
 complete-node : (items : Items) (fails : ℕ) (b : List RingEntry) → items.fails ≡ fails
-    → NodeIsComplete items b → IsNodeDone (replies_in items.answers) fails b
+    → NodeIsComplete items b → IsNodeDone (given_in items.answers) fails b
 complete-node items fails b count c = record {
   fits = node-each items b c.replied c.done;
   noticed = notices-ended items fails b count c.noticed;
 }
 
 -- a controller and its node are complete where they were done, and the other way
-log-complete : (plant : Plant) (scans : ℕ) (ring : List RingEntry) (plan : ControllerPlan)
-    (log : ControllerLog) (status : NodeStatus) (is_done : Bool)
-    → status ≡ admitted_status (status_at (net_of plant log.node) ring log.node)
-    → (is_done ≡ true → ControllerIsComplete (fixed_of plant scans plan) log.entries)
-    → IsControllerDone scans status log is_done (own log.node ring)
-    → IsCompleteLog plant scans ring plan log
-log-complete plant scans ring plan log status is_done at whole d = (
+log-complete : (net : NetPlan) (ring : List RingEntry) (fixed : Fixed) (log : ControllerLog)
+    (status : NodeStatus) (is_done : Bool) → status ≡ admitted_status (status_at net ring log.node)
+    → (is_done ≡ true → ControllerIsComplete fixed log.entries)
+    → IsControllerDone fixed.scans status log is_done (own log.node ring)
+    → ControllerIsCompleteOn net ring log.node fixed log.entries
+log-complete net ring fixed log status is_done at whole d = (
   whole d.done,
-  out-from status (status_at (net_of plant log.node) ring log.node) (fixed_of plant scans plan)
-      log.entries at d.out,
+  out-from status (status_at net ring log.node) fixed log.entries at d.out,
   node-complete (items_of log.entries) _ (own log.node ring) (fails-of log.entries) d.node,
 )
 
-complete-log : (plant : Plant) (scans : ℕ) (ring : List RingEntry) (plan : ControllerPlan)
-    (log : ControllerLog) (status : NodeStatus) (is_done : Bool)
-    → status ≡ admitted_status (status_at (net_of plant log.node) ring log.node)
-    → (ControllerIsComplete (fixed_of plant scans plan) log.entries → is_done ≡ true)
-    → IsCompleteLog plant scans ring plan log
-    → IsControllerDone scans status log is_done (own log.node ring)
-complete-log plant scans ring plan log status is_done at whole c = record {
+complete-log : (net : NetPlan) (ring : List RingEntry) (fixed : Fixed) (log : ControllerLog)
+    (status : NodeStatus) (is_done : Bool) → status ≡ admitted_status (status_at net ring log.node)
+    → (ControllerIsComplete fixed log.entries → is_done ≡ true)
+    → ControllerIsCompleteOn net ring log.node fixed log.entries
+    → IsControllerDone fixed.scans status log is_done (own log.node ring)
+complete-log net ring fixed log status is_done at whole c = record {
   done = whole c.0;
-  out =
-      out-by status (status_at (net_of plant log.node) ring log.node)
-      (fixed_of plant scans plan) log.entries at c.1;
+  out = out-by status (status_at net ring log.node) fixed log.entries at c.1;
   node = complete-node (items_of log.entries) _ (own log.node ring) (fails-of log.entries) c.2;
 }
 
 -- so it is with a host
-host-complete : (plant : Plant) (ring : List RingEntry) (plan : HostPlan) (log : HostLog)
-    (status : NodeStatus) (is_done : Bool)
-    → status ≡ admitted_status (status_at (net_of plant log.node) ring log.node)
+host-complete : (net : NetPlan) (ring : List RingEntry) (plan : HostPlan) (log : HostLog)
+    (status : NodeStatus) (is_done : Bool) → status ≡ admitted_status (status_at net ring log.node)
     → (is_done ≡ true → EndsEachCall (host_items_of log.entries))
     → IsHostNodeDone plan status log is_done (own log.node ring)
-    → IsCompleteHostLog plant ring plan log
-host-complete plant ring plan log status is_done at whole d = (
+    → HostIsCompleteOn net ring log.node plan log.entries
+host-complete net ring plan log status is_done at whole d = (
   record {
     answered = whole d.done;
     holds = holds-from plan (own log.node ring) d.asks;
     asked = all-from plan (own log.node ring) d.asks;
   },
-  is-gone (status_at (net_of plant log.node) ring log.node) (sym at ∙ d.gone),
+  is-gone (status_at net ring log.node) (sym at ∙ d.gone),
   node-complete (host_items_of log.entries) 0 (own log.node ring)
       (host-fails no_items log.entries) d.node,
 )
 
-complete-host : (plant : Plant) (ring : List RingEntry) (plan : HostPlan) (log : HostLog)
-    (status : NodeStatus) (is_done : Bool)
-    → status ≡ admitted_status (status_at (net_of plant log.node) ring log.node)
+complete-host : (net : NetPlan) (ring : List RingEntry) (plan : HostPlan) (log : HostLog)
+    (status : NodeStatus) (is_done : Bool) → status ≡ admitted_status (status_at net ring log.node)
     → (EndsEachCall (host_items_of log.entries) → is_done ≡ true)
-    → IsCompleteHostLog plant ring plan log
+    → HostIsCompleteOn net ring log.node plan log.entries
     → IsHostNodeDone plan status log is_done (own log.node ring)
-complete-host plant ring plan log status is_done at whole c = record {
+complete-host net ring plan log status is_done at whole c = record {
   done = whole c.0.answered;
   gone = at ∙ ap admitted_status c.1;
   node =
@@ -272,87 +297,81 @@ complete-host plant ring plan log status is_done at whole c = record {
 }
 
 -- and with an end of a bridge at a node
-end-complete : (plant : Plant) (ring : List RingEntry) (node : ℕ) (list : List BridgeEntry)
-    (side : ℕ) (on : Standing) → IsStandingOf ring node on → IsAt plant side
-    → IsEndDoneOn on list side → side ≡ on.node
-    → EndIsComplete (net_of plant side) ring list side
-end-complete plant ring node list side on stands at done same =
+end-complete : (plant : Plant) (rings : List RingLog) (node : ℕ) (log : BridgeLog) (side : ℕ)
+    (on : Standing) → StandsOnOwn plant rings node on → IsAt plant side
+    → IsEndDoneOn on log.entries side → side ≡ on.node → IsCompleteSide plant rings log side
+end-complete plant rings node log side on stands at done same =
     let d = done same in
     record {
       finished = d.finished;
       gone = d.gone;
       left =
-          is-gone (status_at (net_of plant side) ring side)
-          (sym (stands-at plant ring node side on stands at same) ∙ d.left);
-      quiet =
-          subst LeavesQuietly
-          (stands-own ring node on stands ∙ ap (λ (m : ℕ). own m ring) (sym same)) d.quiet;
+          is-gone (status_at (net_of plant side) (own_ring plant rings side) side)
+          (sym (stands-at plant rings node side on stands at same) ∙ d.left);
+      quiet = subst LeavesQuietly (own-at plant rings node side on stands same) d.quiet;
     }
 
-complete-end : (plant : Plant) (ring : List RingEntry) (node : ℕ) (list : List BridgeEntry)
-    (side : ℕ) (on : Standing) → IsStandingOf ring node on → IsAt plant side
-    → (side ≡ on.node → EndIsComplete (net_of plant side) ring list side)
-    → IsEndDoneOn on list side
-complete-end plant ring node list side on stands at complete same =
+complete-end : (plant : Plant) (rings : List RingLog) (node : ℕ) (log : BridgeLog) (side : ℕ)
+    (on : Standing) → StandsOnOwn plant rings node on → IsAt plant side
+    → (side ≡ on.node → IsCompleteSide plant rings log side) → IsEndDoneOn on log.entries side
+complete-end plant rings node log side on stands at complete same =
     let c = complete same in
     record {
       finished = c.finished;
       gone = c.gone;
-      left = stands-at plant ring node side on stands at same ∙ ap admitted_status c.left;
-      quiet =
-          subst LeavesQuietly
-          (ap (λ (m : ℕ). own m ring) same ∙ sym (stands-own ring node on stands)) c.quiet;
+      left = stands-at plant rings node side on stands at same ∙ ap admitted_status c.left;
+      quiet = subst LeavesQuietly (sym (own-at plant rings node side on stands same)) c.quiet;
     }
 
 -- all stations and all ends of bridges of an address are complete where they were done
 pub at-complete : (plant : Plant) (scans : ℕ) (joint : Joint) (followed : Followed) (node : ℕ)
     (on : Standing) → IsPlant plant → HasSections plant joint
-    → IsFollowed plant scans joint followed → IsStandingOf (noted_on_rings joint) node on
+    → IsFollowed plant scans joint followed → StandsOnOwn plant joint.rings node on
     → AreControllersDone scans joint.controllers followed.done.now on.node on.status
     (own_entries on)
     → AreHostNodesDone plant.hosts joint.hosts followed.hosts_done.now on.node on.status
     (own_entries on)
     → All (AreEndsDoneOn on) joint.bridges → IsCompleteAt plant scans joint node
 at-complete plant scans joint followed node on sound sections is stands controllers hosts ends =
-    let ring = noted_on_rings joint in
-    let own-is = stands-own ring node on stands in
+    let rings = joint.rings in
     subst (IsCompleteAt plant scans joint) stands.node_is (record {
       controllers = λ k d low.
           let size = same-size plan_node log_node plant.controllers joint.controllers
           sections.controllers in
           let n = length-zip plant.controllers joint.controllers in
           subst (λ (of : ControllerPlan × ControllerLog). of.1.node ≡ on.node
-          → IsCompleteLog plant scans ring of.0 of.1)
+          → IsCompleteLog plant scans rings of.0 of.1)
           (sym (get_or-zip plant.controllers joint.controllers k d (omega (arith, size, n))
           (omega (arith, size, n))))
           (λ same.
           let log = get_or joint.controllers k d.1 in
           let at = controllers-at plant joint sound sections k d.1 (omega (arith, size, n)) in
-          log-complete plant scans ring (get_or plant.controllers k d.0) log on.status
+          log-complete (net_of plant log.node) (own_ring plant rings log.node)
+          (fixed_of plant scans (get_or plant.controllers k d.0)) log on.status
           (get_or followed.done.now k false)
-          (stands-at plant ring node log.node on stands at same)
+          (stands-at plant rings node log.node on stands at same)
           (is.done.each k d.0 d.1 (omega (arith, size, n))).0
           (subst (IsControllerDone scans on.status log (get_or followed.done.now k false))
-          (own-is ∙ ap (λ (m : ℕ). own m ring) (sym same))
+          (own-at plant rings node log.node on stands same)
           (controllers k d.1 (omega (arith, size, n)) same)));
       hosts = λ k d low.
           let size = same-size host_plan_node host_log_node plant.hosts joint.hosts
           sections.hosts in
           let n = length-zip plant.hosts joint.hosts in
           subst (λ (of : HostPlan × HostLog). of.1.node ≡ on.node
-          → IsCompleteHostLog plant ring of.0 of.1)
+          → IsCompleteHostLog plant rings of.0 of.1)
           (sym (get_or-zip plant.hosts joint.hosts k d (omega (arith, size, n))
           (omega (arith, size, n))))
           (λ same.
           let log = get_or joint.hosts k d.1 in
           let at = hosts-at plant joint sound sections k d.1 (omega (arith, size, n)) in
-          host-complete plant ring (get_or plant.hosts k d.0) log on.status
-          (get_or followed.hosts_done.now k false)
-          (stands-at plant ring node log.node on stands at same)
+          host-complete (net_of plant log.node) (own_ring plant rings log.node)
+          (get_or plant.hosts k d.0) log on.status (get_or followed.hosts_done.now k false)
+          (stands-at plant rings node log.node on stands at same)
           (is.hosts.each k d.1 (omega (arith, size, n))).0
           (subst (IsHostNodeDone (get_or plant.hosts k d.0) on.status log
           (get_or followed.hosts_done.now k false))
-          (own-is ∙ ap (λ (m : ℕ). own m ring) (sym same))
+          (own-at plant rings node log.node on stands same)
           (hosts k d.0 d.1 (omega (arith, size, n)) same)));
       bridges = λ k d low.
           let size = same-size left_of left_log plant.bridges joint.bridges sections.lefts in
@@ -360,11 +379,11 @@ at-complete plant scans joint followed node on sound sections is stands controll
           let log = get_or joint.bridges k d.1 in
           let at = sides-at plant joint sound sections k d.1 (omega (arith, size, n)) in
           let both = ends k d.1 (omega (arith, size, n)) in
-          subst (λ (of : BridgePlan × BridgeLog). AreCompleteEndsAt plant ring on.node of.1)
+          subst (λ (of : BridgePlan × BridgeLog). AreCompleteEndsAt plant rings on.node of.1)
           (sym (get_or-zip plant.bridges joint.bridges k d (omega (arith, size, n))
           (omega (arith, size, n)))) (
-            end-complete plant ring node log.entries log.left on stands at.0 both.0,
-            end-complete plant ring node log.entries log.right on stands at.1 both.1,
+            end-complete plant rings node log log.left on stands at.0 both.0,
+            end-complete plant rings node log log.right on stands at.1 both.1,
           );
     })
 
@@ -378,22 +397,22 @@ pair-at X plans logs size all k p g low =
     (all k (p, g) (omega (arith, n, size)))
 
 -- a station was done where its node was, beside what its list gives
-node-as : (P Q : List (Option (List ℕ))) (m n : ℕ) (b : List RingEntry) → P ≡ Q → m ≡ n
+node-as : (P Q : List Bool) (m n : ℕ) (b : List RingEntry) → P ≡ Q → m ≡ n
     → IsNodeDone P m b → IsNodeDone Q n b
 node-as P Q m n b p q d =
-    subst (λ (replies : List (Option (List ℕ))). IsNodeDone replies n b) p
+    subst (λ (replies : List Bool). IsNodeDone replies n b) p
     (subst (λ (fails : ℕ). IsNodeDone P fails b) q d)
 
 pub controller-tested : (scans node : ℕ) (status : NodeStatus) (log : ControllerLog)
-    (is_done done : Bool) (b : List RingEntry) (es : List Entry) (P : List (Option (List ℕ)))
-    (n : ℕ) → es ≡ log.entries → P ≡ replies_in (items_of es).answers
+    (is_done done : Bool) (b : List RingEntry) (es : List Entry) (P : List Bool)
+    (n : ℕ) → es ≡ log.entries → P ≡ given_in (items_of es).answers
     → n ≡ count_by is_fail es → log.node ≡ node → is_done ≡ true → IsOutBy scans status es
     → IsTrue done ↔ IsNodeDone P n b
     → IsTrue done ↔ (log.node ≡ node → IsControllerDone scans status log is_done b)
 controller-tested scans node status log is_done done b es P n entries answers fails same whole out
     tested =
-    let replies : P ≡ replies_in (items_of log.entries).answers = answers
-    ∙ ap (λ (x : List Entry). replies_in (items_of x).answers) entries in
+    let replies : P ≡ given_in (items_of log.entries).answers = answers
+    ∙ ap (λ (x : List Entry). given_in (items_of x).answers) entries in
     let count : n ≡ count_by is_fail log.entries = fails ∙ ap (count_by is_fail) entries in (
       λ yes _. record {
         done = whole;
@@ -405,13 +424,13 @@ controller-tested scans node status log is_done done b es P n entries answers fa
 
 pub host-tested : (node : ℕ) (status : NodeStatus) (plan : HostPlan) (log : HostLog)
     (is_done done : Bool) (b : List RingEntry) (es : List HostEntry)
-    (P : List (Option (List ℕ))) → es ≡ log.entries
-    → P ≡ replies_in (host_items_of es).answers → log.node ≡ node → is_done ≡ true
+    (P : List Bool) → es ≡ log.entries
+    → P ≡ given_in (host_items_of es).answers → log.node ≡ node → is_done ≡ true
     → status ≡ Gone → EachAllows (HostAllows plan) b → IsTrue done ↔ IsNodeDone P 0 b
     → IsTrue done ↔ (log.node ≡ node → IsHostNodeDone plan status log is_done b)
 host-tested node status plan log is_done done b es P entries answers same whole gone asks tested =
-    let replies : P ≡ replies_in (host_items_of log.entries).answers = answers
-    ∙ ap (λ (x : List HostEntry). replies_in (host_items_of x).answers) entries in (
+    let replies : P ≡ given_in (host_items_of log.entries).answers = answers
+    ∙ ap (λ (x : List HostEntry). given_in (host_items_of x).answers) entries in (
       λ yes _. record {
         done = whole;
         gone = gone;
@@ -479,62 +498,64 @@ controllers-more scans logs done node status b i g before low is here k d below 
 -- and they were done where they are complete
 pub controllers-done : (plant : Plant) (scans : ℕ) (joint : Joint) (followed : Followed)
     (node : ℕ) (on : Standing) → IsPlant plant → HasSections plant joint
-    → IsFollowed plant scans joint followed → IsStandingOf (noted_on_rings joint) node on
+    → IsFollowed plant scans joint followed → StandsOnOwn plant joint.rings node on
     → IsCompleteAt plant scans joint node
     → AreControllersDone scans joint.controllers followed.done.now on.node on.status
     (own_entries on)
 controllers-done plant scans joint followed node on sound sections is stands complete k d low
     same =
-    let ring = noted_on_rings joint in
+    let rings = joint.rings in
     let size = same-size plan_node log_node plant.controllers joint.controllers
     sections.controllers in
     let plan = item-of plant.controllers k (omega (arith, size)) in
     let log = get_or joint.controllers k d in
-    let pair = pair-at (λ of. of.1.node ≡ node → IsCompleteLog plant scans ring of.0 of.1)
+    let pair = pair-at (λ of. of.1.node ≡ node → IsCompleteLog plant scans rings of.0 of.1)
     plant.controllers joint.controllers size complete.controllers k plan d
     (omega (arith, size)) (same ∙ stands.node_is) in
     let at = controllers-at plant joint sound sections k d low in
     subst (IsControllerDone scans on.status log (get_or followed.done.now k false))
-    (ap (λ (m : ℕ). own m ring) same ∙ sym (stands-own ring node on stands))
-    (complete-log plant scans ring (get_or plant.controllers k plan) log on.status
-    (get_or followed.done.now k false) (stands-at plant ring node log.node on stands at same)
+    (sym (own-at plant rings node log.node on stands same))
+    (complete-log (net_of plant log.node) (own_ring plant rings log.node)
+    (fixed_of plant scans (get_or plant.controllers k plan)) log on.status
+    (get_or followed.done.now k false) (stands-at plant rings node log.node on stands at same)
     (is.done.each k plan d (omega (arith, size))).1 pair)
 
 pub hosts-done : (plant : Plant) (scans : ℕ) (joint : Joint) (followed : Followed) (node : ℕ)
     (on : Standing) → IsPlant plant → HasSections plant joint
-    → IsFollowed plant scans joint followed → IsStandingOf (noted_on_rings joint) node on
+    → IsFollowed plant scans joint followed → StandsOnOwn plant joint.rings node on
     → IsCompleteAt plant scans joint node
     → AreHostNodesDone plant.hosts joint.hosts followed.hosts_done.now on.node on.status
     (own_entries on)
 hosts-done plant scans joint followed node on sound sections is stands complete k p d low same =
-    let ring = noted_on_rings joint in
+    let rings = joint.rings in
     let size = same-size host_plan_node host_log_node plant.hosts joint.hosts sections.hosts in
     let log = get_or joint.hosts k d in
-    let pair = pair-at (λ of. of.1.node ≡ node → IsCompleteHostLog plant ring of.0 of.1)
+    let pair = pair-at (λ of. of.1.node ≡ node → IsCompleteHostLog plant rings of.0 of.1)
     plant.hosts joint.hosts size complete.hosts k p d (omega (arith, size))
     (same ∙ stands.node_is) in
     let at = hosts-at plant joint sound sections k d low in
     subst (IsHostNodeDone (get_or plant.hosts k p) on.status log
     (get_or followed.hosts_done.now k false))
-    (ap (λ (m : ℕ). own m ring) same ∙ sym (stands-own ring node on stands))
-    (complete-host plant ring (get_or plant.hosts k p) log on.status
-    (get_or followed.hosts_done.now k false) (stands-at plant ring node log.node on stands at same)
+    (sym (own-at plant rings node log.node on stands same))
+    (complete-host (net_of plant log.node) (own_ring plant rings log.node)
+    (get_or plant.hosts k p) log on.status (get_or followed.hosts_done.now k false)
+    (stands-at plant rings node log.node on stands at same)
     (is.hosts.each k d (omega (arith, size))).1 pair)
 
 pub ends-done : (plant : Plant) (scans : ℕ) (joint : Joint) (node : ℕ) (on : Standing)
-    → IsPlant plant → HasSections plant joint → IsStandingOf (noted_on_rings joint) node on
+    → IsPlant plant → HasSections plant joint → StandsOnOwn plant joint.rings node on
     → IsCompleteAt plant scans joint node → All (AreEndsDoneOn on) joint.bridges
 ends-done plant scans joint node on sound sections stands complete k d low =
-    let ring = noted_on_rings joint in
+    let rings = joint.rings in
     let size = same-size left_of left_log plant.bridges joint.bridges sections.lefts in
     let plan = item-of plant.bridges k (omega (arith, size)) in
     let log = get_or joint.bridges k d in
-    let pair = pair-at (λ of. AreCompleteEndsAt plant ring node of.1) plant.bridges
+    let pair = pair-at (λ of. AreCompleteEndsAt plant rings node of.1) plant.bridges
     joint.bridges size complete.bridges k plan d (omega (arith, size)) in
     let at = sides-at plant joint sound sections k d low in (
-      complete-end plant ring node log.entries log.left on stands at.0
+      complete-end plant rings node log log.left on stands at.0
           (λ same. pair.0 (same ∙ stands.node_is)),
-      complete-end plant ring node log.entries log.right on stands at.1
+      complete-end plant rings node log log.right on stands at.1
           (λ same. pair.1 (same ∙ stands.node_is)),
     )
 
@@ -548,31 +569,31 @@ all-complete plant scans joint sound sections each = record {
   controllers =
       let size = same-size plan_node log_node plant.controllers joint.controllers
       sections.controllers in
-      zip-all (IsCompleteLog plant scans (noted_on_rings joint)) plant.controllers
+      zip-all (IsCompleteLog plant scans joint.rings) plant.controllers
       joint.controllers size
       (λ k p g low.
       let node = (get_or joint.controllers k g).node in
       let at = each node
       (controllers-at plant joint sound sections k g (omega (arith, size))).low in
-      pair-at (λ of. of.1.node ≡ node → IsCompleteLog plant scans (noted_on_rings joint) of.0 of.1)
+      pair-at (λ of. of.1.node ≡ node → IsCompleteLog plant scans joint.rings of.0 of.1)
       plant.controllers joint.controllers size at.controllers k p g low refl);
   hosts =
       let size = same-size host_plan_node host_log_node plant.hosts joint.hosts sections.hosts in
-      zip-all (IsCompleteHostLog plant (noted_on_rings joint)) plant.hosts joint.hosts size
+      zip-all (IsCompleteHostLog plant joint.rings) plant.hosts joint.hosts size
       (λ k p g low.
       let node = (get_or joint.hosts k g).node in
       let at = each node (hosts-at plant joint sound sections k g (omega (arith, size))).low in
-      pair-at (λ of. of.1.node ≡ node → IsCompleteHostLog plant (noted_on_rings joint) of.0 of.1)
+      pair-at (λ of. of.1.node ≡ node → IsCompleteHostLog plant joint.rings of.0 of.1)
       plant.hosts joint.hosts size at.hosts k p g low refl);
   bridges =
       let size = same-size left_of left_log plant.bridges joint.bridges sections.lefts in
-      zip-all (IsCompleteBridgeLog plant (noted_on_rings joint)) plant.bridges joint.bridges size
+      zip-all (IsCompleteBridgeLog plant joint.rings) plant.bridges joint.bridges size
       (λ k p g low.
       let log = get_or joint.bridges k g in
       let are = sides-at plant joint sound sections k g (omega (arith, size)) in (
-        (pair-at (λ of. AreCompleteEndsAt plant (noted_on_rings joint) log.left of.1)
+        (pair-at (λ of. AreCompleteEndsAt plant joint.rings log.left of.1)
             plant.bridges joint.bridges size (each log.left are.0.low).bridges k p g low).0 refl,
-        (pair-at (λ of. AreCompleteEndsAt plant (noted_on_rings joint) log.right of.1)
+        (pair-at (λ of. AreCompleteEndsAt plant joint.rings log.right of.1)
             plant.bridges joint.bridges size (each log.right are.1.low).bridges k p g low).1 refl,
       ));
 }

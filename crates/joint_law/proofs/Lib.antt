@@ -7,3 +7,5 @@ pub mod Verdicts
 pub mod AtNodes
 pub mod Agreeing
 pub mod LogSteps
+pub mod OwnRings
+pub mod SameBounds

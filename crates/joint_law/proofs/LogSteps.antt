@@ -1,8 +1,7 @@
 -- The laws at the stations of logs, one after another.
-use Rattle.std.proofs.Common.{◌≡◌, ℕ, ◌+◌, ◌<◌, ◌≤◌, true, false, List, [], ◌∷◌, ◌++◌, length}
+use Rattle.std.proofs.Common.{◌≡◌, ℕ, ◌+◌, ◌<◌, ◌≤◌, List, [], ◌∷◌, ◌++◌, length}
 use Rattle.std.proofs.Common.{get_or, map, take, drop, Option, Some, None, refl, sym, ap, subst}
 use Rattle.std.proofs.Common.{◌∙◌, ⊎_elim, arith, append-nil}
-use Rattle.std.specs.Prelude.{is_some}
 use Rattle.std.specs.List.{All, Any, flat_map}
 use Rattle.std.proofs.lemmas.Bool.{cases_lt}
 use Rattle.std.proofs.Math.ListN.{get_or-map}
@@ -10,7 +9,7 @@ use Rattle.std.proofs.lemmas.List.{get_or_append_left, get_or_read, get_or-appen
 use Rattle.std.proofs.lemmas.List.{length-append, length-map, take-append-drop, take_all}
 use Rattle.std.proofs.lemmas.Grind.{flat_map-append}
 use Rattle.std.proofs.lemmas.List.Concat.{flat_map-cons}
-use Rattle.std.proofs.lemmas.List.Elements.{All-append, All-cons, All-map, All-nil}
+use Rattle.std.proofs.lemmas.List.Elements.{All-append, All-map}
 use Rattle.station_laws.specs.Bound.{Bound, BreaksLaw, KeepsLaw}
 use Rattle.joint_law.specs.LawEnds.{IsLogEnd, IsLogsEnd}
 use Rattle.station_laws.specs.declared.law.Law.{Law}
@@ -90,29 +89,6 @@ pub joined-break : (law : Law) (node : ℕ) (xs ys : List Bound) (place : ℕ)
     → IsLogsEnd law node xs (Some place) → IsLogsEnd law node (xs ++ ys) (Some place)
 joined-break law node xs ys place any =
     any-left (λ (s : Bound). (s.node ≡ node) × BreaksLaw law s (place + 1)) xs ys any
-
--- one station alone, and two of them
-pub alone-end : (law : Law) (node : ℕ) (s : Bound) (end : Option ℕ) → IsLogEnd law node s end
-    → IsLogsEnd law node (s ∷ []) end
-alone-end law node s None keeps =
-    All-cons (λ (x : Bound). x.node ≡ node → KeepsLaw law x) s [] keeps
-    (All-nil (λ (x : Bound). x.node ≡ node → KeepsLaw law x))
-alone-end law node s (Some place) breaks = (0, s, omega arith, refl, breaks)
-
-pub first-end : (law : Law) (node : ℕ) (one other : Bound) (end : Option ℕ)
-    → is_some end ≡ true → IsLogEnd law node one end → IsLogsEnd law node (one ∷ other ∷ []) end
-first-end law node one other None some end = absurd cc
-first-end law node one other (Some place) some breaks =
-    joined-break law node (one ∷ []) (other ∷ []) place
-    (alone-end law node one (Some place) breaks)
-
-pub second-end : (law : Law) (node : ℕ) (one other : Bound) (first end : Option ℕ)
-    → is_some first ≡ false → IsLogEnd law node one first → IsLogEnd law node other end
-    → IsLogsEnd law node (one ∷ other ∷ []) end
-second-end law node one other None end none keeps more =
-    joined-end law node (one ∷ []) (other ∷ []) end (alone-end law node one None keeps)
-    (alone-end law node other end more)
-second-end law node one other (Some place) end none keeps more = absurd cc
 
 -- the ends of bridges so far, and those of one more
 pub sides-more : (bounds : BridgeLog → List Bound) (law : Law) (node : ℕ) (logs : List BridgeLog)

@@ -34,6 +34,7 @@ use Rattle.joint_history.specs.JointLaws.{IsJoint, IsLegalBridgeLog, IsLegalHost
 use Rattle.joint_history.specs.JointLaws.{IsLegalLog, IsLegalRingLog, IsTiedSide}
 use Rattle.joint_history.specs.JointLaws.{IsTiedController, IsTiedHost, fixed_of}
 use Rattle.joint_history.specs.Nets.{noted_on_rings}
+use Rattle.joint_history.proofs.Lists.{all-behind, all-front}
 use Rattle.joint_law.specs.AllComplete.{IsFirstIncomplete}
 use Rattle.station_laws.specs.Bound.{Bound, BreaksLaw, BreaksReplies, KeepsLaw, KeepsReplies}
 use Rattle.station_laws.specs.Bound.{bounds_of, controller_bound, host_bound, side_bound}
@@ -52,7 +53,7 @@ use Rattle.joint_law.specs.declared.verdict.Spot.{Spot}
 use Rattle.joint_law.specs.declared.verdict.Spot.TheVariants as spots
 use Rattle.joint_law.specs.declared.verdict.Verdict.{Verdict}
 use Rattle.joint_law.specs.declared.verdict.Verdict.TheVariants.{Legal, Illegal}
-use Rattle.joint_law.proofs.AtNodes.{all-complete, bounds-low, first-part, second-part}
+use Rattle.joint_law.proofs.AtNodes.{all-complete, bounds-low}
 use Rattle.joint_law.proofs.CourseSteps.{same-size, zip-at, zip-map}
 use Rattle.station_laws.proofs.LawSteps.{keeps-joined, same-backs}
 use Rattle.station_laws.proofs.Founded.{founded-front, founded-none, none-founded, side-fails}
@@ -101,9 +102,9 @@ each-of law joint all =
     let xs = map (controller_bound (noted_on_rings joint)) joint.controllers in
     let ys = map (host_bound (noted_on_rings joint)) joint.hosts in
     let zs = flat_map (side_bounds (noted_on_rings joint)) joint.bridges in
-    let stations = first-part (KeepsLaw law) (xs ++ ys) zs all in
-    let controllers = first-part (KeepsLaw law) xs ys stations in
-    let hosts = second-part (KeepsLaw law) xs ys stations in
+    let stations = all-front (KeepsLaw law) (xs ++ ys) zs all in
+    let controllers = all-front (KeepsLaw law) xs ys stations in
+    let hosts = all-behind (KeepsLaw law) xs ys stations in
     let a = length-map joint.controllers (controller_bound (noted_on_rings joint)) in
     let b = length-map joint.hosts (host_bound (noted_on_rings joint)) in
     record {
@@ -114,7 +115,7 @@ each-of law joint all =
           (get_or-map (host_bound (noted_on_rings joint)) joint.hosts k d)
           (hosts k (host_bound (noted_on_rings joint) d) (omega (arith, b)));
       bridges = sides-each (KeepsLaw law) (noted_on_rings joint) joint.bridges
-          (second-part (KeepsLaw law) (xs ++ ys) zs all);
+          (all-behind (KeepsLaw law) (xs ++ ys) zs all);
     }
 
 -- an end of a bridge keeps all laws
@@ -357,31 +358,29 @@ complete-at plant scans joint node sections complete = record {
       plant.controllers joint.controllers sections.controllers in
       let n = length-zip plant.controllers joint.controllers in
       subst (λ (of : ControllerPlan × ControllerLog). of.1.node ≡ node
-      → IsCompleteLog plant scans (noted_on_rings joint) of.0 of.1)
+      → IsCompleteLog plant scans joint.rings of.0 of.1)
       (sym (get_or-zip plant.controllers joint.controllers k d (omega (arith, size, n))
       (omega (arith, size, n))))
-      (λ _. zip-at (IsCompleteLog plant scans (noted_on_rings joint)) plant.controllers
-      joint.controllers
+      (λ _. zip-at (IsCompleteLog plant scans joint.rings) plant.controllers joint.controllers
       complete.controllers k d.0 d.1 (omega (arith, size, n)));
   hosts = λ k d low.
       let size = same-size (λ (p : HostPlan). p.node) (λ (g : HostLog). g.node) plant.hosts
       joint.hosts sections.hosts in
       let n = length-zip plant.hosts joint.hosts in
       subst (λ (of : HostPlan × HostLog). of.1.node ≡ node
-      → IsCompleteHostLog plant (noted_on_rings joint) of.0 of.1)
+      → IsCompleteHostLog plant joint.rings of.0 of.1)
       (sym (get_or-zip plant.hosts joint.hosts k d (omega (arith, size, n))
       (omega (arith, size, n))))
-      (λ _. zip-at (IsCompleteHostLog plant (noted_on_rings joint)) plant.hosts joint.hosts
-      complete.hosts k
+      (λ _. zip-at (IsCompleteHostLog plant joint.rings) plant.hosts joint.hosts complete.hosts k
       d.0 d.1 (omega (arith, size, n)));
   bridges = λ k d low.
       let size = same-size (λ (p : BridgePlan). p.left) (λ (g : BridgeLog). g.left) plant.bridges
       joint.bridges sections.lefts in
       let n = length-zip plant.bridges joint.bridges in
-      let both = zip-at (IsCompleteBridgeLog plant (noted_on_rings joint)) plant.bridges
-      joint.bridges complete.bridges k d.0 d.1 (omega (arith, size, n)) in
+      let both = zip-at (IsCompleteBridgeLog plant joint.rings) plant.bridges joint.bridges
+      complete.bridges k d.0 d.1 (omega (arith, size, n)) in
       subst (λ (of : BridgePlan × BridgeLog).
-      AreCompleteEndsAt plant (noted_on_rings joint) node of.1)
+      AreCompleteEndsAt plant joint.rings node of.1)
       (sym (get_or-zip plant.bridges joint.bridges k d (omega (arith, size, n))
       (omega (arith, size, n))))
       (λ _. both.0, λ _. both.1);

@@ -9,7 +9,7 @@ use Rattle.ring_core.specs.declared.status.NodeStatus.{NodeStatus}
 use Rattle.ring_core.specs.declared.status.NodeStatus.TheVariants.{In, Away, Asking, Gone}
 use Rattle.controller_core.specs.declared.entry.Entry.{Entry}
 use Rattle.controller_core.specs.declared.entry.Entry.TheVariants.{Begin, Fail}
-use Rattle.tied_lists.specs.Items.{replies_in}
+use Rattle.tied_lists.specs.Own.{own}
 use Rattle.bridge_relay.specs.declared.entry.BridgeEntry.{BridgeEntry}
 use Rattle.bridge_relay.specs.declared.entry.BridgeEntry.TheVariants as bridge_entries
 use Rattle.joint_history.specs.declared.joint.BridgeLog.{BridgeLog}
@@ -22,6 +22,7 @@ use Rattle.joint_history.specs.Reading.{host_items_of, items_of}
 use Rattle.net_laws.specs.Standing.{status_by}
 use Rattle.joint_law.specs.AllCourses.{AreDone, AreHostsDone}
 use Rattle.list_courses.specs.Completing.{EachAllows, HasNoticed, HostAllows, NodeAllows}
+use Rattle.list_courses.specs.Completing.{given_in}
 use Rattle.station_laws.specs.Failing.{is_fail}
 use Rattle.station_laws.specs.Picked.{AreOfNode, picked}
 use Rattle.joint_law.specs.Spots.{IsCompleteAt}
@@ -38,17 +39,18 @@ pub record IsFollowed (plant : Plant) (scans : ℕ) (joint : Joint) (followed : 
 abbrev pub own_entries : Standing → List RingEntry
 own_entries on = picked on.ring.now on.places.now
 
--- A node with its entries among these, and where it stands by them if it is a member.
-pub record IsStandingOf (ring : List RingEntry) (node : ℕ) (on : Standing) : Type 0 where
+-- A node with its entries on its ring, which are all of its entries among these, and where it
+-- stands by them if it is a member.
+pub record IsStandingOf (noted : List RingEntry) (node : ℕ) (on : Standing) : Type 0 where
   pub node_is : on.node ≡ node
-  pub ring_is : on.ring.now ≡ ring
   pub places : AreOfNode on.ring.now node on.places.now
+  pub own_is : own node on.ring.now ≡ own node noted
   pub status : on.status ≡ status_by (own_entries on)
 
--- A node was done on the ring, whose station gave such replies and lost its power so often.
-pub record IsNodeDone (answers : List (Option (List ℕ))) (fails : ℕ) (b : List RingEntry)
-    : Type 0 where
-  pub fits : EachAllows (NodeAllows answers) b
+-- A node was done on the ring, whose station's answers have replies or not, and which lost its
+-- power so often.
+pub record IsNodeDone (given : List Bool) (fails : ℕ) (b : List RingEntry) : Type 0 where
+  pub fits : EachAllows (NodeAllows given) b
   pub noticed : HasNoticed fails b
 
 -- There is power behind an entry, or none.
@@ -80,19 +82,18 @@ pub record IsControllerDone (scans : ℕ) (status : NodeStatus) (log : Controlle
     (is_done : Bool) (b : List RingEntry) : Type 0 where
   pub done : is_done ≡ true
   pub out : IsOutBy scans status log.entries
-  pub node : IsNodeDone (replies_in (items_of log.entries).answers)
-      (count_by is_fail log.entries) b
+  pub node : IsNodeDone (given_in (items_of log.entries).answers) (count_by is_fail log.entries) b
 
 -- A host was done, its node on the ring, and it asked nothing too early.
 pub record IsHostNodeDone (plan : HostPlan) (status : NodeStatus) (log : HostLog)
     (is_done : Bool) (b : List RingEntry) : Type 0 where
   pub done : is_done ≡ true
   pub gone : status ≡ Gone
-  pub node : IsNodeDone (replies_in (host_items_of log.entries).answers) 0 b
+  pub node : IsNodeDone (given_in (host_items_of log.entries).answers) 0 b
   pub asks : EachAllows (HostAllows plan) b
 
 -- An end of a bridge was done: each call that it sent on has ended, once, and it left for good, in
--- its bridge's list and on the ring, where it was quiet before.
+-- its bridge's list and on the ring, where it was quiet before and stayed so.
 pub record IsEndDone (status : NodeStatus) (list : List BridgeEntry) (side : ℕ)
     (b : List RingEntry) : Type 0 where
   pub finished : EndsEachCall (side_items side list)

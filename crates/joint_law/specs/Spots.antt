@@ -5,9 +5,8 @@ use Rattle.plant_types.specs.declared.net.BridgePlan.{BridgePlan}
 use Rattle.plant_types.specs.declared.net.HostPlan.{HostPlan}
 use Rattle.plant_types.specs.declared.net.NetPlan.{NetPlan}
 use Rattle.plant_types.specs.declared.plan.Plant.{Plant}
-use Rattle.plant_types.specs.Plans.{IsPlant, controller_nodes, host_nodes, net_numbers, net_of}
+use Rattle.plant_types.specs.Plans.{IsPlant, controller_nodes, host_nodes, net_numbers}
 use Rattle.ring_core.specs.Legal.{IsLegalRing}
-use Rattle.ring_core.specs.declared.entry.RingEntry.{RingEntry}
 use Rattle.bridge_relay.specs.Legal.{IsBridgeHistory}
 use Rattle.controller_core.specs.Controller.{IsLegal}
 use Rattle.controller_core.specs.Machine.{IsRunnable}
@@ -17,11 +16,10 @@ use Rattle.joint_history.specs.declared.joint.HostLog.{HostLog}
 use Rattle.joint_history.specs.declared.joint.BridgeLog.{BridgeLog}
 use Rattle.joint_history.specs.declared.joint.RingLog.{RingLog}
 use Rattle.joint_history.specs.declared.joint.Joint.{Joint}
-use Rattle.joint_history.specs.Complete.{EndIsComplete, IsComplete, IsCompleteLog}
-use Rattle.joint_history.specs.Complete.{IsCompleteHostLog}
+use Rattle.joint_history.specs.Complete.{IsComplete, IsCompleteHostLog, IsCompleteLog}
+use Rattle.joint_history.specs.Complete.{IsCompleteSide}
 use Rattle.joint_history.specs.JointLaws.{IsJoint, IsLegalBridgeLog, IsLegalHostLog, IsLegalJoint}
 use Rattle.joint_history.specs.JointLaws.{IsLegalLog, IsLegalRingLog, fixed_of, logged}
-use Rattle.joint_history.specs.Nets.{noted_on_rings}
 use Rattle.station_laws.specs.Bound.{Bound, BreaksLaw, KeepsLaw, bounds_of, number_of}
 use Rattle.station_laws.specs.Differing.{BreaksAt}
 use Rattle.station_laws.specs.declared.law.Law.{Law}
@@ -131,24 +129,23 @@ pub record LawSpot (plant : Plant) (scans : ℕ) (joint : Joint) (law : Law) (no
   pub here : Any (λ (s : Bound). (s.node ≡ node) × BreaksLaw law s place) (bounds_of joint)
 
 -- An end of a bridge is complete, if it is at this address.
-abbrev pub IsCompleteEndAt : Plant → List RingEntry → ℕ → BridgeLog → ℕ → Type 0
-IsCompleteEndAt plant ring node log side =
-    side ≡ node → EndIsComplete (net_of plant side) ring log.entries side
+abbrev pub IsCompleteEndAt : Plant → List RingLog → ℕ → BridgeLog → ℕ → Type 0
+IsCompleteEndAt plant rings node log side = side ≡ node → IsCompleteSide plant rings log side
 
 -- So is each end of a bridge.
-abbrev pub AreCompleteEndsAt : Plant → List RingEntry → ℕ → BridgeLog → Type 0
-AreCompleteEndsAt plant ring node log =
-    IsCompleteEndAt plant ring node log log.left × IsCompleteEndAt plant ring node log log.right
+abbrev pub AreCompleteEndsAt : Plant → List RingLog → ℕ → BridgeLog → Type 0
+AreCompleteEndsAt plant rings node log =
+    IsCompleteEndAt plant rings node log log.left × IsCompleteEndAt plant rings node log log.right
 
 -- The stations and the ends of bridges at an address are complete.
 pub record IsCompleteAt (plant : Plant) (scans : ℕ) (joint : Joint) (node : ℕ) : Type 0 where
   pub controllers : All
-      (λ of. of.1.node ≡ node → IsCompleteLog plant scans (noted_on_rings joint) of.0 of.1)
+      (λ of. of.1.node ≡ node → IsCompleteLog plant scans joint.rings of.0 of.1)
       (logged plant joint)
   pub hosts : All
-      (λ of. of.1.node ≡ node → IsCompleteHostLog plant (noted_on_rings joint) of.0 of.1)
+      (λ of. of.1.node ≡ node → IsCompleteHostLog plant joint.rings of.0 of.1)
       (hosts_logged plant joint)
-  pub bridges : All (λ of. AreCompleteEndsAt plant (noted_on_rings joint) node of.1)
+  pub bridges : All (λ of. AreCompleteEndsAt plant joint.rings node of.1)
       (bridges_logged plant joint)
 
 -- The first address at which not all is complete.

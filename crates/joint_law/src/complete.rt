@@ -1,27 +1,28 @@
 //! The first node of which a station or an end of a bridge was not done.
 ghost use Rattle.std.specs.Prelude.{◌≡◌, ◌↔◌, ℕ, true, length, All, IfOk, IsTrue};
 ghost use Rattle.plant_types.specs.Plans.{IsPlant};
+ghost use Rattle.joint_history.specs.JointLaws.{IsLegalJoint};
 ghost use Rattle.joint_law.specs.AllComplete.{AreControllersDoneOn, AreEndsDoneOn};
 ghost use Rattle.joint_law.specs.AllComplete.{AreHostNodesDoneOn, IsControllerDoneOn, IsEndDoneOn};
 ghost use Rattle.joint_law.specs.AllComplete.{IsFirstIncomplete, IsFollowed, IsHostNodeDoneOn};
 ghost use Rattle.joint_law.specs.AllComplete.{IsNodeDone, IsOutBy, IsStandingOf, own_entries};
 ghost use Rattle.joint_law.specs.AllComplete.{powered_from};
-ghost use Rattle.joint_law.specs.Spots.{HasSections, IsCompleteAt};
-ghost use Rattle.joint_law.specs.OnRings.{AreOnRings};
+ghost use Rattle.joint_law.specs.Spots.{IsCompleteAt};
+ghost use Rattle.joint_law.specs.OnRings.{AreOnRings, ArePlacesOn, IsOnOne};
+ghost use Rattle.joint_history.specs.Nets.{entries_of_rings};
 ghost use Rattle.station_laws.specs.Picked.{AreWithin};
-ghost use Rattle.own_places.specs.Places.{ArePlaces};
 
-use crate::on_rings::OnRings;
+use crate::on_rings::{OnRings, entries_of};
 use bridge_relay::BridgeEntry;
 use controller_core::Entry;
 use joint_history::{BridgeLog, ControllerLog, HostLog, Joint};
 use list_courses::{
-    all_fit, all_fit_host, count_scans, has_gone, leaves_quietly, notices, side_ends_each_call,
-    status_by,
+    Given, all_fit, all_fit_host, answers_given, count_scans, has_gone, host_answers_given,
+    leaves_quietly, notices, side_ends_each_call, status_by,
 };
 use plant_types::{ADDRESSES, HostPlan, Plant};
 use ring_core::{NodeStatus, RingEntry};
-use station_laws::{Replies, answers, count_fails, host_answers};
+use station_laws::count_fails;
 use std::alloc::{AllocError, Global};
 
 /// What following all lists has shown: which controllers and hosts were done.
@@ -31,8 +32,7 @@ pub(crate) struct Followed<'a> {
     pub hosts_done: &'a [bool],
 }
 
-/// A node on the ring of its network: its entries among those of all rings, and where it stands
-/// behind them.
+/// A node on the ring of its network: its entries there, and where it stands behind them.
 #[derive(Clone, Copy)]
 struct Standing<'a> {
     ring: &'a [RingEntry],
@@ -41,18 +41,14 @@ struct Standing<'a> {
     status: NodeStatus,
 }
 
-/// Whether a node was done on the ring, whose station answered so and lost its power so often.
-fn node_is_done(
-    alloc: Global,
-    on: Standing,
-    answers: Replies,
-    fails: usize,
-) -> Result<bool, AllocError>
+/// Whether a node was done on the ring, whose station's answers have replies or not, and which lost
+/// its power so often.
+fn node_is_done(alloc: Global, on: Standing, given: Given, fails: usize) -> Result<bool, AllocError>
     requires { AreWithin on.ring.now on.places.now }
     ensures { IfOk result (λ done. IsTrue done
-        ↔ IsNodeDone answers.items fails (own_entries on.entry)) }
+        ↔ IsNodeDone given.items fails (own_entries on.entry)) }
 {
-    if !all_fit(on.ring, on.places, answers) {
+    if !all_fit(on.ring, on.places, given) {
         return Ok(false);
     }
     notices(alloc, on.ring, on.places, fails)
@@ -110,7 +106,8 @@ fn controller_is_done(
     if !is_done || !is_out(on.status, scans, entries) {
         return Ok(false);
     }
-    node_is_done(alloc, on, answers(alloc, entries)?, count_fails(entries))
+    let given = answers_given(alloc, entries)?;
+    node_is_done(alloc, on, given, count_fails(entries))
 }
 
 /// Whether the controllers of a node were done.
@@ -155,7 +152,8 @@ fn host_is_done(
     if !all_fit_host(alloc, plan, on.ring, on.places) {
         return Ok(false);
     }
-    node_is_done(alloc, on, host_answers(alloc, log.entries.as_slice())?, 0)
+    let given = host_answers_given(alloc, log.entries.as_slice())?;
+    node_is_done(alloc, on, given, 0)
 }
 
 /// Whether the hosts of a node were done.
@@ -182,7 +180,7 @@ fn hosts_are_done(
 
 /// Whether an end of a bridge was done, if it is the one of this node: each call that it sent on
 /// has ended, and it left for good, in its bridge's list and on the ring, where it was quiet
-/// before.
+/// before and stayed so.
 fn end_is_done(
     alloc: Global,
     on: Standing,
@@ -231,15 +229,16 @@ fn bridges_are_done(alloc: Global, on: Standing, logs: &[BridgeLog]) -> Result<b
 
 /// A node on the ring of its network.
 fn standing_of<'a>(on: OnRings<'a>, node: u8) -> Standing<'a>
-    requires { ArePlaces on.ring.now on.own.now }
-    ensures { IsStandingOf on.entry.ring.now node result }
+    requires places { ArePlacesOn on.rings.now on.own.now }
+    requires one { IsOnOne node on.rings.now }
+    ensures { IsStandingOf (entries_of_rings on.entry.rings.now) node result }
 {
-    let places = on.own.places(node);
+    let of = entries_of(on, node);
     Standing {
-        ring: on.ring,
-        places,
+        ring: of.ring,
+        places: of.places,
         node,
-        status: status_by(on.ring, places),
+        status: status_by(of.ring, of.places),
     }
 }
 
@@ -254,7 +253,7 @@ fn are_done(
     node: u8,
 ) -> Result<bool, AllocError>
     requires sound { IsPlant plant.now }
-    requires sections { HasSections plant.now joint.now }
+    requires legal { IsLegalJoint plant.now scans joint.now }
     requires on_rings { AreOnRings joint.now on_rings }
     requires followed { IsFollowed plant.now scans joint.now followed }
     ensures { IfOk result (λ done. IsTrue done ↔ IsCompleteAt plant.now scans joint.now node) }
@@ -282,7 +281,7 @@ pub(crate) fn first_incomplete(
     followed: Followed,
 ) -> Result<Option<u8>, AllocError>
     requires sound { IsPlant plant.now }
-    requires sections { HasSections plant.now joint.now }
+    requires legal { IsLegalJoint plant.now scans joint.now }
     requires on_rings { AreOnRings joint.now on_rings }
     requires followed { IsFollowed plant.now scans joint.now followed }
     ensures { IfOk result (IsFirstIncomplete plant.now scans joint.now) }

@@ -2,7 +2,6 @@
 ghost use Rattle.std.specs.Prelude.{◌≡◌, ◌+◌, ◌↔◌, IfOk};
 ghost use Rattle.plant_types.specs.Plans.{IsPlant};
 ghost use Rattle.joint_history.specs.JointLaws.{IsLegalJoint};
-ghost use Rattle.joint_history.specs.Nets.{noted_on_rings};
 ghost use Rattle.route_laws.specs.Effects.{EffectsAreRight};
 ghost use Rattle.joint_law.specs.AllComplete.{IsFollowed};
 ghost use Rattle.joint_law.specs.AllCourses.{AreDone, AreHostsDone, AreWholeCourses};
@@ -17,14 +16,12 @@ use crate::courses::{
     hosts_course, rings_course,
 };
 use crate::law_spots::{laws_spot, number};
-use crate::on_rings::{OnRings, only_entries};
+use crate::on_rings::{OnRings, own_on_each};
 use crate::sections::has_sections;
 use crate::verdict::{Judgement, Spot, Verdict};
 use controller_core::{Notes, fronts_are_legal};
-use joint_history::{Joint, noted_copied};
-use own_places::OwnPlaces;
+use joint_history::Joint;
 use plant_types::{List, Plant};
-use ring_core::RingEntry;
 use route_laws::effects_are_right;
 use std::alloc::{AllocError, Global};
 
@@ -44,32 +41,6 @@ fn ring_spot(network: u8, place: usize) -> Result<Spot, AllocError>
     Ok(Spot::Ring { network, entry })
 }
 
-/// The first spot of legal lists, where this is what all nodes noted on their rings.
-fn spot_beside(
-    alloc: Global,
-    plant: &Plant,
-    joint: &Joint,
-    ring: &[RingEntry],
-    scans: u32,
-    followed: Followed,
-) -> Result<Option<Spot>, AllocError>
-    requires sound { IsPlant plant.now }
-    requires legal { IsLegalJoint plant.now scans joint.now }
-    requires noted { ring.now ≡ noted_on_rings joint.now }
-    requires followed { IsFollowed plant.now scans joint.now followed }
-    ensures { IfOk result (IsFirstSpot plant.now scans joint.now) }
-{
-    let own = OwnPlaces::of(alloc, ring)?;
-    let on = OnRings { ring, own: &own };
-    if let Some(spot) = laws_spot(alloc, joint, on)? {
-        return Ok(Some(spot));
-    }
-    match first_incomplete(alloc, plant, joint, on, scans, followed)? {
-        Some(node) => Ok(Some(Spot::Incomplete(node))),
-        None => Ok(None),
-    }
-}
-
 /// The first spot of legal lists: a law between them that is broken, or a node of which a station
 /// or an end of a bridge was not done.
 fn spot_from_laws(
@@ -85,11 +56,18 @@ fn spot_from_laws(
     ensures { IfOk result (IsFirstSpot plant.now scans joint.now) }
 {
     let rings = joint.rings.as_slice();
-    if let Some(ring) = only_entries(rings) {
-        return spot_beside(alloc, plant, joint, ring, scans, followed);
+    let own = own_on_each(alloc, rings)?;
+    let on = OnRings {
+        rings,
+        own: own.as_slice(),
+    };
+    if let Some(spot) = laws_spot(alloc, joint, on)? {
+        return Ok(Some(spot));
     }
-    let noted = noted_copied(alloc, rings)?;
-    spot_beside(alloc, plant, joint, noted.as_slice(), scans, followed)
+    match first_incomplete(alloc, plant, joint, on, scans, followed)? {
+        Some(node) => Ok(Some(Spot::Incomplete(node))),
+        None => Ok(None),
+    }
 }
 
 /// The first spot of legal lists of all stations and bridges: in a ring's list, or behind those.

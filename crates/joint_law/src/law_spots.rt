@@ -4,14 +4,12 @@ ghost use Rattle.station_laws.specs.Bound.{bounds_of, controller_bound, host_bou
 ghost use Rattle.station_laws.specs.Bound.{side_bound, side_bounds};
 ghost use Rattle.joint_law.specs.LawEnds.{IsLawsEnd, IsLogEnd, IsLogsEnd, IsNodesEnd};
 ghost use Rattle.station_laws.specs.Picked.{AreOfNode};
-ghost use Rattle.joint_history.specs.Nets.{noted_on_rings};
-ghost use Rattle.joint_law.specs.OnRings.{AreOnRings};
+ghost use Rattle.joint_law.specs.OnRings.{AreOnRings, IsJoined};
 
-use crate::on_rings::{OnRings, only_entries};
+use crate::on_rings::{OnRings, entries_of, own_on_each};
 use crate::verdict::Spot;
-use joint_history::{BridgeLog, ControllerLog, HostLog, Joint, noted_copied};
-use own_places::OwnPlaces;
-use plant_types::ADDRESSES;
+use joint_history::{BridgeLog, ControllerLog, HostLog, Joint, RingLog, noted_copied};
+use plant_types::{ADDRESSES, List};
 use ring_core::RingEntry;
 use station_laws::{Law, controller_breaks, host_breaks, side_breaks};
 use std::alloc::{AllocError, Global};
@@ -169,16 +167,17 @@ fn node_breaks(
     requires { AreOnRings joint.now on }
     ensures { IfOk result (IsLogsEnd law node (bounds_of joint.now)) }
 {
-    let places = on.own.places(node);
+    let of = entries_of(on, node);
     let logs = joint.controllers.as_slice();
-    if let Some(place) = logs_break(alloc, law, on.ring, places, node, logs)? {
+    if let Some(place) = logs_break(alloc, law, of.ring, of.places, node, logs)? {
         return Ok(Some(place));
     }
     let host_logs = joint.hosts.as_slice();
-    if let Some(place) = host_logs_break(alloc, law, on.ring, places, node, host_logs)? {
+    if let Some(place) = host_logs_break(alloc, law, of.ring, of.places, node, host_logs)? {
         return Ok(Some(place));
     }
-    bridge_logs_break(alloc, law, on.ring, places, node, joint.bridges.as_slice())
+    let bridge_logs = joint.bridges.as_slice();
+    bridge_logs_break(alloc, law, of.ring, of.places, node, bridge_logs)
 }
 
 /// A place, counted from 1. A spot has no number above 2^32 - 1; for such a place the answer is
@@ -239,28 +238,33 @@ pub(crate) fn laws_spot(
     law_spot(alloc, Law::Downs, joint, on)
 }
 
-/// The first law that is broken, where this is what all nodes noted on their rings.
-fn broken_beside(
-    alloc: Global,
-    joint: &Joint,
-    ring: &[RingEntry],
-) -> Result<Option<Spot>, AllocError>
-    requires { ring.now ≡ noted_on_rings joint.now }
-    ensures { IfOk result (IsLawsEnd (bounds_of joint.now)) }
+/// The rings as one: a copy of the entries of all, one ring behind the other.
+fn joined(alloc: Global, rings: &[RingLog]) -> Result<List<RingLog>, AllocError>
+    ensures { IfOk result (IsJoined rings.now) }
 {
-    let own = OwnPlaces::of(alloc, ring)?;
-    laws_spot(alloc, joint, OnRings { ring, own: &own })
+    let mut joined = List::new(alloc);
+    joined.push(RingLog {
+        network: 0,
+        entries: noted_copied(alloc, rings)?,
+    })?;
+    Ok(joined)
 }
 
 /// The first law between the lists that is broken, each over all nodes, whether each list by itself
-/// is legal or not; None exactly where all are kept.
+/// is legal or not; None exactly where all are kept. Since a node may then have noted something on
+/// several rings, they are read as one.
 pub fn broken_law(alloc: Global, joint: &Joint) -> Result<Option<Spot>, AllocError>
     ensures { IfOk result (IsLawsEnd (bounds_of joint.now)) }
 {
-    let rings = joint.rings.as_slice();
-    if let Some(ring) = only_entries(rings) {
-        return broken_beside(alloc, joint, ring);
-    }
-    let noted = noted_copied(alloc, rings)?;
-    broken_beside(alloc, joint, noted.as_slice())
+    let joined = joined(alloc, joint.rings.as_slice())?;
+    let rings = joined.as_slice();
+    let own = own_on_each(alloc, rings)?;
+    laws_spot(
+        alloc,
+        joint,
+        OnRings {
+            rings,
+            own: own.as_slice(),
+        },
+    )
 }

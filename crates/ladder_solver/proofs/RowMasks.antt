@@ -77,7 +77,7 @@ told n small =
     equals n (mask_of (row_on n)) (below_at (λ n. n == mask_of (row_on n)) 128 n small all_told)
 
 -- so a mask that has the rows that pass a test is that of the test
-mask_of-is : (n : ℕ) (on : ℕ → Bool) → n < 128
+pub mask_of-is : (n : ℕ) (on : ℕ → Bool) → n < 128
     → ((row : ℕ) → 1 ≤ row → row ≤ 7 → row_on n row ≡ on row) → n ≡ mask_of on
 mask_of-is n on small same =
     told n small

@@ -33,7 +33,7 @@ drop_taken (suc k) (suc m) [] = sym (take_none (suc m - suc k))
 drop_taken (suc k) (suc m) (x ∷ xs) =
     let e : suc m - suc k ≡ m - k = omega arith in rw e (drop_taken k m xs)
 
-drop_range : {X : Type 0} (xs : List X) (j k end : ℕ)
+pub drop_range : {X : Type 0} (xs : List X) (j k end : ℕ)
     → drop k (slice_range xs j end) ≡ slice_range xs (j + k) end
 drop_range xs j k end =
     let e : end - j - k ≡ end - (j + k) = omega arith in
@@ -53,7 +53,7 @@ skip_over setting segment number (network ∷ networks) (suc skipped) s =
     rw e (skip_over setting segment (number + 1) networks skipped s)
 
 -- the network at an index
-network_at : (numbers : BlockPlace → ℕ) (segment first : ℕ) (networks : List Network) (i : ℕ)
+pub network_at : (numbers : BlockPlace → ℕ) (segment first : ℕ) (networks : List Network) (i : ℕ)
     (spots : List Spot) → i < length networks
     → spots ≡ get_or (laid_networks numbers segment first networks) i spots
     → (network : Network) × (drop i networks ≡ network ∷ drop (i + 1) networks)

@@ -188,7 +188,7 @@ fed_at shorts column r live p first low high h = elim (same_or_other column 1) [
     one_less (suc (suc n)) low other = omega arith
 
 -- the inputs of a block are the flags of its rows
-inputs_at-flags : (shorts : List Short) (column row : ℕ) (live : List ℕ) (p : Power)
+pub inputs_at-flags : (shorts : List Short) (column row : ℕ) (live : List ℕ) (p : Power)
     → 1 ≤ column → 1 ≤ row
     → AgreesPower shorts live p
     → inputs_at shorts p.on column row ≡ flags_at (get_or live (column - 1) 0) row

@@ -5,9 +5,9 @@ ghost use Rattle.ladder_solver.specs.Network.{place_in};
 use plant_types::Element;
 
 /// The place of a block: its segment, its network in the segment, and the column and row of its
-/// top node, each counted from 1.
+/// top node, each counted from 1. This project's own.
 #[derive(Clone, Copy)]
-pub(crate) struct BlockPlace {
+pub struct BlockPlace {
     pub segment: usize,
     pub network: usize,
     pub column: u8,

@@ -95,7 +95,6 @@ fn last_spans(alloc: Global, segments: &[List<Grid>]) -> Result<Spans, AllocErro
 
 /// The grids of all segments, their cells as solving walks them, how many MSTR blocks they have,
 /// and their subroutines.
-#[derive(Drop)]
 pub(crate) struct Program {
     grids: List<List<Grid>>,
     networks: List<List<List<Spot>>>,
@@ -118,6 +117,17 @@ impl Model for Program {
     ghost view = { program_of };
 
     ghost invariant = { IsProgram };
+}
+
+impl Drop for Program {
+    fn drop(self) {
+        let Program {
+            grids: _,
+            networks: _,
+            blocks: _,
+            spans: _,
+        } = self;
+    }
 }
 
 impl Program {

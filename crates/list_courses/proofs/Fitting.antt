@@ -16,13 +16,13 @@ use Rattle.ring_core.specs.declared.entry.RingEntry.{RingEntry}
 use Rattle.ring_core.specs.declared.entry.RingEntry.TheVariants.{Post, Send, Take, Local, GiveUp}
 use Rattle.ring_core.specs.declared.entry.RingEntry.TheVariants.{Pass, Leave, Join}
 use Rattle.ring_core.specs.declared.entry.LeaveCause.TheVariants.{Ended, Spent, Down}
-use Rattle.tied_lists.specs.Items.{Items, latest_down, replies_in, taken_by}
+use Rattle.tied_lists.specs.Items.{Items, latest_down, taken_by}
 use Rattle.joint_history.specs.Complete.{AsksAllBeforeDone, AsksInItsHolds, IsOfDone}
 use Rattle.joint_history.specs.Complete.{NoticesFailures, RepliesBeforePasses}
 use Rattle.joint_history.specs.Complete.{StandsIn, StaysDone}
 use Rattle.list_courses.specs.Completing.{AskFits, EachAllows, HasReplied, HostAllows, NodeAllows}
-use Rattle.list_courses.specs.Completing.{is_ended, progress_of, says_done}
-use Rattle.station_laws.proofs.Due.{due-counted}
+use Rattle.list_courses.specs.Completing.{given_in, is_ended, progress_of, says_done}
+use Rattle.list_courses.proofs.Due.{due-counted}
 
 -- the last of a list that isn't empty
 last-split : (x : RingEntry) (xs : List RingEntry)
@@ -97,12 +97,12 @@ around xs k d low =
 
 -- each entry of a node fits where it replies before its Passes, and stays done
 pub replies-from : (items : Items) (b : List RingEntry)
-    → EachAllows (NodeAllows (replies_in items.answers)) b → RepliesBeforePasses items b
+    → EachAllows (NodeAllows (given_in items.answers)) b → RepliesBeforePasses items b
 replies-from items b each before after n done words is =
     (each before after (Pass n done words) is).replied
-    ∙ sym (due-counted (taken_by before) (replies_in items.answers) b)
+    ∙ sym (due-counted (taken_by before) items.answers b)
 
-pub done-from : (P : List (Option (List ℕ))) (b : List RingEntry) → EachAllows (NodeAllows P) b
+pub done-from : (P : List Bool) (b : List RingEntry) → EachAllows (NodeAllows P) b
     → StaysDone b
 done-from P b each before after n words is k d low =
     let e = get_or after k d in
@@ -114,7 +114,7 @@ done-from P b each before after n words is k d low =
 
 replied-at : (items : Items) (b : List RingEntry) (before after : List RingEntry)
     → RepliesBeforePasses items b → (e : RingEntry) → StandsIn b before e after
-    → HasReplied (progress_of (replies_in items.answers) before) e
+    → HasReplied (progress_of (given_in items.answers) before) e
 replied-at items b before after replies (Post n f) is = tt
 replied-at items b before after replies (Send n heard) is = tt
 replied-at items b before after replies (Take n f) is = tt
@@ -122,7 +122,7 @@ replied-at items b before after replies (Local n id op result) is = tt
 replied-at items b before after replies (GiveUp id word) is = tt
 replied-at items b before after replies (Pass n done words) is =
     replies before after n done words is
-    ∙ due-counted (taken_by before) (replies_in items.answers) b
+    ∙ due-counted (taken_by before) items.answers b
 replied-at items b before after replies (Leave n cause) is = tt
 replied-at items b before after replies (Join n) is = tt
 
@@ -140,7 +140,7 @@ done-at b before after e stays is said =
     (all (length s.3) e (omega (arith, size, one)))
 
 pub node-each : (items : Items) (b : List RingEntry) → RepliesBeforePasses items b → StaysDone b
-    → EachAllows (NodeAllows (replies_in items.answers)) b
+    → EachAllows (NodeAllows (given_in items.answers)) b
 node-each items b replies stays before after e is =
     record {
       replied = replied-at items b before after replies e is;

@@ -5,3 +5,4 @@ pub mod RingSteps
 pub mod Stands
 pub mod Rows
 pub mod FollowSteps
+pub mod Due

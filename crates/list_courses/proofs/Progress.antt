@@ -18,13 +18,11 @@ use Rattle.tied_lists.specs.Items.{Asked, Item, Taken, asked_by, asked_in, asked
 use Rattle.tied_lists.specs.Items.{replied_in, replied_of, taken_by, taken_in, taken_of}
 use Rattle.tied_lists.proofs.Boxes.{at-most-one, count-cons}
 use Rattle.joint_history.specs.Complete.{is_pass}
-use Rattle.list_courses.specs.Completing.{IsShort, posted_next, progress_next, progress_of}
-use Rattle.list_courses.specs.Completing.{says_done}
-use Rattle.station_laws.specs.Taking.{due_count, left_plain}
+use Rattle.list_courses.specs.Completing.{IsShort, due_count, left_given, posted_next}
+use Rattle.list_courses.specs.Completing.{progress_next, progress_of, says_done}
 use Rattle.list_courses.specs.declared.completing.Progress.{Progress}
 use Rattle.station_laws.specs.Picked.{entry_at, picked}
-use Rattle.station_laws.proofs.AnswerSteps.{left_plain-append}
-use Rattle.station_laws.proofs.Due.{due_count-append, due-few}
+use Rattle.list_courses.proofs.Due.{due_count-append, due-few, left_given-append}
 use Rattle.station_laws.proofs.Lists.{filter_map-push}
 
 size-push : {Y : Type 0} (f : RingEntry → Option Y) (b : List RingEntry) (e : RingEntry)
@@ -60,17 +58,17 @@ or-one false true = refl
 or-one false false = refl
 
 -- one entry more makes so many Replies due
-due-push : (P : List (Option (List ℕ))) (b : List RingEntry) (e : RingEntry) (o : Option Taken)
+due-push : (P : List Bool) (b : List RingEntry) (e : RingEntry) (o : Option Taken)
     → taken_of e ≡ o → due_count (taken_by (b ++ e ∷ [])) P
-    ≡ due_count (taken_by b) P + due_count (cons_option o []) (left_plain (taken_by b) P)
+    ≡ due_count (taken_by b) P + due_count (cons_option o []) (left_given (taken_by b) P)
 due-push P b e o is =
     ap (λ (ts : List Taken). due_count ts P) (filter_map-push taken_of b e)
     ∙ (due_count-append (taken_by b) (cons_option (taken_of e) []) P
     ∙ ap (λ (x : Option Taken). due_count (taken_by b) P
-    + due_count (cons_option x []) (left_plain (taken_by b) P)) is)
+    + due_count (cons_option x []) (left_given (taken_by b) P)) is)
 
 -- an entry that counts so much
-record Counts (P : List (Option (List ℕ))) (q : Progress) (b : List RingEntry) (e : RingEntry)
+record Counts (P : List Bool) (q : Progress) (b : List RingEntry) (e : RingEntry)
     : Type 0 where
   passes : count_by is_pass b + cond (is_pass e) 1 0 ≡ q.passes
   asked : (o : Option Asked) × (asked_of e ≡ o)
@@ -78,11 +76,11 @@ record Counts (P : List (Option (List ℕ))) (q : Progress) (b : List RingEntry)
   replied : (o : Option Item) × (replied_of e ≡ o)
       × (length (replied_by b) + length (cons_option o []) ≡ q.replied)
   due : (o : Option Taken) × (taken_of e ≡ o)
-      × (due_count (taken_by b) P + due_count (cons_option o []) (left_plain (taken_by b) P)
+      × (due_count (taken_by b) P + due_count (cons_option o []) (left_given (taken_by b) P)
       ≡ q.due)
   done : (list_any says_done b || (says_done e || false)) ≡ q.is_done
 
-counted : (P : List (Option (List ℕ))) (b : List RingEntry) (e : RingEntry) (q : Progress)
+counted : (P : List Bool) (b : List RingEntry) (e : RingEntry) (q : Progress)
     → Counts P q b e → progress_of P (b ++ e ∷ []) ≡ q
 counted P b e q c = same-progress (progress_of P (b ++ e ∷ [])) q
     (passes-push b e ∙ c.passes)
@@ -91,7 +89,7 @@ counted P b e q c = same-progress (progress_of P (b ++ e ∷ [])) q
     (due-push P b e c.due.0 c.due.1 ∙ c.due.2)
     (done-push b e ∙ c.done)
 
-posted-push : (P : List (Option (List ℕ))) (b : List RingEntry) (n : ℕ) (f : Frame)
+posted-push : (P : List Bool) (b : List RingEntry) (n : ℕ) (f : Frame)
     (kind : FrameKind) → f.kind ≡ kind
     → progress_of P (b ++ Post n f ∷ []) ≡ posted_next (progress_of P b) kind
 posted-push P b n f Request is = counted P b (Post n f) _ (record {
@@ -109,9 +107,9 @@ posted-push P b n f Reply is = counted P b (Post n f) _ (record {
   done = or-none (list_any says_done b);
 })
 
-taken-push : (P : List (Option (List ℕ))) (b : List RingEntry) (n : ℕ) (f : Frame)
+taken-push : (P : List Bool) (b : List RingEntry) (n : ℕ) (f : Frame)
     → progress_of P (b ++ Take n f ∷ [])
-    ≡ progress_next (left_plain (taken_by b) P) (progress_of P b) (Take n f)
+    ≡ progress_next (left_given (taken_by b) P) (progress_of P b) (Take n f)
 taken-push P b n f = counted P b (Take n f) _ (record {
   passes = plus-none (count_by is_pass b);
   asked = (None, refl, plus-none (length (asked_by b)));
@@ -121,7 +119,7 @@ taken-push P b n f = counted P b (Take n f) _ (record {
 })
 
 -- an entry that counts nothing
-quiet-push : (P : List (Option (List ℕ))) (b : List RingEntry) (e : RingEntry) → is_pass e ≡ false
+quiet-push : (P : List Bool) (b : List RingEntry) (e : RingEntry) → is_pass e ≡ false
     → asked_of e ≡ None → replied_of e ≡ None → taken_of e ≡ None → says_done e ≡ false
     → progress_of P (b ++ e ∷ []) ≡ progress_of P b
 quiet-push P b e no-pass no-ask no-reply no-take no-done =
@@ -135,9 +133,9 @@ quiet-push P b e no-pass no-ask no-reply no-take no-done =
           ∙ or-none (list_any says_done b);
     })
 
-pub progress-push : (P : List (Option (List ℕ))) (b : List RingEntry) (e : RingEntry)
+pub progress-push : (P : List Bool) (b : List RingEntry) (e : RingEntry)
     → progress_of P (b ++ e ∷ [])
-    ≡ progress_next (left_plain (taken_by b) P) (progress_of P b) e
+    ≡ progress_next (left_given (taken_by b) P) (progress_of P b) e
 progress-push P b (Post n f) = posted-push P b n f f.kind refl
 progress-push P b (Send n heard) = quiet-push P b (Send n heard) refl refl refl refl refl
 progress-push P b (Take n f) = taken-push P b n f
@@ -155,12 +153,12 @@ progress-push P b (Leave n cause) = quiet-push P b (Leave n cause) refl refl ref
 progress-push P b (Join n) = quiet-push P b (Join n) refl refl refl refl refl
 
 -- what is left of the answers behind one entry more
-pub left-push : (P : List (Option (List ℕ))) (b : List RingEntry) (e : RingEntry)
-    → left_plain (taken_by (b ++ e ∷ [])) P
-    ≡ left_plain (cons_option (taken_of e) []) (left_plain (taken_by b) P)
+pub left-push : (P : List Bool) (b : List RingEntry) (e : RingEntry)
+    → left_given (taken_by (b ++ e ∷ [])) P
+    ≡ left_given (cons_option (taken_of e) []) (left_given (taken_by b) P)
 left-push P b e =
-    ap (λ (ts : List Taken). left_plain ts P) (filter_map-push taken_of b e)
-    ∙ left_plain-append (taken_by b) (cons_option (taken_of e) []) P
+    ap (λ (ts : List Taken). left_given ts P) (filter_map-push taken_of b e)
+    ∙ left_given-append (taken_by b) (cons_option (taken_of e) []) P
 
 -- counts of few entries can go on
 size-few : {Y : Type 0} (f : RingEntry → Option Y) (b : List RingEntry)
@@ -179,7 +177,7 @@ count-few (e ∷ es) =
     let c = count-cons is_pass e es in let one = at-most-one (is_pass e) in
     let low = count-few es in omega (arith, c, one, low)
 
-pub few-short : (P : List (Option (List ℕ))) (b : List RingEntry) → length b + 1 < 2 ^ 64
+pub few-short : (P : List Bool) (b : List RingEntry) → length b + 1 < 2 ^ 64
     → IsShort (progress_of P b)
 few-short P b low =
     let passes = count-few b in
@@ -194,7 +192,7 @@ few-short P b low =
       due = omega arith;
     }
 
-pub progress-short : (P : List (Option (List ℕ))) (ring : List RingEntry) (places : List ℕ)
+pub progress-short : (P : List Bool) (ring : List RingEntry) (places : List ℕ)
     (i : ℕ) (p : Progress) → p ≡ progress_of P (picked ring (take i places)) → i + 1 < 2 ^ 64
     → IsShort p
 progress-short P ring places i p is low =

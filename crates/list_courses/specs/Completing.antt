@@ -1,6 +1,6 @@
 -- What a node has done on the ring so far, and which entries fit that. This project's own.
 use Rattle.std.specs.Prelude.{◌≡◌, ◌+◌, ◌<◌, ◌≤◌, ◌^◌, ℕ, Bool, true, false, ◌||◌, List, []}
-use Rattle.std.specs.Prelude.{length, count_by, slice_get, Option, Some}
+use Rattle.std.specs.Prelude.{◌∷◌, length, map, count_by, is_some, slice_get, Option, Some, None}
 use Rattle.std.specs.List.{cons_option, list_any}
 use Rattle.plant_types.specs.declared.net.HostAsk.{HostAsk}
 use Rattle.plant_types.specs.declared.net.HostPlan.{HostPlan}
@@ -10,9 +10,9 @@ use Rattle.ring_core.specs.declared.entry.LeaveCause.{LeaveCause}
 use Rattle.ring_core.specs.declared.entry.LeaveCause.TheVariants.{Ended, Spent, Down}
 use Rattle.ring_core.specs.declared.entry.RingEntry.{RingEntry}
 use Rattle.ring_core.specs.declared.entry.RingEntry.TheVariants.{Leave, Pass, Post, Take}
-use Rattle.tied_lists.specs.Items.{asked_by, latest_down, replied_by, taken_by, taken_in}
+use Rattle.tied_lists.specs.Items.{Answered, ForStats, Plain, Taken, asked_by, latest_down}
+use Rattle.tied_lists.specs.Items.{replied_by, replies_in, taken_by, taken_in}
 use Rattle.joint_history.specs.Complete.{IsOfDone, StandsIn, is_pass}
-use Rattle.station_laws.specs.Taking.{due_count}
 use Rattle.list_courses.specs.declared.completing.Progress.{Progress}
 
 -- A Pass that says done.
@@ -34,13 +34,50 @@ is_ended _ = false
 abbrev pub HasNoticed : ℕ → List RingEntry → Type 0
 HasNoticed fails b = list_any is_ended b ≡ true → fails ≡ latest_down b
 
--- What a node has done by these entries, whose station gives such replies.
-abbrev pub progress_of : List (Option (List ℕ)) → List RingEntry → Progress
-progress_of answers b = record {
+-- Whether each answer of a station has a reply: one to a request that came without power has none.
+abbrev pub given_in : List Answered → List Bool
+given_in answers = map is_some (replies_in answers)
+
+-- The same of an answer, if there is one.
+abbrev pub given_if : Option Answered → List Bool
+given_if answer = given_in (cons_option answer [])
+
+-- Whether the first of some answers has a reply, and the others.
+abbrev pub first_given : List Bool → Option Bool
+first_given [] = None
+first_given (given ∷ rest) = Some given
+
+abbrev pub rest_given : List Bool → List Bool
+rest_given [] = []
+rest_given (given ∷ rest) = rest
+
+-- How many Replies an answer of a station makes due: none where it has no reply, and one that nobody
+-- can post where the answer is missing.
+abbrev pub one_due : Option Bool → ℕ
+one_due None = 1
+one_due (Some false) = 0
+one_due (Some true) = 1
+
+-- How many Replies are due for some requests, where the port answers each of its own.
+abbrev pub due_count : List Taken → List Bool → ℕ
+due_count [] given = 0
+due_count (Plain id rest pdu ∷ ts) given =
+    one_due (first_given given) + due_count ts (rest_given given)
+due_count (ForStats id pdu ∷ ts) given = 1 + due_count ts given
+
+-- What is left of the answers of a station behind those to some requests.
+abbrev pub left_given : List Taken → List Bool → List Bool
+left_given [] given = given
+left_given (Plain id rest pdu ∷ ts) given = left_given ts (rest_given given)
+left_given (ForStats id pdu ∷ ts) given = left_given ts given
+
+-- What a node has done by these entries, whose station's answers have replies or not.
+abbrev pub progress_of : List Bool → List RingEntry → Progress
+progress_of given b = record {
   passes = count_by is_pass b;
   asked = length (asked_by b);
   replied = length (replied_by b);
-  due = due_count (taken_by b) answers;
+  due = due_count (taken_by b) given;
   is_done = list_any says_done b;
 }
 
@@ -57,9 +94,9 @@ taken_next p due = record p { due = p.due + due }
 abbrev pub passed_next : Progress → Bool → Progress
 passed_next p done = record p { passes = p.passes + 1; is_done = p.is_done || done }
 
--- What a node has done with one more entry, where these replies are left. Every other entry counts
+-- What a node has done with one more entry, where these answers are left. Every other entry counts
 -- nothing.
-abbrev pub progress_next : List (Option (List ℕ)) → Progress → RingEntry → Progress
+abbrev pub progress_next : List Bool → Progress → RingEntry → Progress
 progress_next left p (Post n f) = posted_next p f.kind
 progress_next left p (Take n f) =
     taken_next p (due_count (cons_option (taken_in f.kind f) []) left)
@@ -99,9 +136,10 @@ HostFits plan p (Post n f) = AskFits plan p f.kind
 HostFits plan p (Pass n done words) = done ≡ true → p.asked ≡ length plan.requests
 HostFits plan p _ = Unit {0}
 
--- An entry fits what its node has done by the entries before it, whose station gives such replies.
-abbrev pub NodeAllows : List (Option (List ℕ)) → List RingEntry → RingEntry → Type 0
-NodeAllows answers before e = NodeFits (progress_of answers before) e
+-- An entry fits what its node has done by the entries before it, whose station's answers have
+-- replies or not.
+abbrev pub NodeAllows : List Bool → List RingEntry → RingEntry → Type 0
+NodeAllows given before e = NodeFits (progress_of given before) e
 
 -- An entry fits what its host has done by the entries before it, whatever is due.
 abbrev pub HostAllows : HostPlan → List RingEntry → RingEntry → Type 0

@@ -1,19 +1,20 @@
 //! Whether a node was done on the ring.
-ghost use Rattle.std.specs.Prelude.{◌≡◌, ◌↔◌, ◌≤◌, ℕ, List, Option, [], IfOk, IsTrue};
+ghost use Rattle.std.specs.Prelude.{◌≡◌, ◌↔◌, ◌≤◌, Bool, List, [], IfOk, IsTrue};
 ghost use Rattle.std.specs.List.{list_any};
 ghost use Rattle.joint_history.specs.Complete.{IsOfDone};
-ghost use Rattle.tied_lists.specs.Items.{first_reply, last_from, rest_of};
+ghost use Rattle.tied_lists.specs.Items.{last_from};
 ghost use Rattle.list_courses.specs.Completing.{EachAllows, HasNoticed, HostAllows, HostFits};
-ghost use Rattle.list_courses.specs.Completing.{IsInHold, IsShort, NodeAllows, NodeFits, is_ended};
+ghost use Rattle.list_courses.specs.Completing.{IsInHold, IsShort, NodeAllows, NodeFits, due_count};
+ghost use Rattle.list_courses.specs.Completing.{first_given, is_ended, left_given, one_due};
 ghost use Rattle.list_courses.specs.Completing.{passed_next, posted_next, progress_next};
-ghost use Rattle.list_courses.specs.Completing.{progress_of, taken_next};
+ghost use Rattle.list_courses.specs.Completing.{progress_of, rest_given, taken_next};
 ghost use Rattle.station_laws.specs.Picked.{AreWithin, picked};
-ghost use Rattle.station_laws.specs.Taking.{due_count, entry_taken, frame_taken, left_plain};
-ghost use Rattle.station_laws.specs.Taking.{one_due};
+ghost use Rattle.station_laws.specs.Taking.{entry_taken, frame_taken};
 
+use crate::replying::Given;
 use plant_types::HostPlan;
 use ring_core::{Frame, FrameKind, LeaveCause, RingEntry};
-use station_laws::{Replies, downs};
+use station_laws::downs;
 use std::alloc::{AllocError, Global};
 use std::collections::VecDeque;
 
@@ -30,7 +31,7 @@ pub(crate) struct Progress {
 }
 
 fn no_progress() -> Progress
-    ensures { (answers : List (Option (List ℕ))) → result ≡ progress_of answers [] }
+    ensures { (given : List Bool) → result ≡ progress_of given [] }
 {
     Progress {
         passes: 0,
@@ -53,20 +54,20 @@ fn posted(mut progress: Progress, kind: FrameKind) -> Progress
 }
 
 /// How many Replies the next answer of a station makes due.
-fn due_next(answers: &mut Replies) -> u64
-    ensures due { result ≡ one_due (first_reply answers.old.items) }
-    ensures left { answers.new.items ≡ rest_of answers.old.items }
+fn due_next(given: &mut Given) -> u64
+    ensures due { result ≡ one_due (first_given given.old.items) }
+    ensures left { given.new.items ≡ rest_given given.old.items }
 {
-    match answers.pop_front() {
-        Some(None) => 0,
+    match given.pop_front() {
+        Some(false) => 0,
         _ => 1,
     }
 }
 
 /// How many Replies a Request makes due: one where it is for the port.
-fn due_for(answers: &mut Replies, frame: &Frame) -> u64
-    ensures due { result ≡ due_count (frame_taken frame.now) answers.old.items }
-    ensures left { answers.new.items ≡ left_plain (frame_taken frame.now) answers.old.items }
+fn due_for(given: &mut Given, frame: &Frame) -> u64
+    ensures due { result ≡ due_count (frame_taken frame.now) given.old.items }
+    ensures left { given.new.items ≡ left_given (frame_taken frame.now) given.old.items }
 {
     match frame.kind {
         FrameKind::Reply => 0,
@@ -74,7 +75,7 @@ fn due_for(answers: &mut Replies, frame: &Frame) -> u64
             if frame.is_for_stats() {
                 1
             } else {
-                due_next(answers)
+                due_next(given)
             }
         }
     }
@@ -99,15 +100,14 @@ fn took(mut progress: Progress, due: u64) -> Progress
 }
 
 /// What a node has done behind an entry, with these answers left before and behind it.
-fn next(progress: Progress, answers: &mut Replies, entry: &RingEntry) -> Progress
+fn next(progress: Progress, given: &mut Given, entry: &RingEntry) -> Progress
     requires { IsShort progress }
-    ensures next { result ≡ progress_next answers.old.items progress entry.now }
-    ensures left { answers.new.items
-        ≡ left_plain (entry_taken entry.now) answers.old.items }
+    ensures next { result ≡ progress_next given.old.items progress entry.now }
+    ensures left { given.new.items ≡ left_given (entry_taken entry.now) given.old.items }
 {
     match entry {
         RingEntry::Post { frame, .. } => posted(progress, frame.kind),
-        RingEntry::Take { frame, .. } => took(progress, due_for(answers, frame)),
+        RingEntry::Take { frame, .. } => took(progress, due_for(given, frame)),
         RingEntry::Pass { done, .. } => passed(progress, *done),
         _ => progress,
     }
@@ -140,10 +140,10 @@ fn fits(progress: Progress, entry: &RingEntry) -> bool
     }
 }
 
-/// Whether all entries of a node fit, whose station answered so.
-pub fn all_fit(ring: &[RingEntry], places: &[usize], mut answers: Replies) -> bool
+/// Whether all entries of a node fit, whose station's answers have replies or not.
+pub fn all_fit(ring: &[RingEntry], places: &[usize], mut given: Given) -> bool
     requires { AreWithin ring.now places.now }
-    ensures { IsTrue result ↔ EachAllows (NodeAllows answers.items) (picked ring.now places.now) }
+    ensures { IsTrue result ↔ EachAllows (NodeAllows given.items) (picked ring.now places.now) }
 {
     let mut progress = no_progress();
     for place in places {
@@ -151,7 +151,7 @@ pub fn all_fit(ring: &[RingEntry], places: &[usize], mut answers: Replies) -> bo
         if !fits(progress, entry) {
             return false;
         }
-        progress = next(progress, &mut answers, entry);
+        progress = next(progress, &mut given, entry);
     }
     true
 }
@@ -245,13 +245,13 @@ pub fn all_fit_host(alloc: Global, plan: &HostPlan, ring: &[RingEntry], places: 
     ensures { IsTrue result ↔ EachAllows (HostAllows plan.now) (picked ring.now places.now) }
 {
     let mut progress = no_progress();
-    let mut answers = VecDeque::new(alloc);
+    let mut given = VecDeque::new(alloc);
     for place in places {
         let entry = &ring[*place];
         if !host_fits(plan, progress, entry) {
             return false;
         }
-        progress = next(progress, &mut answers, entry);
+        progress = next(progress, &mut given, entry);
     }
     true
 }

@@ -1,12 +1,13 @@
 //! Whether an end of a bridge is gone in its bridge's list, and left its ring quietly.
 ghost use Rattle.std.specs.Prelude.{◌≡◌, ◌↔◌, Contains, IsTrue};
 ghost use Rattle.joint_history.specs.Complete.{LeavesQuietly};
-ghost use Rattle.list_courses.specs.Leaving.{MayLeave, is_quiet, row_next, row_noted, row_passed};
+ghost use Rattle.list_courses.specs.Leaving.{MayFollow, is_quiet, row_left, row_next, row_noted};
+ghost use Rattle.list_courses.specs.Leaving.{row_passed};
 ghost use Rattle.station_laws.specs.Picked.{AreWithin, picked};
 
 use crate::completing::is_ended;
 use bridge_relay::BridgeEntry;
-use ring_core::{FrameKind, RingEntry};
+use ring_core::{FrameKind, LeaveCause, RingEntry};
 
 /// The unbroken row of done Passes that stands last, and whether its node was quiet since the
 /// first of them.
@@ -16,6 +17,8 @@ enum Row {
     Broken,
     Quiet,
     Loud,
+    /// Its node left behind a quiet one, as all was done.
+    Left,
 }
 
 /// Whether a node asks nothing and gives nothing up by an entry.
@@ -35,13 +38,24 @@ fn row_passed(row: Row, done: bool) -> Row
     ensures { result ≡ row_passed row done }
 {
     match (row, done) {
+        (Row::Left, _) => Row::Left,
         (_, false) => Row::Broken,
         (Row::Broken, true) => Row::Quiet,
         (_, true) => row,
     }
 }
 
-/// The row behind an entry that is no Pass.
+/// The row behind a Leave as all was done.
+fn row_left(row: Row) -> Row
+    ensures { result ≡ row_left row }
+{
+    match row {
+        Row::Quiet => Row::Left,
+        _ => row,
+    }
+}
+
+/// The row behind any other entry.
 fn row_noted(row: Row, quiet: bool) -> Row
     ensures { result ≡ row_noted row quiet }
 {
@@ -57,22 +71,28 @@ fn row_next(row: Row, entry: &RingEntry) -> Row
 {
     match entry {
         RingEntry::Pass { done, .. } => row_passed(row, *done),
+        RingEntry::Leave {
+            cause: LeaveCause::Ended,
+            ..
+        } => row_left(row),
         _ => row_noted(row, is_quiet(entry)),
     }
 }
 
-/// Whether an entry fits the row before it: where the node leaves as all was done, that is quiet.
-fn may_leave(row: Row, entry: &RingEntry) -> bool
-    ensures { IsTrue result ↔ MayLeave row entry.now }
+/// Whether an entry may follow on a row: behind a loud one no Leave as all was done, and behind
+/// such a Leave what is quiet.
+fn may_follow(row: Row, entry: &RingEntry) -> bool
+    ensures { IsTrue result ↔ MayFollow row entry.now }
 {
     match row {
         Row::Loud => !is_ended(entry),
+        Row::Left => is_quiet(entry),
         Row::Broken | Row::Quiet => true,
     }
 }
 
 /// Whether a node was quiet, where it left as all was done, from the first of the done Passes on
-/// that stand in an unbroken row before.
+/// that stand in an unbroken row before, and stayed so behind its Leave.
 pub fn leaves_quietly(ring: &[RingEntry], places: &[usize]) -> bool
     requires { AreWithin ring.now places.now }
     ensures { IsTrue result ↔ LeavesQuietly (picked ring.now places.now) }
@@ -80,7 +100,7 @@ pub fn leaves_quietly(ring: &[RingEntry], places: &[usize]) -> bool
     let mut row = Row::Broken;
     for place in places {
         let entry = &ring[*place];
-        if !may_leave(row, entry) {
+        if !may_follow(row, entry) {
             return false;
         }
         row = row_next(row, entry);

@@ -5,6 +5,7 @@ mod completing;
 mod ended;
 mod following;
 mod leaving;
+mod replying;
 mod ring_following;
 mod standing;
 
@@ -14,5 +15,6 @@ pub use following::{
     ControllerCourse, Course, controller_course, count_scans, follow_bridge, host_course,
 };
 pub use leaving::{has_gone, leaves_quietly};
+pub use replying::{Given, answers_given, host_answers_given};
 pub use ring_following::follow_ring;
 pub use standing::status_by;

@@ -1,8 +1,9 @@
--- What a node had seen of its ring has all that it noted on any.
+-- What a node had seen of its ring has all that it noted on any, and so on its own.
 use Rattle.std.proofs.Common.{◌≡◌, ℕ, ◌<◌, ◌++◌, List, [], Some, sym, ap, subst, ◌∙◌, arith}
 use Rattle.std.specs.List.{AllZip, Contains}
 use Rattle.std.proofs.lemmas.List.Elements.{All-contains}
 use Rattle.turn_gate.specs.Known.{Owns, PassFacts, made_by}
+use Rattle.plant_types.specs.declared.net.NetPlan.{NetPlan}
 use Rattle.plant_types.specs.declared.plan.Plant.{Plant}
 use Rattle.plant_types.specs.Plans.{IsNode, IsPlant}
 use Rattle.ring_core.specs.declared.entry.RingEntry.{RingEntry}
@@ -11,7 +12,7 @@ use Rattle.ring_core.specs.Words.{maker}
 use Rattle.tied_lists.specs.Own.{own}
 use Rattle.joint_history.specs.declared.joint.RingLog.{RingLog}
 use Rattle.joint_history.specs.JointLaws.{IsLegalRingLog}
-use Rattle.joint_history.specs.Nets.{entries_of_rings, entries_on}
+use Rattle.joint_history.specs.Nets.{entries_of_rings, entries_on, own_ring}
 use Rattle.net_laws.proofs.On.{IsOn}
 use Rattle.net_laws.proofs.Rings.{own-on}
 use Rattle.live_run.specs.Closing.{AllClosed}
@@ -52,15 +53,24 @@ own-seen gates purses rings network node Holds b c =
     b.unused b.brought.own_is
     ∙ ap (own b.side.number) (sym c.entries))
 
--- and so all that it noted on any
+-- what a node had seen has all that it noted: on any ring, and on that of its own network
+pub record HasAllOwn (plant : Plant) (rings : List RingLog) (node : ℕ) (seen : List RingEntry)
+    : Type 0 where
+  pub on_rings : own node seen ≡ own node (entries_of_rings rings)
+  pub on_own : own node seen ≡ own node (own_ring plant rings node)
+
 pub noted-own : (plant : Plant) (gates : List RingGate) (purses : List Purse)
     (rings : List RingLog) → IsPlant plant → AllClosed gates purses rings
     → AllZip IsLegalRingLog plant.nets rings → (network node : ℕ)
     (Holds : List RingEntry → Type 0) → IsOn plant network node
-    → (b : IsBrought gates purses network node Holds)
-    → own node b.side.seen ≡ own node (entries_of_rings rings)
+    → (b : IsBrought gates purses network node Holds) → HasAllOwn plant rings node b.side.seen
 noted-own plant gates purses rings sound all legal network node Holds on b =
+    let there : own node b.side.seen ≡ own node (entries_on on.net.number rings) =
     own-seen gates purses rings network node Holds b
     (closed-at network b.side.gate gates purses rings all b.home)
-    ∙ (ap (λ (k : ℕ). own node (entries_on k rings)) (sym on.number)
-    ∙ sym (own-on plant rings sound legal on.net node on.there on.member))
+    ∙ ap (λ (k : ℕ). own node (entries_on k rings)) (sym on.number) in
+    record {
+      on_rings = there ∙ sym (own-on plant rings sound legal on.net node on.there on.member);
+      on_own = there
+          ∙ ap (λ (net : NetPlan). own node (entries_on net.number rings)) (sym on.is);
+    }

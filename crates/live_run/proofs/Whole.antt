@@ -18,7 +18,7 @@ use Rattle.joint_history.specs.Complete.{IsCompleteLog}
 use Rattle.joint_history.specs.JointLaws.{IsJoint, IsLegalBridgeLog, IsLegalHostLog, IsLegalJoint}
 use Rattle.joint_history.specs.JointLaws.{IsLegalLog, IsLegalRingLog, IsTiedBridge}
 use Rattle.joint_history.specs.JointLaws.{IsTiedController, IsTiedHost}
-use Rattle.joint_history.specs.Nets.{entries_of_rings, noted_on_rings}
+use Rattle.joint_history.specs.Nets.{noted_on_rings}
 use Rattle.entry_causes.specs.Joint.{IsControllerInTime, IsHostInTime, StationsAreInTime}
 use Rattle.turn_laws.specs.KeepsOn.{NoneSpent}
 use Rattle.turn_laws.specs.Laws.{ControllersComplete, HostsComplete}
@@ -48,19 +48,19 @@ pub record Closes (plant : Plant) (scans : ℕ) (joint : Joint) : Type 0 where
 
 -- all that is told of stations, of bridges and of rings
 pub record AllEnded (plant : Plant) (scans : ℕ) (joint : Joint) : Type 0 where
-  pub controllers : AllZip (ControllerEnded plant scans (noted_on_rings joint)) plant.controllers
+  pub controllers : AllZip (ControllerEnded plant scans joint.rings) plant.controllers
       joint.controllers
-  pub hosts : AllZip (HostEnded plant (noted_on_rings joint)) plant.hosts joint.hosts
-  pub bridges : AllZip (BridgeEnded plant (noted_on_rings joint)) plant.bridges joint.bridges
+  pub hosts : AllZip (HostEnded plant joint.rings) plant.hosts joint.hosts
+  pub bridges : AllZip (BridgeEnded plant joint.rings) plant.bridges joint.bridges
   pub rings : AllZip IsLegalRingLog plant.nets joint.rings
 
 closes : (plant : Plant) (scans : ℕ) (joint : Joint) → IsPlant plant → AllEnded plant scans joint
     → Closes plant scans joint
 closes plant scans joint sound all =
     let noted = noted_on_rings joint in
-    let ran = ControllerEnded plant scans noted in
-    let served = HostEnded plant noted in
-    let crossed = BridgeEnded plant noted in
+    let ran = ControllerEnded plant scans joint.rings in
+    let served = HostEnded plant joint.rings in
+    let crossed = BridgeEnded plant joint.rings in
     record {
       legal = record {
         controllers = zip-weaker ran (IsLegalLog plant scans) plant.controllers
@@ -86,11 +86,11 @@ closes plant scans joint sound all =
             joint.hosts all.hosts;
       };
       complete = record {
-        controllers = zip-weaker ran (IsCompleteLog plant scans noted) plant.controllers
+        controllers = zip-weaker ran (IsCompleteLog plant scans joint.rings) plant.controllers
             joint.controllers (λ a b e. e.complete) all.controllers;
-        hosts = zip-weaker served (IsCompleteHostLog plant noted) plant.hosts joint.hosts
+        hosts = zip-weaker served (IsCompleteHostLog plant joint.rings) plant.hosts joint.hosts
             (λ a b e. e.complete) all.hosts;
-        bridges = zip-weaker crossed (IsCompleteBridgeLog plant noted) plant.bridges
+        bridges = zip-weaker crossed (IsCompleteBridgeLog plant joint.rings) plant.bridges
             joint.bridges (λ a b e. e.complete) all.bridges;
       };
       bridges_in_time = zip-second crossed (IsBridgeInTime noted) (λ a b e. e.timely)
@@ -108,16 +108,15 @@ module _ (law : ControllersComplete) (host_law : HostsComplete) (plant : Plant) 
   ran-ended : (logs : List NotedLog)
       → AreBrought gates purses (λ (p : ControllerPlan). p.network)
       (λ (p : ControllerPlan). p.node) (CameNoted plant scans) plant.controllers logs
-      → AllZip (ControllerEnded plant scans (entries_of_rings rings)) plant.controllers
+      → AllZip (ControllerEnded plant scans rings) plant.controllers
       (map log_part logs)
   ran-ended logs all =
-      let noted = entries_of_rings rings in
-      zip-map (ControllerEnded plant scans noted) log_part plant.controllers logs
+      zip-map (ControllerEnded plant scans rings) log_part plant.controllers logs
       (zip-with (λ (p : ControllerPlan). IsOn plant p.network p.node)
       (λ (p : ControllerPlan) (l : NotedLog).
       IsBrought gates purses p.network p.node (CameNoted plant scans p l))
-      (λ (p : ControllerPlan) (l : NotedLog). ControllerEnded plant scans noted p l.log)
-      (λ p l on b. controller-ended law plant scans p l.log b.side.seen noted
+      (λ (p : ControllerPlan) (l : NotedLog). ControllerEnded plant scans rings p l.log)
+      (λ p l on b. controller-ended law plant scans p l.log b.side.seen rings
       (low-node plant p.network p.node on)
       (noted-own plant gates purses rings sound closed legal p.network p.node
       (CameNoted plant scans p l) on b) b.holds.came)
@@ -128,14 +127,13 @@ module _ (law : ControllersComplete) (host_law : HostsComplete) (plant : Plant) 
   served-ended : (logs : List HostLog)
       → AreBrought gates purses (λ (p : HostPlan). p.network) (λ (p : HostPlan). p.node)
       (HostCameToEnd plant) plant.hosts logs
-      → AllZip (HostEnded plant (entries_of_rings rings)) plant.hosts logs
+      → AllZip (HostEnded plant rings) plant.hosts logs
   served-ended logs all =
-      let noted = entries_of_rings rings in
       zip-with (λ (p : HostPlan). IsOn plant p.network p.node)
       (λ (p : HostPlan) (l : HostLog).
       IsBrought gates purses p.network p.node (HostCameToEnd plant p l))
-      (HostEnded plant noted)
-      (λ p l on b. host-ended host_law plant p l b.side.seen noted
+      (HostEnded plant rings)
+      (λ p l on b. host-ended host_law plant p l b.side.seen rings
       (low-node plant p.network p.node on)
       (noted-own plant gates purses rings sound closed legal p.network p.node
       (HostCameToEnd plant p l) on b) b.holds)
@@ -146,22 +144,22 @@ module _ (law : ControllersComplete) (host_law : HostsComplete) (plant : Plant) 
   brought-end : (plan : BridgePlan) (log : BridgeLog) (network side : ℕ) → IsBridgePlan plan
       → IsOn plant network side
       → IsBrought gates purses network side (EndCameToEnd plant plan side log.entries)
-      → EndEnded plant (entries_of_rings rings) log side
+      → EndEnded plant rings log side
   brought-end plan log network side good on b =
-      end-ended plant plan log side b.side.seen (entries_of_rings rings) good
+      end-ended plant plan log side b.side.seen rings good
       (low-node plant network side on)
       (noted-own plant gates purses rings sound closed legal network side
       (EndCameToEnd plant plan side log.entries) on b) b.holds
 
   crossed-ended : (logs : List BridgeLog)
       → AllZip (IsBridgeBrought plant gates purses) plant.bridges logs
-      → AllZip (BridgeEnded plant (entries_of_rings rings)) plant.bridges logs
+      → AllZip (BridgeEnded plant rings) plant.bridges logs
   crossed-ended logs all =
       zip-with (Contains plant.bridges) (IsBridgeBrought plant gates purses)
-      (BridgeEnded plant (entries_of_rings rings))
+      (BridgeEnded plant rings)
       (λ p l there b.
       let good = (All-contains (IsBridgeOf plant) plant.bridges p sound.bridges there).plan in
-      bridge-ended plant (entries_of_rings rings) p l b.legal
+      bridge-ended plant rings p l b.legal
       (brought-end p l p.left_net p.left good (left-on plant p sound there) b.left)
       (brought-end p l p.right_net p.right good (right-on plant p sound there) b.right))
       plant.bridges logs (All-contains_itself plant.bridges) all

@@ -17,7 +17,7 @@ use Rattle.tied_lists.specs.Waits.{IsOnRing, has_left, status_at}
 use Rattle.comm_port.specs.HostTurns.{HostWorkerIs}
 use Rattle.comm_port.specs.Sides.{RamSideIs, RingSideIs, MayWrite}
 use Rattle.comm_port.specs.Turns.{IsNoBridge}
-use Rattle.comm_port.specs.Worker.{WorkerIs, new_worker}
+use Rattle.comm_port.specs.Worker.{IsMemberWorker, WorkerIs, new_worker}
 use Rattle.comm_port.proofs.HostTurnLaws.{host-ties-new}
 use Rattle.comm_port.proofs.Standings.{standing-new}
 use Rattle.turn_laws.proofs.HostOthers.{host-starts}
@@ -95,21 +95,21 @@ attends-start plant plan w host side ring u host_is worker_is =
 controller-talks : {P Q : Type 0} (n : ℕ) (net : NetPlan) (ram : RamSideIs P) (side : RingSideIs Q)
     → ram.fixed.plan.node ≡ n → IsNetPlan net → IsMember net n → IsNoBridge net n
     → side.net ≡ net → side.writer ≡ Some n
-    → TalksOn (new_worker n net false) ram [] side [] There
+    → TalksOn (new_worker n false) ram [] side [] There
 controller-talks n net ram side node sound member station same writer =
     let on : IsOnRing side.net [] n = subst (λ m. IsOnRing m [] n) (sym same)
     (on-start net n sound member) in
+    let there : IsMemberWorker side.net n = record {
+      members = on.members;
+      member = on.member;
+      answer = subst (λ m. 0 < m.answer) (sym same)
+          (let low = sound.numbers.answer.from in omega (arith, low));
+    } in
     record {
-      member = record {
-        members = on.members;
-        member = on.member;
-        answer = subst (λ m. 0 < m.answer) (sym same)
-            (let low = sound.numbers.answer.from in omega (arith, low));
-      };
+      member = there;
       no_bridge = subst (λ (m : NetPlan). IsNoBridge m n) (sym same) station;
       budget = refl;
-      standing = standing-new n net false ram [] side node same (serves-as side.writer n writer)
-          refl;
+      standing = standing-new n false ram [] side node there (serves-as side.writer n writer) refl;
       stands_at = subst (λ m. has_left (status_at m [] n) ≡ false) (sym same)
           (ap has_left (member-there net n (low-member net n sound member) member));
       unspent = λ k d within. absurd (omega (arith, within));
@@ -123,7 +123,7 @@ controller-talks n net ram side node sound member station same writer =
 pub talks-start : {P Q : Type 0} (plant : Plant) (n : ℕ) (w : WorkerIs) (ram : RamSideIs P)
     (known : List Entry) (side : RingSideIs Q) (ring : List RingEntry)
     → ram.fixed.plan.node ≡ n → known ≡ [] → IsUnused plant n side ring
-    → w ≡ new_worker n (net_of plant n) false → TalksOn w ram known side ring There
+    → w ≡ new_worker n false → TalksOn w ram known side ring There
 talks-start plant n w ram known side ring node none u worker_is =
     let net = net_of plant n in
     let e = u.unused in

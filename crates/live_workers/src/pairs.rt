@@ -104,8 +104,7 @@ pub(crate) fn run_controller<
 {
     let plant = run.plant;
     let controller = Controller::new(run.alloc, plan, plant.scan_time, plant.watchdog, run.scans)?;
-    let net = plant.own_net(plan.node);
-    let mut worker = CommWorker::new(run.alloc, plan.node, net, false)?;
+    let mut worker = CommWorker::new(run.alloc, plan.node, false)?;
     let (gate, zero) = Gate::new(run.alloc, RamCell::new(controller))?;
     let (zero, done) = through_gate(run, &gate, zero, &mut worker, ring, plan.node);
     let controller = gate.close(zero).into_inner();

@@ -1,24 +1,21 @@
 -- The hops of a route, as far as the tests of a start tell.
 use Rattle.std.proofs.Common.{◌≡◌, ◌≤◌, ◌<◌, ◌+◌, ℕ, Bool, true, false, cond, List, [], ◌∷◌}
-use Rattle.std.proofs.Common.{length, take, drop, get_or, Some, None, unwrap_or, refl, sym, ap, ap₂}
+use Rattle.std.proofs.Common.{length, take, drop, get_or, Some, None, unwrap_or, refl, sym, ap}
 use Rattle.std.proofs.Common.{◌∙◌, subst, arith}
-use Rattle.std.specs.Prelude.{◌==◌, ◌&&◌, ◌||◌, not, nat_le, nat_lt, min}
+use Rattle.std.specs.Prelude.{◌==◌, ◌||◌, not, nat_le, nat_lt, min}
 use Rattle.std.specs.List.{All, list_any, list_all, before_first, after_first, position}
 use Rattle.std.specs.List.{position_or_len}
 use Rattle.std.proofs.lemmas.Bool.{and_parts, or_parts, not-false, leb-true, ltb-false, eqb-false}
-use Rattle.std.proofs.lemmas.Bool.{false≢true, leb-false}
+use Rattle.std.proofs.lemmas.Bool.{leb-false}
 use Rattle.std.proofs.lemmas.List.{drop_all, get_or-take}
-use Rattle.std.proofs.lemmas.List.Elements.{All-nil, All-cons, All-head, All-tail, All-weaker}
+use Rattle.std.proofs.lemmas.List.Elements.{All-nil, All-cons, All-head, All-tail}
 use Rattle.std.proofs.lemmas.List.Elements.{All-get_or}
 use Rattle.std.proofs.lemmas.List.Folds.{length-prefix_len}
 use Rattle.std.proofs.lemmas.List.Sums.{take_while-cons, prefix_len-le-length}
 use Rattle.plant_types.specs.Limits.{is_up_to, most_address}
 use Rattle.plant_types.specs.Plans.{IsNode, IsRouteFrom}
 use Rattle.mstr_block.specs.declared.control.Control.{Control}
-use Rattle.mstr_block.specs.declared.operation.Operation.{Operation}
-use Rattle.mstr_block.specs.Operations.{uses_network, reads_global, names_node}
-use Rattle.mstr_block.specs.Control.{has_bad_length, has_small_area, is_no_hop, has_bad_hops}
-use Rattle.mstr_block.specs.Control.{has_bad_route, route_of, AreLow, FitsStart}
+use Rattle.mstr_block.specs.Control.{is_no_hop, has_bad_hops, route_of, AreLow}
 
 -- numbers of which none is above the highest address
 all-low : (xs : List ℕ) → list_any (nat_lt most_address) xs ≡ false → AreLow xs
@@ -102,34 +99,6 @@ route-from routed own control good apart = record {
   other = λ same. eqb-false control.node own apart (ap (λ o. unwrap_or o 0) same);
   alone = λ unrouted. alone control (subst (λ r. GoodRoute r control) unrouted good);
 }
-
--- a test that is not asked
-asked : (a b : Bool) → (a && b) ≡ false → a ≡ true → b ≡ false
-asked true b good is = good
-asked false b good is = absurd (false≢true is)
-
-both : (a b : Bool) → a ≡ false → b ≡ false → (a || b) ≡ false
-both a b one other = ap₂ (λ x y. x || y) one other
-
--- what a start knows of its registers
-pub start-fits : (routed : Bool) (room : ℕ) (operation : Operation) (control : Control)
-    → has_bad_length operation control ≡ false → has_small_area room operation control ≡ false
-    → has_bad_route routed operation control ≡ false → FitsStart room operation control
-start-fits routed room operation control long area route =
-    let far = not (is_up_to most_address control.node) in
-    let parts = or_parts (names_node operation && far)
-    (uses_network operation && has_bad_hops routed control.hops) route in
-    let near = asked (names_node operation) far parts.0 in
-    let bad = has_bad_hops routed control.hops in
-    record {
-      long = long;
-      area = area;
-      node = λ named. (node-within control false (ap (λ b. b || false) (near named))).to;
-      route = λ uses. All-weaker IsNode (λ n. n ≤ most_address) (λ n is. is.to) (route_of control)
-          (route-nodes routed control (both far bad
-          (near (ap (λ b. b || reads_global operation) uses))
-          (asked (uses_network operation) bad parts.1 uses)));
-    }
 
 -- where the first hop that is 0 stands, or how many hops there are
 end_at : (end count : ℕ) (b : Bool) → nat_lt end count ≡ b → end ≤ count

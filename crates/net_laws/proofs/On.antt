@@ -266,31 +266,6 @@ right-on plant bridge is there =
 
 -- ---- ends of bridges, and stations
 
--- a bridge's left end is one of those of its left network
-pub left-end : (plant : Plant) (bridge : BridgePlan) (net : NetPlan) → IsPlant plant
-    → Contains plant.bridges bridge → Contains plant.nets net → bridge.left_net ≡ net.number
-    → Contains net.bridges bridge.left
-left-end plant bridge net is there stands same =
-    Contains-permutation (ends_on plant net.number) net.bridges bridge.left
-    (net-sound plant net is stands).bridges
-    (contains-flat (ends_of net.number) plant.bridges bridge bridge.left there
-    (left-of net.number bridge same))
-
--- so is its right end on its right one
-pub right-end : (plant : Plant) (bridge : BridgePlan) (net : NetPlan) → IsPlant plant
-    → Contains plant.bridges bridge → Contains plant.nets net → bridge.right_net ≡ net.number
-    → Contains net.bridges bridge.right
-right-end plant bridge net is there stands same =
-    Contains-permutation (ends_on plant net.number) net.bridges bridge.right
-    (net-sound plant net is stands).bridges
-    (contains-flat (ends_of net.number) plant.bridges bridge bridge.right there
-    (right-of net.number bridge same))
-
--- who stands among the ends of a network is an end of a bridge there
-pub end-is-bridge : (net : NetPlan) (side : ℕ) → Contains net.bridges side
-    → is_bridge net side ≡ true
-end-is-bridge net side there = there-any side net.bridges there
-
 -- the ends of a network stand among the plant's
 ends-few : (plant : Plant) (net : NetPlan) (n : ℕ) → IsPlant plant → Contains plant.nets net
     → times n net.bridges ≤ times n (end_nodes plant)

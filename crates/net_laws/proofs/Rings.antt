@@ -1,11 +1,11 @@
 -- The ring of a network, and what its members noted there.
 use Rattle.std.proofs.Common.{◌≡◌, ◌≢◌, ℕ, zero, suc, ◌<◌, ◌≤◌, ◌++◌, Bool, true, false, cond}
 use Rattle.std.proofs.Common.{List, [], ◌∷◌, map, refl, sym, ap, ◌∙◌, subst, ⊎_elim, arith}
-use Rattle.std.proofs.Common.{append-nil}
+use Rattle.std.proofs.Common.{◌⊎◌, append-nil, inl, inr}
 use Rattle.std.specs.Prelude.{Contains, Some, ◌==◌}
 use Rattle.std.specs.List.{All, AllByRecursion as Each, AllZip, count_by, find, sum_by}
 use Rattle.std.proofs.lemmas.Bool.{cases_Bool, cases_lt, eq-eqb, eqb-true, ne_eqb}
-use Rattle.std.proofs.lemmas.List.Elements.{All-contains, Contains-append_cases}
+use Rattle.std.proofs.lemmas.List.Elements.{Contains-append_cases}
 use Rattle.std.proofs.lemmas.List.Elements.{Contains-append_left, Contains-append_right}
 use Rattle.std.proofs.lemmas.List.Elements.{filter-append}
 use Rattle.std.proofs.lemmas.List.Sums.{sum_by-append, sum_by-cons}
@@ -15,14 +15,12 @@ use Rattle.plant_types.specs.Plans.{IsPlant, IsNetOf, net_numbers, net_of}
 use Rattle.ring_core.specs.declared.entry.RingEntry.{RingEntry}
 use Rattle.ring_core.specs.declared.entry.RingEntry.TheVariants.{Post, Send, Take, Local, GiveUp}
 use Rattle.ring_core.specs.declared.entry.RingEntry.TheVariants.{Pass, Leave, Join}
-use Rattle.ring_core.specs.declared.status.NodeStatus.TheVariants.{Away, Gone}
 use Rattle.ring_core.specs.Words.{maker}
 use Rattle.ring_core.specs.Machine.{addresses}
 use Rattle.ring_core.specs.Legal.{IsLawful, IsLegalRing, IsMember, IsRun}
 use Rattle.ring_laws.specs.Once.{IsRingHistory}
 use Rattle.ring_laws.proofs.Lists.{count-cons, count-contains}
 use Rattle.tied_lists.specs.Own.{is_of, own}
-use Rattle.tied_lists.specs.Waits.{status_at}
 use Rattle.joint_history.specs.declared.joint.RingLog.{RingLog}
 use Rattle.joint_history.specs.JointLaws.{IsLegalRingLog}
 use Rattle.joint_history.specs.Nets.{entries_of_rings, entries_on, entries_if}
@@ -31,7 +29,6 @@ use Rattle.net_laws.proofs.Sums.{once-distinct, sum-mapped, sum-there}
 use Rattle.net_laws.proofs.Members.{nets-differ, times}
 use Rattle.net_laws.proofs.On.{member_times, members-once, net-of-is, net-sound}
 use Rattle.net_laws.proofs.On.{there-times}
-use Rattle.net_laws.proofs.Standing.{away-same, gone-same}
 
 -- ---- one ring
 
@@ -258,7 +255,7 @@ number-once plant n is = once-distinct n (net_numbers plant) (nets-differ plant 
 
 -- ---- what a node noted
 
-own-cons : (n : ℕ) (ring : RingLog) (rings : List RingLog)
+pub own-cons : (n : ℕ) (ring : RingLog) (rings : List RingLog)
     → own n (entries_of_rings (ring ∷ rings))
     ≡ own n ring.entries ++ own n (entries_of_rings rings)
 own-cons n ring rings =
@@ -296,6 +293,24 @@ none-on n number (net ∷ nets) (ring ∷ rings) zip none =
     let is : false ≡ true = sym no' ∙ eq-eqb ring.network number same in absurd cc))
     ∙ none-on n number nets rings zip.1 (omega (arith, step, none)))
     (cases_Bool (ring.network == number))
+
+-- a node that is counted once at most noted something on one ring at most
+pub once-noted : (n : ℕ) (nets : List NetPlan) (before after : List RingLog) (ring : RingLog)
+    → member_times n nets ≤ 1 → AllZip IsLegalRingLog nets (before ++ ring ∷ after)
+    → (own n ring.entries ≡ []) ⊎ (own n (entries_of_rings after) ≡ [])
+once-noted n [] [] after ring few zip = absurd zip
+once-noted n [] (x ∷ before) after ring few zip = absurd zip
+once-noted n (net ∷ nets) [] after ring few zip =
+    let step = sum_by-cons (λ (m : NetPlan). times n m.members) net nets in
+    ⊎_elim
+    (λ (none : times n net.members < 1).
+    inl (none-own net n ring.entries (makers net ring.entries zip.0.1) (omega (arith, none))))
+    (λ (some : 1 ≤ times n net.members).
+    inr (none-owns n nets after zip.1 (omega (arith, some, step, few))))
+    (cases_lt (times n net.members) 1)
+once-noted n (net ∷ nets) (x ∷ before) after ring few zip =
+    let step = sum_by-cons (λ (m : NetPlan). times n m.members) net nets in
+    once-noted n nets before after ring (omega (arith, step, few)) zip.1
 
 own-found : (n : ℕ) (net : NetPlan) (nets : List NetPlan) (rings : List RingLog)
     → times net.number (numbers nets) ≤ 1 → member_times n nets ≤ 1 → Contains nets net
@@ -348,47 +363,20 @@ module _ (plant : Plant) (rings : List RingLog) (sound : IsPlant plant)
     legal = (ring-there net there).legal;
   }
 
+  -- each node noted something on one ring at most
+  pub on-one : (n : ℕ) (before after : List RingLog) (ring : RingLog)
+      → rings ≡ before ++ ring ∷ after
+      → (own n ring.entries ≡ []) ⊎ (own n (entries_of_rings after) ≡ [])
+  on-one n before after ring is =
+      once-noted n plant.nets before after ring (members-once plant n sound)
+      (subst (AllZip IsLegalRingLog plant.nets) is legal)
+
   -- what a member of a network noted is what it noted on its ring
   pub own-on : (net : NetPlan) (n : ℕ) → Contains plant.nets net → IsMember net n
       → own n (entries_of_rings rings) ≡ own n (entries_on net.number rings)
   own-on net n there member =
       own-found n net plant.nets rings (number-once plant net.number sound)
       (members-once plant n sound) there member legal
-
-  low-on : (net : NetPlan) (n : ℕ) → Contains plant.nets net → IsMember net n → n < addresses
-  low-on net n there member =
-      All-contains (λ m. m < addresses) net.members n
-      (low-members plant net (net-sound plant net sound there)) member
-
-  -- a member of a network is gone behind the entries of all rings as behind those of its own
-  pub gone-on : (net : NetPlan) (n : ℕ) → Contains plant.nets net → IsMember net n
-      → status_at net (entries_of_rings rings) n ≡ Gone
-      → status_at net (entries_on net.number rings) n ≡ Gone
-  gone-on net n there member =
-      gone-same net n (entries_of_rings rings) (entries_on net.number rings)
-      (low-on net n there member) (own-on net n there member)
-
-  pub gone-from : (net : NetPlan) (n : ℕ) → Contains plant.nets net → IsMember net n
-      → status_at net (entries_on net.number rings) n ≡ Gone
-      → status_at net (entries_of_rings rings) n ≡ Gone
-  gone-from net n there member =
-      gone-same net n (entries_on net.number rings) (entries_of_rings rings)
-      (low-on net n there member) (sym (own-on net n there member))
-
-  -- and so it is away
-  pub away-on : (net : NetPlan) (n : ℕ) → Contains plant.nets net → IsMember net n
-      → status_at net (entries_of_rings rings) n ≡ Away
-      → status_at net (entries_on net.number rings) n ≡ Away
-  away-on net n there member =
-      away-same net n (entries_of_rings rings) (entries_on net.number rings)
-      (low-on net n there member) (own-on net n there member)
-
-  pub away-from : (net : NetPlan) (n : ℕ) → Contains plant.nets net → IsMember net n
-      → status_at net (entries_on net.number rings) n ≡ Away
-      → status_at net (entries_of_rings rings) n ≡ Away
-  away-from net n there member =
-      away-same net n (entries_on net.number rings) (entries_of_rings rings)
-      (low-on net n there member) (sym (own-on net n there member))
 
 -- an entry of rings stands on the ring of a network of which its maker is a member
 pub record EntryOn (nets : List NetPlan) (rings : List RingLog) (e : RingEntry) : Type 0 where

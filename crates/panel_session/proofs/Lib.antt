@@ -5,6 +5,7 @@ pub mod Quiet
 pub mod OneScan
 pub mod ScansLeft
 pub mod ScanMade
+pub mod Counted
 pub mod Heard
 pub mod ServedAll
 pub mod ScanByScan

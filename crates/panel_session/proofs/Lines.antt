@@ -1,13 +1,15 @@
 -- The line of one scan.
-use Rattle.std.proofs.Math.ListN.{drop_of_length-le}
-use Rattle.std.proofs.Common.{◌≡◌, ◌≤◌, ℕ, zero, suc, ◌+◌, ◌*◌, ◌-◌, ◌<◌, List, [], ◌∷◌, ◌++◌}
-use Rattle.std.proofs.Common.{length, get_or, drop, sym, ap, ◌∙◌, append_assoc, arith}
-use Rattle.std.specs.Prelude.{codes, if◌then◌else◌, ◌==◌}
+use Rattle.std.proofs.Common.{◌≡◌, ℕ, zero, suc, ◌+◌, ◌*◌, ◌-◌, ◌<◌, List, [], ◌∷◌, ◌++◌}
+use Rattle.std.proofs.Common.{length, get_or, drop, sym, ap, ◌∙◌, arith}
+use Rattle.std.proofs.Common.{Bool, true, false, cond, Option, Some, None, ⊎_elim}
+use Rattle.std.specs.Prelude.{if◌then◌else◌, ◌==◌, ◌||◌}
+use Rattle.std.specs.List.{find, list_any}
+use Rattle.std.proofs.lemmas.Bool.{cases_eq}
 use Rattle.std.proofs.Common.{◌≢◌, length-append, refl, append-nil, ne_eqb, eq-eqb}
-use native.Mathlib.Nat.{suc-mul}
-use Rattle.std.proofs.lemmas.List.{drop_more, drop-drop, get_or-append_right}
-use Rattle.std.specs.Fmt.{decimal}
+use Rattle.std.proofs.lemmas.List.{get_or-append_right}
 use Rattle.plant_types.specs.declared.plan.ControllerPlan.{ControllerPlan}
+use Rattle.plant_types.specs.declared.plan.PowerRow.{PowerRow}
+use Rattle.scan_order.specs.Power.{ends_off, is_dark_by, is_failure_in, power_by, power_in}
 use Rattle.controller_core.specs.declared.notes.Notes.{Notes}
 use Rattle.controller_core.specs.declared.entry.Entry.{Entry}
 use Rattle.controller_core.specs.declared.fixed.Fixed.{Fixed}
@@ -17,53 +19,9 @@ use Rattle.controller_core.specs.Replay.{replay}
 use Rattle.controller_core.specs.Panel.{line_text, panel_lines}
 use Rattle.controller_core.specs.NotedLines.{gone_line, gone_lines, noted_lines, stopped_lines}
 use Rattle.controller_core.specs.NotedLines.{NotesTellTheLines}
-use Rattle.panel_session.specs.Bench.{last_line}
-use Rattle.plant_types.specs.declared.reference.Ref.{Ref}
-use Rattle.controller_core.specs.NotedLines.{noted_text, noted_texts}
-
--- A reference more with its value.
-pub value_added : (panel : List Ref) (values : List ℕ) (place : ℕ) (at : Ref) (value : ℕ)
-    (now next : List ℕ) → place < length panel → place < length values
-    → next ≡ now ++ noted_text (get_or panel place at, get_or values place value)
-    → next ++ noted_texts (drop (place + 1) panel) (drop (place + 1) values)
-    ≡ now ++ noted_texts (drop place panel) (drop place values)
-value_added panel values place at value now next within inside added =
-    let rest = noted_texts (drop (place + 1) panel) (drop (place + 1) values) in
-    let this = noted_text (get_or panel place at, get_or values place value) in
-    ap (λ text. text ++ rest) added
-    ∙ append_assoc now this rest
-    ∙ ap (λ refs. now ++ noted_texts refs (get_or values place value ∷ drop (place + 1) values))
-    (sym (drop_more panel place at within))
-    ∙ ap (λ left. now ++ noted_texts (drop place panel) left)
-    (sym (drop_more values place value inside))
-
--- How many lines there are of scans that are gone.
-gone_many : (plan : ControllerPlan) (before many : ℕ) (values : List ℕ)
-    → length (gone_lines plan before many values) ≡ many
-unfolding gone_lines
-gone_many plan before zero values = refl
-gone_many plan before (suc many) values =
-    ap suc (gone_many plan (before + 1) many (drop (length plan.panel) values))
-
--- The line at a place among them.
-gone_at : (plan : ControllerPlan) (before many scan : ℕ) (values : List ℕ) → scan < many
-    → get_or (gone_lines plan before many values) scan []
-    ≡ gone_line plan (before + scan + 1) (drop (scan * length plan.panel) values)
-unfolding gone_lines
-gone_at plan before zero scan values within = absurd (omega arith)
-gone_at plan before (suc many) zero values within =
-    let width = length plan.panel in
-    let none : 0 * width ≡ 0 = omega arith in
-    ap (λ number. gone_line plan number values) (omega arith)
-    ∙ ap (λ n. gone_line plan (before + 0 + 1) (drop n values)) (sym none)
-gone_at plan before (suc many) (suc scan) values within =
-    let width = length plan.panel in
-    let more : width + scan * width ≡ suc scan * width = omega (arith, suc-mul scan width) in
-    gone_at plan (before + 1) many scan (drop width values) (omega arith)
-    ∙ ap (λ number. gone_line plan number (drop (scan * width) (drop width values))) (omega arith)
-    ∙ ap (λ left. gone_line plan (before + suc scan + 1) left)
-    (drop-drop (scan * width) width values)
-    ∙ ap (λ n. gone_line plan (before + suc scan + 1) (drop n values)) more
+use Rattle.panel_line.specs.Told.{gone_told, stopped_told}
+use Rattle.panel_line.proofs.LineLemmas.{gone_at, gone_by, gone_many}
+use Rattle.panel_session.specs.Bench.{ends_off_by, is_shown_off, last_line, line_over, shown_of}
 
 -- The last of some lines and one more is that one.
 pub last_line-more : (lines : List (List ℕ)) (line : List ℕ) → last_line (lines ++ line ∷ []) ≡ line
@@ -78,10 +36,10 @@ last_line-more lines line =
 -- A controller that stopped has the line of that scan last.
 pub last_stopped : (plan : ControllerPlan) (notes : Notes) → notes.stop ≢ 0
     → last_line (noted_lines plan notes)
-    ≡ line_text (notes.gone + 1) plan.node (codes " STOP " ++ decimal notes.stop)
+    ≡ line_text (notes.gone + 1) plan.node (stopped_told notes.stop)
 last_stopped plan notes stops =
     let gone = gone_lines plan 0 notes.gone notes.values in
-    let line = line_text (notes.gone + 1) plan.node (codes " STOP " ++ decimal notes.stop) in
+    let line = line_text (notes.gone + 1) plan.node (stopped_told notes.stop) in
     let there : stopped_lines plan notes.gone notes.stop ≡ line ∷ [] =
     ap (λ runs. if runs then [] else line ∷ []) (ne_eqb notes.stop 0 stops) in
     ap (λ lines. last_line (gone ++ lines)) there ∙ last_line-more gone line
@@ -107,29 +65,12 @@ pub last_gone : (plan : ControllerPlan) (notes : Notes) → notes.stop ≡ 0 →
     ≡ gone_line plan notes.gone (drop ((notes.gone - 1) * length plan.panel) notes.values)
 last_gone plan notes runs some =
     let gone = gone_lines plan 0 notes.gone notes.values in
-    let line = line_text (notes.gone + 1) plan.node (codes " STOP " ++ decimal notes.stop) in
+    let line = line_text (notes.gone + 1) plan.node (stopped_told notes.stop) in
     let none : stopped_lines plan notes.gone notes.stop ≡ [] =
     ap (λ runs. if runs then [] else line ∷ []) (eq-eqb notes.stop 0 runs) in
     ap (λ lines. last_line (gone ++ lines)) none
     ∙ ap last_line (append-nil gone)
     ∙ last_gone-by plan notes.gone notes.values some
-
--- No value, no text.
-no_texts : (panel : List Ref) → noted_texts panel [] ≡ []
-no_texts [] = refl
-no_texts (at ∷ panel) = refl
-
--- Behind the last value no text is left to add.
-pub no_value : (panel : List Ref) (values : List ℕ) (place : ℕ) (now : List ℕ)
-    → length values ≤ place
-    → now ++ noted_texts (drop (place + 1) panel) (drop (place + 1) values)
-    ≡ now ++ noted_texts (drop place panel) (drop place values)
-no_value panel values place now past =
-    ap (λ texts. now ++ texts)
-    (ap (noted_texts (drop (place + 1) panel))
-    (drop_of_length-le values {i = place + 1} (omega arith))
-    ∙ no_texts (drop (place + 1) panel) ∙ sym (no_texts (drop place panel))
-    ∙ ap (noted_texts (drop place panel)) (sym (drop_of_length-le values {i = place} past)))
 
 -- A list has lines where a scan is over.
 pub has_lines : (plan : ControllerPlan) (notes : Notes) → 0 < length (noted_lines plan notes)
@@ -139,7 +80,7 @@ has_lines plan notes some =
     (stopped_lines plan notes.gone notes.stop) in
     let gone = gone_many plan 0 notes.gone notes.values in
     stops notes.gone notes.stop
-    (line_text (notes.gone + 1) plan.node (codes " STOP " ++ decimal notes.stop))
+    (line_text (notes.gone + 1) plan.node (stopped_told notes.stop))
     (omega (arith, count, gone))
   where
     stops : (gone stop : ℕ) (line : List ℕ)
@@ -148,18 +89,70 @@ has_lines plan notes some =
     stops gone (suc stop) line some = omega arith
 
 -- What a controller has noted tells its lines.
-pub noted_are_lines : (fixed : Fixed) (history : List Entry) (plan : ControllerPlan)
-    (values : List ℕ) (gone stop : ℕ) → NotesTellTheLines → IsLegal fixed history
-    → fixed.plan ≡ plan → values ≡ noted_values fixed history
+pub noted_are_lines : (fixed : Fixed) (history : List Entry) (values : List ℕ) (gone stop : ℕ)
+    → NotesTellTheLines → IsLegal fixed history
+    → values ≡ noted_values fixed history
     → gone ≡ (replay fixed history).gone → stop ≡ (replay fixed history).stop
-    → noted_lines plan (record { values = values; gone = gone; stop = stop })
+    → noted_lines fixed.plan (record { values = values; gone = gone; stop = stop })
     ≡ panel_lines fixed history
-noted_are_lines fixed history plan values gone stop tell legal same noted left code =
+noted_are_lines fixed history values gone stop tell legal noted left code =
     let made : List ℕ → ℕ → ℕ → Notes =
     λ values gone stop. record { values = values; gone = gone; stop = stop } in
     let now = replay fixed history in
-    ap (λ plan. noted_lines plan (made values gone stop)) (sym same)
-    ∙ ap (λ values. noted_lines fixed.plan (made values gone stop)) noted
+    ap (λ values. noted_lines fixed.plan (made values gone stop)) noted
     ∙ ap (λ gone. noted_lines fixed.plan (made (noted_values fixed history) gone stop)) left
     ∙ ap (λ stop. noted_lines fixed.plan (made (noted_values fixed history) now.gone stop)) code
     ∙ tell fixed history legal
+
+-- ---- by what is shown
+
+-- A row more: power fails in the scan, or it is dark, or neither.
+row_more : (fails dark : Bool) (row : PowerRow) (off others : Bool) (found : Option PowerRow)
+    → off ≡ ends_off (power_by found others)
+    → (fails || dark) || off
+    ≡ ends_off (power_by (cond fails (Some row) found) (dark || others))
+row_more true dark row off others found e = refl
+row_more false true row off others None e = refl
+row_more false true row off others (Some other) e = refl
+row_more false false row off others found e = e
+
+-- A scan ends without power where one of the rows takes it.
+rows_off : (orders scan : ℕ) (rows : List PowerRow)
+    → list_any (ends_off_by orders scan) rows
+    ≡ ends_off (power_by (find (is_failure_in orders scan) rows) (list_any (is_dark_by scan) rows))
+rows_off orders scan [] = refl
+rows_off orders scan (row ∷ rows) =
+    row_more (is_failure_in orders scan row) (is_dark_by scan row) row
+    (list_any (ends_off_by orders scan) rows) (list_any (is_dark_by scan) rows)
+    (find (is_failure_in orders scan) rows) (rows_off orders scan rows)
+
+-- A scan ends without power by what is shown where it does so by the plan.
+shown_off : (plan : ControllerPlan) (scan : ℕ)
+    → is_shown_off (shown_of plan) scan ≡ ends_off (power_in plan scan)
+unfolding power_in
+shown_off plan scan = rows_off (length plan.orders) scan plan.power
+
+-- The line that was over last is the last of the noted ones.
+pub noted_over : (plan : ControllerPlan) (notes : Notes) → 0 < notes.gone + notes.stop
+    → line_over (shown_of plan) notes.gone notes.stop notes.values
+    ≡ last_line (noted_lines plan notes)
+noted_over plan notes some = ⊎_elim
+    (λ (runs : notes.stop ≡ 0).
+    let from = notes.gone in
+    let gone : 0 < from = omega (arith, some, runs) in
+    let rest = drop ((from - 1) * length plan.panel) notes.values in
+    let off = is_shown_off (shown_of plan) from in
+    ap (λ b. if b then line_text from plan.node (gone_told off plan.panel rest)
+    else line_text (from + 1) plan.node (stopped_told notes.stop))
+    (eq-eqb notes.stop 0 runs)
+    ∙ gone_by plan from off plan.panel rest rest (shown_off plan from) refl refl
+    ∙ sym (last_gone plan notes runs gone))
+    (λ (stops : notes.stop ≢ 0).
+    let from = notes.gone in
+    let rest = drop ((from - 1) * length plan.panel) notes.values in
+    let off = is_shown_off (shown_of plan) from in
+    ap (λ b. if b then line_text from plan.node (gone_told off plan.panel rest)
+    else line_text (from + 1) plan.node (stopped_told notes.stop))
+    (ne_eqb notes.stop 0 stops)
+    ∙ sym (last_stopped plan notes stops))
+    (cases_eq notes.stop 0)

@@ -3,7 +3,6 @@ use Rattle.std.proofs.Common.{◌≡◌, ℕ, ◌+◌, Bool, false, List, [], �
 use Rattle.std.proofs.Common.{◌∙◌, append_assoc, append-nil, length, length-append, arith}
 use Rattle.std.specs.Prelude.{fold, if◌then◌else◌}
 use Rattle.mstr_block.specs.declared.call.CallId.{CallId}
-use Rattle.plant_types.specs.declared.plan.ControllerPlan.{ControllerPlan}
 use Rattle.controller_core.specs.declared.entry.Entry.{Entry}
 use Rattle.controller_core.specs.declared.entry.Maker.TheVariants.{Communication}
 use Rattle.controller_core.specs.declared.fixed.Fixed.{Fixed}
@@ -15,7 +14,8 @@ use Rattle.controller_core.specs.Replay.{ControllerState, apply, replay, start}
 use Rattle.controller_core.proofs.NextEntry.{replay_append}
 use Rattle.whole_scan.specs.Scans.{IsBetweenScans, MadeEvents, with_scan}
 use Rattle.whole_scan.proofs.ScanSteps.{open-stop}
-use Rattle.panel_session.specs.Bench.{IsOnBench, lines_of}
+use Rattle.panel_session.specs.declared.line.Shown.{Shown}
+use Rattle.panel_session.specs.Bench.{IsOnBench, lines_of, shown_of}
 use Rattle.panel_session.specs.Scanning.{HasBegunGivingUp, HasBegunScan, after_scan, calls_ended}
 use Rattle.panel_session.specs.Scanning.{scan_due, scan_entries, scan_made}
 use Rattle.panel_session.specs.Serving.{NamedRequest, requests_taken}
@@ -69,13 +69,13 @@ scan-made first v scanned =
     scanned.goes)
 
 -- The bench is one again behind ends of calls.
-bench-grown : (plan : ControllerPlan) (first v w : ControllerIs) (served : ℕ) (added : List Entry)
-    → IsOnBench plan first served → IsScanned first v → AreEnds added
+bench-grown : (shown : Shown) (first v w : ControllerIs) (served : ℕ) (added : List Entry)
+    → IsOnBench shown first served → IsScanned first v → AreEnds added
     → (AreOf Communication added → IsBetweenScans v → IsBetweenScans (grown v added v.reserved))
-    → w ≡ grown v added v.reserved → IsOnBench plan w served
-bench-grown plan first v w served added bench scanned ends stays is =
-    subst (λ (w : ControllerIs). IsOnBench plan w served) (sym is) (record {
-      plan_is = ap (λ (fixed : Fixed). fixed.plan) scanned.fixed ∙ bench.plan_is;
+    → w ≡ grown v added v.reserved → IsOnBench shown w served
+bench-grown shown first v w served added bench scanned ends stays is =
+    subst (λ (w : ControllerIs). IsOnBench shown w served) (sym is) (record {
+      shown_is = bench.shown_is ∙ ap (λ (fixed : Fixed). shown_of fixed.plan) (sym scanned.fixed);
       between = stays (ends-of added ends) scanned.between;
       rests = scanned.rests;
       served_is = bench.served_is
@@ -83,30 +83,30 @@ bench-grown plan first v w served added bench scanned ends stays is =
           (requests-same v.history added (ends-none added ends) ∙ scanned.requests));
     })
 
-pub bench-ended : (plan : ControllerPlan) (first v w : ControllerIs) (served : ℕ)
-    → IsOnBench plan first served → IsScanned first v
+pub bench-ended : (shown : Shown) (first v w : ControllerIs) (served : ℕ)
+    → IsOnBench shown first served → IsScanned first v
     → ((u : ControllerIs) (added : List Entry) → AreOf Communication added → IsBetweenScans u
     → IsBetweenScans (grown u added u.reserved))
-    → w ≡ grown v (calls_ended (state_of v)) v.reserved → IsOnBench plan w served
-bench-ended plan first v w served bench scanned stays is =
-    bench-grown plan first v w served (calls_ended (state_of v)) bench scanned
+    → w ≡ grown v (calls_ended (state_of v)) v.reserved → IsOnBench shown w served
+bench-ended shown first v w served bench scanned stays is =
+    bench-grown shown first v w served (calls_ended (state_of v)) bench scanned
     (given-ends (state_of v)) (stays v (calls_ended (state_of v))) is
 
-pub bench-begun : (plan : ControllerPlan) (first v w : ControllerIs) (served : ℕ)
-    → IsOnBench plan first served → IsScanned first v
+pub bench-begun : (shown : Shown) (first v w : ControllerIs) (served : ℕ)
+    → IsOnBench shown first served → IsScanned first v
     → ((u : ControllerIs) (added : List Entry) → AreOf Communication added → IsBetweenScans u
     → IsBetweenScans (grown u added u.reserved))
-    → HasBegunGivingUp v w → IsOnBench plan w served
-bench-begun plan first v w served bench scanned stays begun =
-    bench-grown plan first v w served begun.front bench scanned
+    → HasBegunGivingUp v w → IsOnBench shown w served
+bench-begun shown first v w served bench scanned stays begun =
+    bench-grown shown first v w served begun.front bench scanned
     (ends-front begun.front begun.rest (subst AreEnds (sym begun.made) (given-ends (state_of v))))
     (stays v begun.front) begun.is
 
 -- Where the first entries of the scan are made, ends and all, the bench is behind them.
-behind : (plan : ControllerPlan) (first v w : ControllerIs) (served : ℕ) (added : List Entry)
-    → IsOnBench plan first served → IsScanned first v → w ≡ grown v added v.reserved
+behind : (shown : Shown) (first v w : ControllerIs) (served : ℕ) (added : List Entry)
+    → IsOnBench shown first served → IsScanned first v → w ≡ grown v added v.reserved
     → w ≡ grown first (scan_due first.fixed (state_of first) ++ added) first.reserved
-behind plan first v w served added bench scanned is =
+behind shown first v w served added bench scanned is =
     is ∙ (λ i. record {
       fixed = scanned.fixed i;
       history = all i;
@@ -118,21 +118,21 @@ behind plan first v w served added bench scanned is =
         ∙ append_assoc first.history (scan_due first.fixed (state_of first)) added
 
 -- A whole scan with all its ends.
-pub scan-ended : (plan : ControllerPlan) (first v w : ControllerIs) (served : ℕ)
-    → IsOnBench plan first served → IsScanned first v
+pub scan-ended : (shown : Shown) (first v w : ControllerIs) (served : ℕ)
+    → IsOnBench shown first served → IsScanned first v
     → w ≡ grown v (calls_ended (state_of v)) v.reserved → w ≡ after_scan first
-scan-ended plan first v w served bench scanned is =
-    behind plan first v w served (calls_ended (state_of v)) bench scanned is
+scan-ended shown first v w served bench scanned is =
+    behind shown first v w served (calls_ended (state_of v)) bench scanned is
     ∙ ap (λ (made : List Entry). grown first made first.reserved) (scan-made first v scanned)
 
 -- A scan that memory cut short among its ends.
-pub scan-begun : (plan : ControllerPlan) (first v w : ControllerIs) (served : ℕ)
-    → IsOnBench plan first served → IsScanned first v → HasBegunGivingUp v w
+pub scan-begun : (shown : Shown) (first v w : ControllerIs) (served : ℕ)
+    → IsOnBench shown first served → IsScanned first v → HasBegunGivingUp v w
     → HasBegunScan first w
-scan-begun plan first v w served bench scanned begun = record {
+scan-begun shown first v w served bench scanned begun = record {
   front = scan_due first.fixed (state_of first) ++ begun.front;
   rest = begun.rest;
-  is = behind plan first v w served begun.front bench scanned begun.is;
+  is = behind shown first v w served begun.front bench scanned begun.is;
   made = append_assoc (scan_due first.fixed (state_of first)) begun.front begun.rest
       ∙ ap (λ (added : List Entry). scan_due first.fixed (state_of first) ++ added) begun.made
       ∙ scan-made first v scanned;
@@ -173,15 +173,15 @@ line-more first goes =
     )
 
 -- The bench is one again behind a request.
-pub bench-served : (plan : ControllerPlan) (v w : ControllerIs) (served : ℕ) (id : CallId)
-    (request : List ℕ) → IsOnBench plan v served
+pub bench-served : (shown : Shown) (v w : ControllerIs) (served : ℕ) (id : CallId)
+    (request : List ℕ) → IsOnBench shown v served
     → ((u : ControllerIs) (added : List Entry) → AreOf Communication added → IsBetweenScans u
     → IsBetweenScans (grown u added u.reserved))
-    → w ≡ answering v id request → IsOnBench plan w (served + 1)
-bench-served plan v w served id request bench stays is =
+    → w ≡ answering v id request → IsOnBench shown w (served + 1)
+bench-served shown v w served id request bench stays is =
     let reply = reply_in (state_of v) request in
-    subst (λ (w : ControllerIs). IsOnBench plan w (served + 1)) (sym is) (record {
-      plan_is = bench.plan_is;
+    subst (λ (w : ControllerIs). IsOnBench shown w (served + 1)) (sym is) (record {
+      shown_is = bench.shown_is;
       between = stays v (peer_entry id request reply ∷ []) (peer-of id request reply, tt)
           bench.between;
       rests = bench.rests;

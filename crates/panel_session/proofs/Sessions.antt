@@ -391,9 +391,3 @@ session-shorter v w u frames goes is same history =
     ap (λ (u : ControllerIs). left_of u.fixed u.history) u_is
     ∙ (quiet-scan x added u.reserved (served-of x.fixed (state_of x) frames)).left in
     omega (arith, ap length left, fewer-left v goes)
-
--- There the requests are those of before.
-pub ended-count : (v w : ControllerIs) → has_ended v ≡ true → w ≡ after_scan v
-    → request_count w.history ≡ request_count v.history
-ended-count v w ended is =
-    ap (λ (w : ControllerIs). request_count w.history) (is ∙ over-same v ended)

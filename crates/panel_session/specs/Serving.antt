@@ -1,6 +1,6 @@
 -- Frames that a controller on a bench serves. All of it is this project's own.
 use Rattle.std.specs.Prelude.{ℕ, ◌+◌, Bool, ◌||◌, ◌==◌, if◌then◌else◌, List, [], ◌∷◌, ◌++◌, filter}
-use Rattle.std.specs.Prelude.{length, Option, Some, None}
+use Rattle.std.specs.Prelude.{length, is_some, Option, Some, None}
 use Rattle.std.specs.List.{filter_map}
 use Rattle.mstr_block.specs.declared.call.CallId.{CallId}
 use Rattle.ascii_port.specs.Frames.{AsciiFrame, frame_text, frames}
@@ -44,6 +44,10 @@ abbrev pub request_taken : Entry → Option NamedRequest
 request_taken (entries.Peer id request reply) = Some (record { id = id; request = request })
 request_taken (entries.Off id request) = Some (record { id = id; request = request })
 request_taken _ = None
+
+-- An entry takes a request.
+abbrev pub takes_request : Entry → Bool
+takes_request entry = is_some (request_taken entry)
 
 -- The requests that a history has taken, in their order.
 abbrev pub requests_taken : List Entry → List NamedRequest

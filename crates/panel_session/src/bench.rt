@@ -1,18 +1,21 @@
 //! A controller that is alone on a bench.
-ghost use Rattle.std.specs.Prelude.{◌≡◌, ◌+◌, ◌<◌, ◌^◌, [], length, IfOk, OnErr, OnOk};
+ghost use Rattle.std.specs.Prelude.{◌≡◌, ◌+◌, ◌<◌, ◌^◌, [], false, length, IfOk, OnErr};
+ghost use Rattle.std.specs.Prelude.{OnOk};
+ghost use Rattle.std.specs.List.{count_by};
 ghost use Rattle.controller_core.specs.Controller.{at_start, fixed_with, has_ended, reply_to};
 ghost use Rattle.controller_core.specs.Controller.{state_of, step_end, IsLegal};
 ghost use Rattle.controller_core.specs.Machine.{IsRunnable};
 ghost use Rattle.panel_session.specs.Bench.{last_line, lines_of};
 ghost use Rattle.panel_session.specs.Scanning.{after_scan, bench_end, HasBegunScan};
 ghost use Rattle.panel_session.specs.declared.bench.BenchEnd.TheVariants.{Done as ScanDone};
-ghost use Rattle.panel_session.specs.Serving.{after_request, request_count};
+ghost use Rattle.panel_session.specs.Serving.{after_request, request_count, takes_request};
+ghost use Rattle.whole_scan.specs.Scans.{IsBetweenScans};
 
 use crate::calls::give_up_calls;
-use crate::line::last_line;
+use crate::line::{Shown, last_line};
 use controller_core::{Controller, Entry, notes_tell_the_lines};
 use mstr_block::CallId;
-use plant_types::{ControllerPlan, Copied, List, Pdu};
+use plant_types::{ControllerPlan, List, Pdu};
 use std::alloc::{AllocError, Global};
 use std::marker::Model;
 use whole_scan::{scan, scans_stay_whole};
@@ -28,13 +31,27 @@ pub enum BenchEnd {
     Stopped(u16),
 }
 
+/// Whether an entry takes a request.
+fn takes_request(entry: &Entry) -> bool
+    ensures { result ≡ takes_request entry.now }
+{
+    matches!(entry, Entry::Peer { .. } | Entry::Off { .. })
+}
+
+/// How many requests a history has taken.
+fn requests_in(history: &[Entry]) -> u64
+    ensures { result ≡ count_by takes_request history.now }
+{
+    history.iter().filter(|entry| takes_request(entry)).count() as u64
+}
+
 /// A controller without its network, between two of its scans. This project's own.
 #[derive(Drop)]
 pub struct Bench {
     alloc: Global,
-    plan: ControllerPlan,
+    shown: Shown,
     controller: Controller,
-    served: u32,
+    served: u64,
 }
 
 impl Model for Bench {
@@ -45,7 +62,7 @@ impl Model for Bench {
 
     ghost view = { λ b. b.controller };
 
-    ghost invariant = { λ b. IsOnBench b.plan b.controller b.served };
+    ghost invariant = { λ b. IsOnBench b.shown b.controller b.served };
 }
 
 impl Bench {
@@ -63,13 +80,29 @@ impl Bench {
     {
         scans_stay_whole();
         let controller = Controller::new(alloc, plan, scan_time, watchdog, scans)?;
-        let plan = plan.copied(alloc)?;
+        let shown = Shown::of(alloc, plan)?;
         Ok(Bench {
             alloc,
-            plan,
+            shown,
             controller,
             served: 0,
         })
+    }
+
+    /// A bench that goes on from a controller's history. Takes no memory.
+    pub fn of(alloc: Global, plan: ControllerPlan, controller: Controller) -> Bench
+        requires plan { plan ≡ controller.fixed.plan }
+        requires between { IsBetweenScans controller }
+        requires rests { controller.reserved ≡ false }
+        ensures { result ≡ controller }
+    {
+        let served = requests_in(controller.history());
+        Bench {
+            alloc,
+            shown: Shown::out_of(alloc, plan),
+            controller,
+            served,
+        }
     }
 
     /// Makes one whole scan, or stops in it. Then each call that its MSTR blocks started ends with
@@ -108,7 +141,7 @@ impl Bench {
         let id = CallId {
             node: 0,
             path: 0,
-            seq: self.served + 1,
+            seq: self.served as u32 + 1,
         };
         let reply = self.controller.peer(id, request)?;
         self.served += 1;
@@ -132,7 +165,7 @@ impl Bench {
         let controller = &self.controller;
         let _ = controller.history();
         let (gone, stop) = (controller.scans_gone(), controller.stop_code());
-        last_line(self.alloc, &self.plan, gone, stop, controller.notes())
+        last_line(self.alloc, &self.shown, gone, stop, controller.notes())
     }
 
     /// The history alone; takes no memory.

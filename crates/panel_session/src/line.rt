@@ -1,117 +1,99 @@
 //! The panel line of one scan.
-ghost use Rattle.std.specs.Prelude.{◌≡◌, ◌*◌, ◌<◌, ◌+◌, ◌++◌, drop, length, IfOk, OnOk};
-ghost use Rattle.std.specs.Prelude.{string_bytes, codes};
-ghost use Rattle.std.specs.Fmt.{decimal};
-ghost use Rattle.controller_core.specs.Panel.{line_text};
-ghost use Rattle.controller_core.specs.NotedLines.{gone_line, noted_lines, noted_text};
-ghost use Rattle.controller_core.specs.NotedLines.{noted_texts};
-ghost use Rattle.panel_session.specs.Bench.{last_line, texts_from};
+ghost use Rattle.std.specs.Prelude.{◌≡◌, ◌<◌, ◌+◌, IfOk};
+ghost use Rattle.panel_session.specs.Bench.{ends_off_by, is_shown_off, line_over, shown_of};
 
-use plant_types::{ControllerPlan, Ref};
-use scan_order::power_in;
+use panel_line::{push_gone, push_stopped, readings_of, values_from};
+use plant_types::{ControllerPlan, Copied, List, PowerRow, Ref};
 use std::alloc::{AllocError, Global};
-use std::fmt::Write;
+use std::mem::replace;
 
-/// Adds a reference with its value.
-fn push_text(text: &mut String, at: Ref, value: u16) -> Result<(), AllocError>
-    ensures { OnOk result (string_bytes text.new ≡ string_bytes text.old
-        ++ noted_text (at, value)) }
-{
-    write!(text, " {at}={value}")
+/// What of a plan its panel lines are told by: the node, the panel's references, how many rows the
+/// order of solve has, and the power rows.
+#[derive(Drop)]
+pub(crate) struct Shown {
+    node: u8,
+    panel: List<Ref>,
+    orders: usize,
+    power: List<PowerRow>,
 }
 
-/// Adds the reference of a panel at a place with its value, if there is one: so much less is left
-/// to add.
-fn push_value(
-    text: &mut String,
-    panel: &[Ref],
-    values: &[u16],
-    place: usize,
-) -> Result<(), AllocError>
-    requires { place < length panel.now }
-    ensures { OnOk result (string_bytes text.new ++ texts_from panel.now values.now (place + 1)
-        ≡ string_bytes text.old ++ texts_from panel.now values.now place) }
+/// Whether a scan ends without power by a power row, where the order of solve has so many rows.
+fn ends_off_by(orders: usize, scan: u32, row: &PowerRow) -> bool
+    ensures { result ≡ ends_off_by orders scan row.now }
 {
-    if place >= values.len() {
-        return Ok(());
+    let fails = row.scan == scan && usize::from(row.row) <= orders;
+    let is_dark = row.scan < scan && scan - row.scan <= row.dark;
+    fails || is_dark
+}
+
+impl Shown {
+    /// That of a plan.
+    pub fn of(alloc: Global, plan: &ControllerPlan) -> Result<Shown, AllocError>
+        ensures { IfOk result (λ shown. shown ≡ shown_of plan.now) }
+    {
+        let panel = plan.panel.copied(alloc)?;
+        let power = plan.power.copied(alloc)?;
+        Ok(Shown {
+            node: plan.node,
+            panel,
+            orders: plan.orders.as_slice().len(),
+            power,
+        })
     }
-    push_text(text, panel[place], values[place])?;
-    Ok(())
-}
 
-/// Adds the references of a panel with the first of these values.
-fn push_values(text: &mut String, panel: &[Ref], values: &[u16]) -> Result<(), AllocError>
-    ensures { OnOk result (string_bytes text.new ≡ string_bytes text.old
-        ++ noted_texts panel.now values.now) }
-{
-    for place in 0..panel.len() {
-        push_value(text, panel, values, place)?;
+    /// That of a plan that is given up for it. Takes no memory.
+    pub fn out_of(alloc: Global, mut plan: ControllerPlan) -> Shown
+        ensures { result ≡ shown_of plan }
+    {
+        let panel = replace(&mut plan.panel, List::new(alloc));
+        let power = replace(&mut plan.power, List::new(alloc));
+        Shown {
+            node: plan.node,
+            orders: plan.orders.as_slice().len(),
+            panel,
+            power,
+        }
     }
-    Ok(())
-}
 
-/// The values from those of a scan on, which is counted from 0, where each scan has so many.
-fn values_from(values: &[u16], scan: usize, many: usize) -> &[u16]
-    ensures { result.now ≡ drop (scan * many) values.now }
-{
-    match scan.checked_mul(many) {
-        Some(at) if at < values.len() => &values[at..],
-        _ => &[],
+    /// Whether a scan ends without power.
+    fn is_off(&self, scan: u32) -> bool
+        ensures { result ≡ is_shown_off self.now scan }
+    {
+        let orders = self.orders;
+        self.power
+            .as_slice()
+            .iter()
+            .any(|row| ends_off_by(orders, scan, row))
     }
-}
-
-/// Adds the line of a scan that is gone, by the values at its end.
-fn push_gone(
-    text: &mut String,
-    plan: &ControllerPlan,
-    scan: u32,
-    values: &[u16],
-) -> Result<(), AllocError>
-    ensures { OnOk result (string_bytes text.new ≡ string_bytes text.old
-        ++ gone_line plan.now scan values.now) }
-{
-    let node = plan.node;
-    write!(text, "S {scan} N {node}")?;
-    if power_in(plan, scan).ends_off() {
-        text.push_str(" OFF")?;
-    } else {
-        push_values(text, plan.panel.as_slice(), values)?;
-    }
-    text.push_str("\n")
-}
-
-/// Adds the line of the scan in which a controller stopped.
-fn push_stopped(text: &mut String, scan: usize, node: u8, stop: u16) -> Result<(), AllocError>
-    ensures { OnOk result (string_bytes text.new ≡ string_bytes text.old
-        ++ line_text scan node (codes " STOP " ++ decimal stop)) }
-{
-    write!(text, "S {scan} N {node} STOP {stop}\n")
 }
 
 /// The last line of a controller, by how many scans are gone, its stop code, and the values of its
 /// panel as each scan was over.
 pub(crate) fn last_line(
     alloc: Global,
-    plan: &ControllerPlan,
+    shown: &Shown,
     gone: u32,
     stop: u16,
     values: &[u16],
 ) -> Result<Vec<u8>, AllocError>
     requires { 0 < gone + stop }
-    ensures { IfOk result (λ line. line.items ≡ last_line
-        (noted_lines plan.now (record { values = values.now; gone = gone; stop = stop }))) }
+    ensures { IfOk result (λ line. line.items ≡ line_over shown.now gone stop values.now) }
 {
     let mut text = String::new(alloc);
     if stop != 0 {
-        push_stopped(&mut text, gone as usize + 1, plan.node, stop)?;
+        push_stopped(&mut text, gone as usize + 1, shown.node, stop)?;
         return Ok(text.into_bytes());
     }
-    let many = plan.panel.as_slice().len();
+    let readings = readings_of(alloc, shown.panel.as_slice())?;
+    let is_off = shown.is_off(gone);
+    let values = values_from(values, gone as usize - 1, readings.len());
     push_gone(
         &mut text,
-        plan,
         gone,
-        values_from(values, gone as usize - 1, many),
+        shown.node,
+        is_off,
+        readings.as_slice(),
+        values,
     )?;
     Ok(text.into_bytes())
 }

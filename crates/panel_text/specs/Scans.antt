@@ -1,7 +1,6 @@
 -- The lines of several controllers, scan by scan. All of it is this project's own.
-use Rattle.std.specs.Prelude.{codes, ℕ, ◌+◌, ◌==◌, ◌++◌, List, [], fold, get_or, length, map, max}
+use Rattle.std.specs.Prelude.{ℕ, ◌+◌, ◌==◌, List, [], fold, get_or, length, map, max}
 use Rattle.std.specs.Prelude.{if◌then◌else◌}
-use Rattle.std.specs.Fmt.{decimal}
 use Rattle.std.specs.List.{flat_map, range_with_len, zip}
 use Rattle.plant_types.specs.declared.plan.ControllerPlan.{ControllerPlan}
 use Rattle.controller_core.specs.declared.notes.Notes.{Notes}
@@ -22,10 +21,6 @@ by_scan runs = flat_map (scan_lines runs) (range_with_len 0 (longest runs))
 -- How many lines a controller has by what it noted: one for each scan that is over.
 abbrev pub lines_noted : Notes → ℕ
 lines_noted notes = if notes.stop == 0 then notes.gone else notes.gone + 1
-
--- What is told of the scan in which a controller stopped with a code.
-abbrev pub stopped_told : ℕ → List ℕ
-stopped_told stop = codes " STOP " ++ decimal stop
 
 -- The lines of each controller by what it noted.
 abbrev pub runs_noted : List ControllerPlan → List Notes → List (List (List ℕ))

@@ -9,10 +9,10 @@ ghost use Rattle.panel_text.specs.Panel.{IsHostLog, panel};
 
 use crate::following::notes_by_logs;
 use crate::hosts::push_host;
-use crate::lines::{Reading, readings_of};
 use crate::scans::push_scans;
 use controller_core::{Notes, notes_tell_the_lines};
 use joint_history::{HostLog, Joint};
+use panel_line::{Reading, readings_of};
 use plant_types::{ControllerPlan, Plant};
 use std::alloc::{AllocError, Global};
 
@@ -22,8 +22,7 @@ pub(crate) fn panels_of(
     plans: &[ControllerPlan],
 ) -> Result<Vec<Vec<Reading>>, AllocError>
     ensures { IfOk result (λ panels.
-        map (λ panel. map (λ reading. reading.at) panel.items) panels.items
-        ≡ map (λ plan. plan.panel) plans.now) }
+        map (λ panel. panel.items) panels.items ≡ map (λ plan. plan.panel) plans.now) }
 {
     let mut panels = Vec::new(alloc);
     for plan in plans {

@@ -2,8 +2,9 @@
 ghost use Rattle.std.specs.Prelude.{◌≡◌, ◌++◌, OnOk, fold, length, map, max, string_bytes};
 ghost use Rattle.panel_text.specs.Scans.{by_scan, lines_noted, runs_noted, scan_lines};
 
-use crate::lines::{Reading, lines_noted, push_line};
+use crate::lines::{lines_noted, push_line};
 use controller_core::Notes;
+use panel_line::Reading;
 use plant_types::ControllerPlan;
 use std::alloc::AllocError;
 
@@ -25,8 +26,7 @@ fn push_scan(
     notes: &[Notes],
 ) -> Result<(), AllocError>
     requires count { length notes.now ≡ length plans.now }
-    requires panels { map (λ panel. map (λ reading. reading.at) panel.items) panels.now
-        ≡ map (λ plan. plan.panel) plans.now }
+    requires panels { map (λ panel. panel.items) panels.now ≡ map (λ plan. plan.panel) plans.now }
     ensures { OnOk result (string_bytes text.new ≡ string_bytes text.old
         ++ scan_lines (runs_noted plans.now notes.now) scan) }
 {
@@ -44,8 +44,7 @@ pub(crate) fn push_scans(
     notes: &[Notes],
 ) -> Result<(), AllocError>
     requires count { length notes.now ≡ length plans.now }
-    requires panels { map (λ panel. map (λ reading. reading.at) panel.items) panels.now
-        ≡ map (λ plan. plan.panel) plans.now }
+    requires panels { map (λ panel. panel.items) panels.now ≡ map (λ plan. plan.panel) plans.now }
     ensures { OnOk result (string_bytes text.new ≡ string_bytes text.old
         ++ by_scan (runs_noted plans.now notes.now)) }
 {

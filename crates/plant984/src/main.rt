@@ -1,6 +1,8 @@
 // Runs a plant of programmable controllers from its file.
 #![tactic(auto)]
 
+ghost use Rattle.std.specs.Prelude.{◌≡◌, ◌⊎◌, IfErr};
+
 #[cfg(test)]
 mod hostile;
 mod live;
@@ -22,10 +24,12 @@ use plant_io::{StdSink, StdSource};
 use std::io::ErrorKind;
 use std::process::ExitCode;
 use std::{env, io};
-use top::exit_of;
+use top::exit_by;
 
-/// The words after the program's name.
-fn command_line(rt: &HostRuntime) -> Result<Vec<String>, Status> {
+/// The words after the program's name. Usage tells of a word that is no text.
+fn command_line(rt: &HostRuntime) -> Result<Vec<String>, Status>
+    ensures { IfErr result (λ status. (status ≡ Status.NoMemory) ⊎ (status ≡ Status.Usage)) }
+{
     match env::args(rt) {
         Ok(words) => words
             .skip(1)
@@ -37,12 +41,8 @@ fn command_line(rt: &HostRuntime) -> Result<Vec<String>, Status> {
 }
 
 fn main(rt: HostRuntime) -> ExitCode {
-    match command_line(&rt) {
-        Ok(words) => {
-            let mut source = StdSource::new(rt.reader());
-            let mut sink = StdSink::new(io::writer(&rt));
-            exit_of(&rt, rt.alloc(), &words, &mut source, &mut sink, &NoMeet)
-        }
-        Err(status) => ExitCode::from(status),
-    }
+    let words = command_line(&rt);
+    let mut source = StdSource::new(rt.reader());
+    let mut sink = StdSink::new(io::writer(&rt));
+    exit_by(&rt, rt.alloc(), words, &mut source, &mut sink, &NoMeet)
 }

@@ -1,8 +1,9 @@
 // The top call of the program.
-ghost use Rattle.std.specs.Prelude.{◌≡◌, IsTrue, ◌↔◌, codes, map, string_bytes};
+ghost use Rattle.std.specs.Prelude.{◌≡◌, IsTrue, ◌↔◌, IfErr, IfOk, codes, map, string_bytes};
 ghost use Rattle.std.specs.Process.{exit_status};
 ghost use Rattle.plant984.specs.Promise.{AsksNothing, ExitsWith, PromisedAll, StartsLive};
 ghost use Rattle.plant984.specs.Promise.{WritesNothing, before_after};
+ghost use Rattle.command_answers.specs.Status.{exit_number};
 
 use crate::live::plant_live;
 use crate::serial::plant_serial;
@@ -70,4 +71,29 @@ pub fn exit_of<S: Source, K: Sink, M: Meet + Sync, R: Threads + Wait + Clock + S
     ensures reads_nothing { AsksNothing (map string_bytes words.now) → source.new ≡ source.old }
 {
     ExitCode::from(plant_top(rt, alloc, words, source, sink, meet))
+}
+
+/// The same for the words of a command line, or, where they could not be read, the number of that
+/// status: then nothing is read or written.
+pub fn exit_by<S: Source, K: Sink, M: Meet + Sync, R: Threads + Wait + Clock + Sync>(
+    rt: &R,
+    alloc: Global,
+    words: Result<Vec<String>, Status>,
+    source: &mut S,
+    sink: &mut K,
+    meet: &M,
+) -> ExitCode
+    ensures unread { IfErr words (λ status. (exit_status result ≡ exit_number status)
+        × (source.new ≡ source.old) × (sink.new ≡ sink.old)) }
+    ensures promised { IfOk words (λ words. ExitsWith (exit_status result) (λ status.
+        (WritesNothing status → sink.new ≡ sink.old) × PromisedAll (map string_bytes words.items)
+        (before_after S.left S.faults source.old source.new)
+        (before_after K.taken K.faults sink.old sink.new) status)) }
+    ensures reads_nothing { IfOk words
+        (λ words. AsksNothing (map string_bytes words.items) → source.new ≡ source.old) }
+{
+    match words {
+        Ok(words) => exit_of(rt, alloc, &words, source, sink, meet),
+        Err(status) => ExitCode::from(status),
+    }
 }

@@ -1,4 +1,4 @@
--- A set of references beside a list of them.
+-- A set of references beside a list of them, and a set of numbers beside the labels of cells.
 use Rattle.std.proofs.Common.{◌≡◌, ℕ, Bool, true, false, cond, ◌&&◌, ◌||◌, ◌==◌, List, [], ◌∷◌}
 use Rattle.std.proofs.Common.{◌++◌, Option, Some, None, is_some, nat_cmp, refl, sym, ap, ◌∙◌, arith}
 use Rattle.std.specs.List.{list_any, cons_option}
@@ -8,14 +8,16 @@ use Rattle.std.proofs.lemmas.Bool.Decides.{nat_tests}
 use Rattle.std.proofs.lemmas.List.Folds.{list_any-append}
 use Rattle.std.proofs.lemmas.List.Elements.{filter_map-append}
 use Rattle.plant_types.specs.declared.reference.Ref.{Ref}
+use Rattle.plant_types.specs.declared.element.Element.{Element}
+use Rattle.plant_types.specs.declared.element.Element.TheVariants.{Label}
 use Rattle.plant_types.specs.declared.network.Cell.{Cell}
 use Rattle.plant_types.specs.contracts.reference.RefOrd.TheImpl as derived
 use Rattle.plant_types.specs.Reference.{ref_cmp, rank_of}
 use Rattle.plant_types.specs.Network.{driven_by}
 use Rattle.plant_types.specs.Checks.{is_same}
-use Rattle.plant_types.specs.Standing.{coils_in}
+use Rattle.plant_types.specs.Standing.{coils_in, is_label_of, repeats_label}
 use Rattle.plant_types.proofs.Contents.{found_by_code}
-use Rattle.plant_loader.specs.Driven.{HoldsJust}
+use Rattle.plant_loader.specs.Driven.{GainsLabel, HoldsJust, HoldsLabels, is_one_of}
 use Rattle.plant_types.proofs.GridLemmas.{same_symm}
 
 -- two references are one where their kinds and their numbers are
@@ -86,3 +88,52 @@ pub HoldsJust-same : (keys : List Ref) (cells other : List Cell) → other ≡ c
     → HoldsJust keys (coils_in cells) → HoldsJust keys (coils_in other)
 HoldsJust-same keys cells other e held =
     λ at. held at ∙ ap (λ (c : List Cell). list_any (is_same at) (coils_in c)) (sym e)
+
+-- the order of numbers finds a number that is the same
+is_at-number : (number other : ℕ) → is_at (nat_cmp number) other ≡ (number == other)
+is_at-number number other = grind (arith, nat_tests)
+
+is_at-turned : (number other : ℕ) → is_at (nat_cmp number) other ≡ (other == number)
+is_at-turned number other = grind (arith, nat_tests)
+
+-- the order finds a number in a list where it is there
+one_of-at : (number : ℕ) (numbers : List ℕ)
+    → list_any (is_at (nat_cmp number)) numbers ≡ is_one_of numbers number
+one_of-at number [] = refl
+one_of-at number (other ∷ numbers) = rw (is_at-number number other, one_of-at number numbers) refl
+
+-- either of two tests
+either_turned : (here there : Bool) → cond here true there ≡ there || here
+either_turned true true = refl
+either_turned true false = refl
+either_turned false true = refl
+either_turned false false = refl
+
+one_or_none : (here : Bool) → here || false ≡ here
+one_or_none true = refl
+one_or_none false = refl
+
+-- one more number is one more LAB
+pub GainsLabel-insert : (old new : List ℕ) (number : ℕ)
+    → ((q : ℕ) → list_any (is_at (nat_cmp q)) new
+    ≡ cond (is_at (nat_cmp number) q) true (list_any (is_at (nat_cmp q)) old))
+    → GainsLabel new old (Label number)
+GainsLabel-insert old new number put = λ at.
+    sym (one_of-at at new) ∙ put at
+    ∙ rw (is_at-turned number at, one_of-at at old) (either_turned (at == number) (is_one_of old at))
+
+-- the numbers hold the labels of one more cell
+pub HoldsLabels-cell : (old new : List ℕ) (cells more : List Cell) (cell : Cell)
+    → more ≡ cells ++ cell ∷ [] → HoldsLabels old cells → GainsLabel new old cell.element
+    → HoldsLabels new more
+HoldsLabels-cell old new cells more cell m held gained = λ number.
+    let test = λ (one : Cell). is_label_of number one.element in
+    gained number ∙ ap (λ b. b || is_label_of number cell.element) (held number)
+    ∙ ap (λ b. list_any test cells || b) (sym (one_or_none (test cell)))
+    ∙ sym (list_any-append test cells (cell ∷ [])) ∙ ap (list_any test) (sym m)
+
+-- the numbers hold the labels of the same cells
+pub HoldsLabels-same : (numbers : List ℕ) (cells other : List Cell) → other ≡ cells
+    → HoldsLabels numbers cells → HoldsLabels numbers other
+HoldsLabels-same numbers cells other e held =
+    λ number. held number ∙ ap (λ (c : List Cell). repeats_label c (Label number)) (sym e)

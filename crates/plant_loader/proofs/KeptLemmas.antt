@@ -29,12 +29,13 @@ use Rattle.plant_types.proofs.GridLemmas.{short_is_place}
 use Rattle.plant_types.proofs.StandingLemmas.{cells_of_networks-push, cells_of_segments-push}
 use Rattle.plant_types.proofs.StandingLemmas.{message_count-push}
 use Rattle.plant_types.proofs.PlanLemmas.{parts-ok, two-ok, four-ok, cell_tests-ok}
-use Rattle.plant_loader.specs.Driven.{HoldsJust}
+use Rattle.plant_loader.specs.Driven.{GainsLabel, HoldsJust}
 use Rattle.plant_loader.specs.Kept.{KeepsProgram}
 use Rattle.cell_text.specs.declared.piece.Piece.TheVariants as pieces
 use Rattle.plant_loader.specs.Program.{ReadProgram, nothing_read, open_network, cells_read, site_of}
 use Rattle.plant_loader.specs.Program.{added, with_network, with_segment}
-use Rattle.plant_loader.proofs.DrivenLemmas.{HoldsJust-cell, HoldsJust-same}
+use Rattle.plant_loader.proofs.DrivenLemmas.{HoldsJust-cell, HoldsJust-same, HoldsLabels-cell}
+use Rattle.plant_loader.proofs.DrivenLemmas.{HoldsLabels-same}
 
 -- all cells with one more
 cells_read-cell : (read : ReadProgram) (cell : Cell)
@@ -82,14 +83,16 @@ passing-fits sizes read cell h =
     record { place = holds.place; shape = holds.shape; message = stands.1.1 }
 
 -- one more cell that passes
-pub KeepsProgram-cell : (old new : List Ref) (messages more : ℕ) (sizes : Sizes)
-    (read : ReadProgram) (cell : Cell) (drives : Option Ref)
+pub KeepsProgram-cell : (old new : List Ref) (numbers gains : List ℕ) (messages more : ℕ)
+    (sizes : Sizes) (read : ReadProgram) (cell : Cell) (drives : Option Ref)
     → first_failed (site_cell_tests (site_of sizes read) read.cells cell) ≡ Ok tt
     → drives ≡ driven_by cell.element
     → more ≡ messages + (if is_message cell.element then 1 else 0)
-    → KeepsProgram old messages read → HoldsJust new (old ++ cons_option drives [])
-    → KeepsProgram new more (added read (pieces.Cell cell))
-KeepsProgram-cell old new messages more sizes read cell drives passes d m kept gained =
+    → KeepsProgram old numbers messages read → HoldsJust new (old ++ cons_option drives [])
+    → GainsLabel gains numbers cell.element
+    → KeepsProgram new gains more (added read (pieces.Cell cell))
+KeepsProgram-cell old new numbers gains messages more sizes read cell drives passes d m kept gained
+    labelled =
     let fits = passing-fits sizes read cell passes in
     let clear = and_parts (is_within cell) (not (list_any (clashes cell) read.cells)) fits.shape in
     let cells = cells_read-cell read cell in
@@ -98,6 +101,8 @@ KeepsProgram-cell old new messages more sizes read cell drives passes d m kept g
     record {
       driven = HoldsJust-cell old new (cells_read read) (cells_read (added read (pieces.Cell cell)))
           cell drives d cells kept.driven gained;
+      labels = HoldsLabels-cell numbers gains (cells_read read)
+          (cells_read (added read (pieces.Cell cell))) cell cells kept.labels labelled;
       count = m ∙ ap (λ n. n + (if is_message cell.element then 1 else 0)) kept.count
           ∙ sym (ap message_count cells
           ∙ message_count-push (cells_read read) cell (is_message cell.element) refl);
@@ -111,14 +116,16 @@ KeepsProgram-cell old new messages more sizes read cell drives passes d m kept g
     }
 
 -- one more short at a free place
-pub KeepsProgram-short : (keys : List Ref) (messages : ℕ) (read : ReadProgram) (short : Short)
-    → first_failed (short_tests read.shorts short) ≡ Ok tt
-    → KeepsProgram keys messages read → KeepsProgram keys messages (added read (pieces.Short short))
-KeepsProgram-short keys messages read short passes kept =
+pub KeepsProgram-short : (keys : List Ref) (numbers : List ℕ) (messages : ℕ) (read : ReadProgram)
+    (short : Short) → first_failed (short_tests read.shorts short) ≡ Ok tt
+    → KeepsProgram keys numbers messages read
+    → KeepsProgram keys numbers messages (added read (pieces.Short short))
+KeepsProgram-short keys numbers messages read short passes kept =
     let holds = two-ok (has_short_place short) (not (list_any (same_short short) read.shorts))
     BadCell BadShape passes in
     record {
       driven = kept.driven;
+      labels = kept.labels;
       count = kept.count;
       few_messages = kept.few_messages;
       cells = kept.cells;
@@ -135,12 +142,14 @@ unfolding IsDistinct
 none_apart = record { within = refl; distinct = tt }
 
 -- a network that is whole, and none of the next one yet
-pub KeepsProgram-network : (keys : List Ref) (messages : ℕ) (read : ReadProgram)
-    → length read.networks < 1000 → KeepsProgram keys messages read
-    → KeepsProgram keys messages (with_network read)
-KeepsProgram-network keys messages read few kept = record {
+pub KeepsProgram-network : (keys : List Ref) (numbers : List ℕ) (messages : ℕ)
+    (read : ReadProgram) → length read.networks < 1000 → KeepsProgram keys numbers messages read
+    → KeepsProgram keys numbers messages (with_network read)
+KeepsProgram-network keys numbers messages read few kept = record {
   driven = HoldsJust-same keys (cells_read read) (cells_read (with_network read))
       (cells_read-network read) kept.driven;
+  labels = HoldsLabels-same numbers (cells_read read) (cells_read (with_network read))
+      (cells_read-network read) kept.labels;
   count = kept.count ∙ ap message_count (sym (cells_read-network read));
   few_messages = kept.few_messages;
   cells = none_apart;
@@ -150,12 +159,14 @@ KeepsProgram-network keys messages read few kept = record {
 }
 
 -- a segment that is whole, and none of the next one yet
-pub KeepsProgram-segment : (keys : List Ref) (messages : ℕ) (read : ReadProgram)
-    → length read.segments < 32 → KeepsProgram keys messages read
-    → KeepsProgram keys messages (with_segment read)
-KeepsProgram-segment keys messages read few kept = record {
+pub KeepsProgram-segment : (keys : List Ref) (numbers : List ℕ) (messages : ℕ)
+    (read : ReadProgram) → length read.segments < 32 → KeepsProgram keys numbers messages read
+    → KeepsProgram keys numbers messages (with_segment read)
+KeepsProgram-segment keys numbers messages read few kept = record {
   driven = HoldsJust-same keys (cells_read read) (cells_read (with_segment read))
       (cells_read-segment read) kept.driven;
+  labels = HoldsLabels-same numbers (cells_read read) (cells_read (with_segment read))
+      (cells_read-segment read) kept.labels;
   count = kept.count ∙ ap message_count (sym (cells_read-segment read));
   few_messages = kept.few_messages;
   cells = kept.cells;
@@ -165,10 +176,11 @@ KeepsProgram-segment keys messages read few kept = record {
 }
 
 -- nothing yet
-pub KeepsProgram-none : (count : ℕ) (keys : List Ref) → keys ≡ []
-    → KeepsProgram keys 0 (nothing_read count)
-KeepsProgram-none count keys e = record {
+pub KeepsProgram-none : (count : ℕ) (keys : List Ref) (numbers : List ℕ) → keys ≡ []
+    → numbers ≡ [] → KeepsProgram keys numbers 0 (nothing_read count)
+KeepsProgram-none count keys numbers e f = record {
   driven = λ at. rw e refl;
+  labels = λ number. rw f refl;
   count = refl;
   few_messages = omega arith;
   cells = none_apart;
@@ -178,9 +190,10 @@ KeepsProgram-none count keys e = record {
 }
 
 -- how many cells and shorts there are at most
-pub KeepsProgram-few : (keys : List Ref) (messages : ℕ) (read : ReadProgram)
-    → KeepsProgram keys messages read → (length read.cells ≤ 96) × (length read.shorts ≤ 96)
-KeepsProgram-few keys messages read kept =
+pub KeepsProgram-few : (keys : List Ref) (numbers : List ℕ) (messages : ℕ) (read : ReadProgram)
+    → KeepsProgram keys numbers messages read
+    → (length read.cells ≤ 96) × (length read.shorts ≤ 96)
+KeepsProgram-few keys numbers messages read kept =
     let cell_count : length read.cells ≤ 96 = omega (
       arith,
       length-map {B = ℕ × ℕ} read.cells (λ (cell : Cell). (cell.row, cell.column)),

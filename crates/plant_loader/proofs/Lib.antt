@@ -7,7 +7,6 @@ pub mod KeptLemmas
 pub mod InOrderLemmas
 pub mod KeyLemmas
 pub mod ScriptLemmas
-pub mod LabelLemmas
 pub mod NumeralLemmas
 pub mod RisingLemmas
 pub mod TestLemmas

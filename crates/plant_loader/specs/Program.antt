@@ -1,7 +1,6 @@
 -- What was read of a controller's segments so far, and one more piece, network or segment behind
 -- it.
-use Rattle.std.specs.Prelude.{◌≡◌, ℕ, ◌+◌, Bool, List, [], ◌∷◌, ◌++◌, length, Result, Ok}
-use Rattle.std.specs.List.{list_any}
+use Rattle.std.specs.Prelude.{◌≡◌, ℕ, ◌+◌, List, [], ◌∷◌, ◌++◌, length, Result, Ok}
 use Rattle.toml.specs.Data.{Members}
 use Rattle.plant_types.specs.declared.network.Cell as plain_cells
 use Rattle.plant_types.specs.declared.network.Short as plain_shorts
@@ -12,8 +11,7 @@ use Rattle.plant_types.specs.declared.fault.Place.{Place}
 use Rattle.plant_types.specs.Sizes.{Sizes}
 use Rattle.plant_types.specs.Fault.{cell_place, at_place}
 use Rattle.plant_types.specs.PlanTests.{Site}
-use Rattle.plant_types.specs.declared.element.Element.TheVariants as elements
-use Rattle.plant_types.specs.Standing.{cells_before, repeats_label}
+use Rattle.plant_types.specs.Standing.{cells_before}
 use Rattle.cell_text.specs.declared.piece.Piece.{Piece}
 use Rattle.cell_text.specs.declared.piece.Piece.TheVariants.{Cell, Short}
 use Rattle.cell_text.specs.Steps.{◌>>=◌}
@@ -43,18 +41,6 @@ open_network read = record { cells = read.cells; shorts = read.shorts }
 -- Where it stands. This project's own.
 abbrev pub site_of : Sizes → ReadProgram → Site
 site_of sizes read = site_behind sizes read.count read.segments read.networks
-
--- One of these cells is the LAB of a number; one of these networks, or of these segments, has it.
--- This project's own.
-abbrev pub has_label_in : List plain_cells.Cell → ℕ → Bool
-has_label_in cells number = repeats_label cells (elements.Label number)
-
-abbrev pub is_label_of_any : List Network → ℕ → Bool
-is_label_of_any networks number = list_any (λ network. has_label_in network.cells number) networks
-
-abbrev pub is_label_before : List Segment → ℕ → Bool
-is_label_before segments number =
-    list_any (λ segment. is_label_of_any segment.networks number) segments
 
 -- All cells so far. This project's own.
 abbrev pub cells_read : ReadProgram → List plain_cells.Cell

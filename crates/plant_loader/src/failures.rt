@@ -1,7 +1,6 @@
 //! The power rows of a controller.
 ghost use Rattle.std.specs.Prelude.{◌≡◌, ◌≤◌, length, map, option_map};
 ghost use Rattle.cell_text.specs.Words.{text_words};
-ghost use Rattle.plant_types.specs.PlanTests.{is_behind_dark};
 ghost use Rattle.plant_loader.specs.Given.{texts_in};
 ghost use Rattle.plant_loader.specs.Refusals.{Gives};
 ghost use Rattle.plant_loader.specs.Failures.{power_words_in, power_words};
@@ -13,6 +12,7 @@ use crate::refusal::{LoadEnd, Refusal};
 use cell_text::next_word;
 use plant_types::{
     DARK_LIMIT, List, MOST_SCANS, ORDER_LIMIT, OrderRow, POWER_LIMIT, Place, PlantFault, PowerRow,
+    is_behind_dark,
 };
 use std::alloc::Global;
 
@@ -34,16 +34,6 @@ fn power_words(text: &[u8]) -> Option<PowerWords<'_>>
         return None;
     }
     Some(PowerWords { scan, row, dark })
-}
-
-/// Whether a row's scan comes after the last dark one of the row before.
-fn follows(before: Option<PowerRow>, row: PowerRow) -> bool
-    ensures { result ≡ is_behind_dark before row }
-{
-    match before {
-        Some(before) => u64::from(before.scan) + u64::from(before.dark) < u64::from(row.scan),
-        None => true,
-    }
 }
 
 #[tactic(auto, unfolding(crate::specs::Failures::power_row))]
@@ -72,7 +62,7 @@ fn power_row(
     };
     let row = row as u16;
     let found = PowerRow { scan, row, dark };
-    if follows(earlier.last().copied(), found) {
+    if is_behind_dark(earlier.last().copied(), found) {
         Ok(found)
     } else {
         Err(bad_power)

@@ -3,23 +3,22 @@ ghost use Rattle.std.specs.Prelude.{◌≡◌, ◌<◌, ◌≤◌, ◌+◌, ◌|
 ghost use Rattle.std.specs.Prelude.{[], length, Ok, if◌then◌else◌};
 ghost use Rattle.std.specs.List.{cons_option, list_any};
 ghost use Rattle.plant_types.specs.FirstFault.{first_failed};
-ghost use Rattle.plant_types.specs.Standing.{cells_before, is_label_of, is_message, repeats_label};
+ghost use Rattle.plant_types.specs.Standing.{is_message, repeats_label};
 ghost use Rattle.plant_types.specs.Standing.{standing_of, coils_in, is_driven, message_count};
 ghost use Rattle.plant_types.specs.Standing.{message_limit};
 ghost use Rattle.plant_types.specs.Network.{driven_by};
 ghost use Rattle.plant_types.specs.PlanTests.{site_cell_tests};
 ghost use Rattle.plant_types.specs.FirstFault.{short_tests};
-ghost use Rattle.plant_loader.specs.Driven.{HoldsJust};
+ghost use Rattle.plant_loader.specs.Driven.{GainsLabel, HoldsJust};
 ghost use Rattle.plant_loader.specs.Refusals.{Gives, Makes};
-ghost use Rattle.plant_loader.specs.Program.{ReadProgram, cells_read, has_label_in};
-ghost use Rattle.plant_loader.specs.Program.{is_label_before, is_label_of_any, nothing_read};
+ghost use Rattle.plant_loader.specs.Program.{ReadProgram, cells_read, nothing_read};
 ghost use Rattle.plant_loader.specs.Program.{piece_count, place_of_next, site_of, with_cell};
 ghost use Rattle.plant_loader.specs.Program.{with_network, with_segment, with_short};
 
 use crate::refusal::LoadEnd;
 use plant_types::{
     Cell, Element, List, MESSAGE_LIMIT, NETWORK_LIMIT, Network, Place, PlantFault, Ref,
-    SEGMENT_LIMIT, Segment, Short, Sizes, Standing, driven_by, is_label, is_label_of, is_message,
+    SEGMENT_LIMIT, Segment, Short, Sizes, Standing, driven_by, is_label, is_message,
 };
 use std::alloc::Global;
 use std::collections::BTreeSet;
@@ -27,8 +26,7 @@ use std::marker::Model;
 
 /// How many segments there are in all, those that are whole, the networks of the next one that are
 /// whole, the cells and shorts of the network that is being read, the coils that all cells drive,
-/// and how many messages they are.
-#[derive(Drop)]
+/// the numbers of their labels, and how many messages they are.
 pub struct Program {
     count: usize,
     segments: List<Segment>,
@@ -36,6 +34,7 @@ pub struct Program {
     cells: List<Cell>,
     shorts: List<Short>,
     driven: BTreeSet<Ref>,
+    labels: BTreeSet<u16>,
     messages: usize,
 }
 
@@ -53,7 +52,7 @@ impl Model for Program {
       shorts = p.shorts;
     } };
 
-    ghost invariant = { λ p. KeepsProgram p.driven.keys p.messages
+    ghost invariant = { λ p. KeepsProgram p.driven.keys p.labels.keys p.messages
         (record {
           count = p.count;
           segments = p.segments;
@@ -61,6 +60,21 @@ impl Model for Program {
           cells = p.cells;
           shorts = p.shorts;
         }) };
+}
+
+impl Drop for Program {
+    fn drop(self) {
+        let Program {
+            count: _,
+            segments: _,
+            networks: _,
+            cells: _,
+            shorts: _,
+            driven: _,
+            labels: _,
+            messages: _,
+        } = self;
+    }
 }
 
 /// The references of a set, and one more, if there is one.
@@ -76,44 +90,17 @@ fn with_coil(mut driven: BTreeSet<Ref>, coil: Option<Ref>) -> Result<BTreeSet<Re
     }
 }
 
-fn has_label_in(cells: &[Cell], number: u16) -> bool
-    ensures { result ≡ has_label_in cells.now number }
+/// The numbers of a set, and that of an element that is a LAB.
+fn with_label(mut labels: BTreeSet<u16>, element: Element) -> Result<BTreeSet<u16>, LoadEnd>
+    ensures { Makes result (λ new. GainsLabel new.keys labels.keys element) }
 {
-    cells.iter().any(|cell| is_label_of(number, cell.element))
-}
-
-fn is_label_of_any(networks: &[Network], number: u16) -> bool
-    ensures { result ≡ is_label_of_any networks.now number }
-{
-    networks
-        .iter()
-        .any(|network| has_label_in(network.cells.as_slice(), number))
-}
-
-fn is_label_before(segments: &[Segment], number: u16) -> bool
-    ensures { result ≡ is_label_before segments.now number }
-{
-    segments.iter().any(|segment| is_label_of_any(segment.networks.as_slice(), number))
-}
-
-fn is_label_in_parts(
-    segments: &[Segment],
-    networks: &[Network],
-    cells: &[Cell],
-    number: u16,
-) -> bool
-    ensures { result ≡ (is_label_before segments.now number
-        || is_label_of_any networks.now number) || has_label_in cells.now number }
-{
-    (is_label_before(segments, number) || is_label_of_any(networks, number))
-        || has_label_in(cells, number)
-}
-
-/// Whether one of the cells of segments, networks and a network is the LAB of this number.
-fn is_label_among(segments: &[Segment], networks: &[Network], cells: &[Cell], number: u16) -> bool
-    ensures { result ≡ has_label_in (cells_before segments.now networks.now ++ cells.now) number }
-{
-    is_label_in_parts(segments, networks, cells, number)
+    let Element::Label(number) = element else {
+        return Ok(labels);
+    };
+    match labels.insert(number) {
+        Ok(_) => Ok(labels),
+        Err(_) => Err(LoadEnd::NoMemory),
+    }
 }
 
 /// How many messages there are with an element more.
@@ -140,6 +127,7 @@ impl Program {
             cells: List::new(alloc),
             shorts: List::new(alloc),
             driven: BTreeSet::new(alloc),
+            labels: BTreeSet::new(alloc),
             messages: 0,
         }
     }
@@ -158,12 +146,7 @@ impl Program {
         ensures { result ≡ repeats_label (cells_read self.now) element }
     {
         match element {
-            Element::Label(number) => is_label_among(
-                self.segments.as_slice(),
-                self.networks.as_slice(),
-                self.cells.as_slice(),
-                number,
-            ),
+            Element::Label(number) => self.labels.contains(&number),
             _ => false,
         }
     }
@@ -215,9 +198,11 @@ impl Program {
             mut cells,
             shorts,
             driven,
+            labels,
             messages,
         } = self;
         let driven = with_coil(driven, driven_by(cell.element))?;
+        let labels = with_label(labels, cell.element)?;
         let messages = messages_with(messages, cell.element);
         cells.push(cell)?;
         Ok(Program {
@@ -227,6 +212,7 @@ impl Program {
             cells,
             shorts,
             driven,
+            labels,
             messages,
         })
     }
@@ -254,6 +240,7 @@ impl Program {
             cells,
             mut shorts,
             driven,
+            labels,
             messages,
         } = self;
         shorts.push(short)?;
@@ -264,6 +251,7 @@ impl Program {
             cells,
             shorts,
             driven,
+            labels,
             messages,
         })
     }
@@ -320,6 +308,7 @@ impl Program {
             cells,
             shorts,
             driven,
+            labels,
             messages,
         } = self;
         networks.push(Network { cells, shorts })?;
@@ -330,6 +319,7 @@ impl Program {
             cells: List::new(alloc),
             shorts: List::new(alloc),
             driven,
+            labels,
             messages,
         })
     }
@@ -346,6 +336,7 @@ impl Program {
             cells,
             shorts,
             driven,
+            labels,
             messages,
         } = self;
         segments.push(Segment { networks })?;
@@ -356,6 +347,7 @@ impl Program {
             cells,
             shorts,
             driven,
+            labels,
             messages,
         })
     }
@@ -364,7 +356,16 @@ impl Program {
     pub fn into_segments(self) -> List<Segment>
         ensures { result ≡ self.segments }
     {
-        let Program { segments, .. } = self;
+        let Program {
+            count: _,
+            segments,
+            networks: _,
+            cells: _,
+            shorts: _,
+            driven: _,
+            labels: _,
+            messages: _,
+        } = self;
         segments
     }
 }

@@ -26,13 +26,24 @@ use toml::Table;
 
 /// The arrays of a controller's table: the texts of its panel, of its orders and of its power rows,
 /// and the tables of its drops and of its segments.
-#[derive(Drop)]
 struct Arrays<'a> {
     panel: Vec<&'a str>,
     drops: Vec<&'a Table>,
     segments: Vec<&'a Table>,
     orders: Vec<&'a str>,
     power: Vec<&'a str>,
+}
+
+impl Drop for Arrays<'_> {
+    fn drop(self) {
+        let Arrays {
+            panel: _,
+            drops: _,
+            segments: _,
+            orders: _,
+            power: _,
+        } = self;
+    }
 }
 
 #[tactic(auto, unfolding(crate::specs::Stations::arrays_at))]

@@ -17,7 +17,6 @@ use std::alloc::Global;
 use toml::Table;
 
 /// The numbers, tables and texts of the file's own table.
-#[derive(Drop)]
 pub struct TopTable<'a> {
     pub scan_time: u32,
     pub watchdog: u32,
@@ -27,6 +26,20 @@ pub struct TopTable<'a> {
     pub controllers: Vec<&'a Table>,
     pub hosts: Vec<&'a Table>,
     pub bridges: Vec<&'a str>,
+}
+
+impl Drop for TopTable<'_> {
+    fn drop(self) {
+        let TopTable {
+            scan_time: _,
+            watchdog: _,
+            shared: _,
+            networks: _,
+            controllers: _,
+            hosts: _,
+            bridges: _,
+        } = self;
+    }
 }
 
 /// The tables of the array at a key, which must have one at least.

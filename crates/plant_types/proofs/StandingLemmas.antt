@@ -92,11 +92,6 @@ cells_of_segments-push segments segment =
     ∙ ap (λ cells. cells_of_segments segments ++ cells)
     (append-nil (cells_of_networks segment.networks))
 
--- what is left behind some, and behind more
-pub left_more : (start left new some more total : ℕ) → left ≡ start - some → new ≡ left - more
-    → total ≡ some + more → new ≡ start - total
-left_more start left new some more total a b c = omega arith
-
 -- one cell more, and how many messages there are with it
 pub message_count-push : (cells : List Cell) (cell : Cell) (message : Bool)
     → is_message cell.element ≡ message

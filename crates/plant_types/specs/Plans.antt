@@ -94,10 +94,6 @@ PassesTests plan = first_failed (controller_tests plan) ≡ Ok tt
 abbrev pub KeepsPower : ControllerPlan → Type 0
 KeepsPower plan = plan.power ≡ []
 
--- Each controller of a plant keeps its power.
-abbrev pub AllKeepPower : Plant → Type 0
-AllKeepPower plant = All KeepsPower plant.controllers
-
 -- The addresses of controllers and of hosts.
 abbrev pub controller_nodes : Plant → List ℕ
 controller_nodes plant = map (λ plan. plan.node) plant.controllers

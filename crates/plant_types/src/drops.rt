@@ -35,7 +35,6 @@ pub struct Module {
 }
 
 /// What the field gives a drop at one input exchange. This project's own.
-#[derive(Drop)]
 pub enum ScriptRow {
     /// The drop does not answer.
     Silent,
@@ -43,8 +42,15 @@ pub enum ScriptRow {
     Row(Words),
 }
 
+impl Drop for ScriptRow {
+    fn drop(self) {
+        match self {
+            ScriptRow::Silent | ScriptRow::Row(_) => {}
+        }
+    }
+}
+
 /// A drop: its modules, and what the field gives it. The script is this project's own.
-#[derive(Drop)]
 pub struct IoDrop {
     /// 1 to 32.
     pub number: u8,
@@ -52,4 +58,14 @@ pub struct IoDrop {
     pub modules: List<Module>,
     /// 1 to 10,000 rows; the last one stands for all later exchanges.
     pub script: List<ScriptRow>,
+}
+
+impl Drop for IoDrop {
+    fn drop(self) {
+        let IoDrop {
+            number: _,
+            modules: _,
+            script: _,
+        } = self;
+    }
 }

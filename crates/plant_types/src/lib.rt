@@ -108,6 +108,7 @@ pub use plan_tests::REFERENCE_LIMIT;
 pub use plan_tests::SEGMENT_LIMIT;
 pub use plan_tests::has_control;
 pub use plan_tests::has_drop;
+pub use plan_tests::is_behind_dark;
 pub use plan_tests::is_segment;
 pub use plan_tests::is_subroutines;
 pub use power::NodePower;

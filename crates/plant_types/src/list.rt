@@ -5,7 +5,6 @@ use std::alloc::{AllocError, Global};
 use std::marker::Model;
 
 /// A growing list. This project's own.
-#[derive(Drop)]
 pub struct List<T> {
     items: Vec<T>,
 }
@@ -14,6 +13,12 @@ impl<T> Model for List<T> {
     ghost Value = { Items T };
 
     ghost view = { λ l. l.items.items };
+}
+
+impl<T: Drop> Drop for List<T> {
+    fn drop(self) {
+        let List { items: _ } = self;
+    }
 }
 
 impl<T> List<T> {

@@ -20,7 +20,6 @@ pub enum Fate {
 }
 
 /// A network: its members, and how its ring treats them. All but the members is this project's own.
-#[derive(Drop)]
 pub struct NetPlan {
     /// 1 to 8; 0 in a plant file of version 1.
     pub number: u8,
@@ -41,8 +40,22 @@ pub struct NetPlan {
     pub holds: u32,
 }
 
+impl Drop for NetPlan {
+    fn drop(self) {
+        let NetPlan {
+            number: _,
+            members: _,
+            bridges: _,
+            fates: _,
+            answer: _,
+            rotations: _,
+            rounds: _,
+            holds: _,
+        } = self;
+    }
+}
+
 /// A request that a host makes. This project's own.
-#[derive(Drop)]
 pub struct HostAsk {
     /// The hold of the token from which on it is due, 1 to 10,000.
     pub hold: u32,
@@ -52,8 +65,17 @@ pub struct HostAsk {
     pub pdu: Pdu,
 }
 
+impl Drop for HostAsk {
+    fn drop(self) {
+        let HostAsk {
+            hold: _,
+            route: _,
+            pdu: _,
+        } = self;
+    }
+}
+
 /// A host: a node that asks others and solves nothing.
-#[derive(Drop)]
 pub struct HostPlan {
     /// Its address on the network, 1 to 64.
     pub node: u8,
@@ -61,6 +83,16 @@ pub struct HostPlan {
     pub network: u8,
     /// Up to 1000, asked in their order.
     pub requests: List<HostAsk>,
+}
+
+impl Drop for HostPlan {
+    fn drop(self) {
+        let HostPlan {
+            node: _,
+            network: _,
+            requests: _,
+        } = self;
+    }
 }
 
 /// A bridge: one station with an address on each of two networks. This project's own form.

@@ -18,14 +18,27 @@ pub struct Short {
 }
 
 /// One network, its cells and shorts in the order of its text.
-#[derive(Drop)]
 pub struct Network {
     pub cells: List<Cell>,
     pub shorts: List<Short>,
 }
 
+impl Drop for Network {
+    fn drop(self) {
+        let Network {
+            cells: _,
+            shorts: _,
+        } = self;
+    }
+}
+
 /// Networks that are solved together, in their order.
-#[derive(Drop)]
 pub struct Segment {
     pub networks: List<Network>,
+}
+
+impl Drop for Segment {
+    fn drop(self) {
+        let Segment { networks: _ } = self;
+    }
 }

@@ -52,7 +52,6 @@ pub struct PowerRow {
 }
 
 /// One controller: how many references it has, what its panel shows and what it solves.
-#[derive(Drop)]
 pub struct ControllerPlan {
     /// Its address on the network, 1 to 64.
     pub node: u8,
@@ -78,9 +77,26 @@ pub struct ControllerPlan {
     pub segments: List<Segment>,
 }
 
+impl Drop for ControllerPlan {
+    fn drop(self) {
+        let ControllerPlan {
+            node: _,
+            network: _,
+            coils: _,
+            inputs: _,
+            input_registers: _,
+            registers: _,
+            panel: _,
+            orders: _,
+            power: _,
+            drops: _,
+            segments: _,
+        } = self;
+    }
+}
+
 /// A plant: its networks by rising number, its controllers and hosts by rising node, and its bridges
 /// by rising left address.
-#[derive(Drop)]
 pub struct Plant {
     /// How far the clock goes on at each scan, 1 to 1000 ticks of 10 ms.
     pub scan_time: u32,
@@ -90,6 +106,19 @@ pub struct Plant {
     pub controllers: List<ControllerPlan>,
     pub hosts: List<HostPlan>,
     pub bridges: List<BridgePlan>,
+}
+
+impl Drop for Plant {
+    fn drop(self) {
+        let Plant {
+            scan_time: _,
+            watchdog: _,
+            nets: _,
+            controllers: _,
+            hosts: _,
+            bridges: _,
+        } = self;
+    }
 }
 
 /// Whether a node is a member of a network.

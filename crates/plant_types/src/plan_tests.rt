@@ -304,7 +304,8 @@ fn has_power_numbers(plan: &ControllerPlan, row: PowerRow) -> bool
         && usize::from(row.row) <= plan.orders.as_slice().len()
 }
 
-fn is_behind_dark(before: Option<PowerRow>, row: PowerRow) -> bool
+/// Whether a row's scan comes after the last dark one of the row before.
+pub fn is_behind_dark(before: Option<PowerRow>, row: PowerRow) -> bool
     ensures { result ≡ is_behind_dark before row }
 {
     match before {

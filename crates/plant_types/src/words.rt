@@ -6,7 +6,6 @@ use std::alloc::{AllocError, Global};
 use std::marker::Model;
 
 /// Words of registers, each 0 to 65,535. This project's own.
-#[derive(Drop)]
 pub struct Words {
     items: Vec<u16>,
 }
@@ -17,6 +16,12 @@ impl Model for Words {
     ghost Value = { List ℕ };
 
     ghost view = { λ w. w.items.items };
+}
+
+impl Drop for Words {
+    fn drop(self) {
+        let Words { items: _ } = self;
+    }
 }
 
 impl Words {
@@ -42,7 +47,6 @@ pub const PDU_LIMIT: usize = 253;
 
 /// A protocol data unit: the function code and its data, 1 to 253 bytes
 /// (*Modicon Modbus Protocol Reference Guide*; the bounds are this project's own).
-#[derive(Drop)]
 pub struct Pdu {
     items: Vec<u8>,
 }
@@ -56,6 +60,12 @@ impl Model for Pdu {
     ghost view = { λ p. p.items.items };
 
     ghost invariant = { λ p. IsPduLength p.items.items };
+}
+
+impl Drop for Pdu {
+    fn drop(self) {
+        let Pdu { items: _ } = self;
+    }
 }
 
 impl Pdu {

@@ -29,7 +29,7 @@ use Rattle.comm_port.specs.Parts.{calls_waiting}
 use Rattle.comm_port.specs.Turns.{IsNoBridge}
 use Rattle.comm_port.specs.Waiting.{id_of}
 use Rattle.comm_port.specs.WholeTurn.{failing_end, working_end, is_unnoticed, HoldsTurn, TurnsBy}
-use Rattle.comm_port.specs.Worker.{WorkerIs, Standing, new_worker}
+use Rattle.comm_port.specs.Worker.{IsMemberWorker, Standing, WorkerIs, new_worker}
 use Rattle.comm_port.proofs.Onward.{none-bridges}
 use Rattle.comm_port.proofs.Standings.{standing-new, standing-others, standing-scans}
 use Rattle.port_tests.specs.PowerTests.{CanTurn}
@@ -182,23 +182,27 @@ has-two net members = subst (λ (l : List ℕ). Contains l 2) (sym members) (0, 
 pub has-five : (net : NetPlan) → net.members ≡ 2 ∷ 5 ∷ [] → IsMember net 5
 has-five net members = subst (λ (l : List ℕ). Contains l 5) (sym members) (1, omega arith, refl)
 
-standing-first : (n : ℕ) (c : ControllerIs) (net : NetPlan) → c.fixed.plan.node ≡ n
-    → c.history ≡ []
-    → Standing (new_worker n net true) (record { fixed = c.fixed; place = tt {0} }) c.history
+standing-first : (n : ℕ) (c : ControllerIs) (net : NetPlan) → IsMemberWorker net n
+    → c.fixed.plan.node ≡ n → c.history ≡ []
+    → Standing (new_worker n true) (record { fixed = c.fixed; place = tt {0} }) c.history
     (own_side net) []
-standing-first n c net node empty = standing-new n net true
-    (record { fixed = c.fixed; place = tt {0} }) c.history (own_side net) node refl tt
+standing-first n c net member node empty = standing-new n true
+    (record { fixed = c.fixed; place = tt {0} }) c.history (own_side net) node member tt
     (ap (filter is_ours) empty)
 
 -- a controller that has not begun stands where nothing has happened
 pub ready-new : (n : ℕ) (c : ControllerIs) (w : WorkerIs) (away : Bool) (net : NetPlan)
-    → net.members ≡ 2 ∷ 5 ∷ [] → net.bridges ≡ [] → IsMember net n → c.fixed.plan.node ≡ n
-    → c.history ≡ []
-    → w ≡ new_worker n net true → away ≡ false → CanTurn n c w away net []
-ready-new n c w away net members none member node empty is there = record {
+    → net.members ≡ 2 ∷ 5 ∷ [] → net.bridges ≡ [] → IsMember net n → 0 < net.answer
+    → c.fixed.plan.node ≡ n → c.history ≡ [] → w ≡ new_worker n true → away ≡ false
+    → CanTurn n c w away net []
+ready-new n c w away net members none member answer node empty is there = record {
   worker_node = ap (λ (x : WorkerIs). x.node) is;
   standing = subst (λ (x : WorkerIs). Standing x (record { fixed = c.fixed; place = tt {0} })
-      c.history (own_side net) []) (sym is) (standing-first n c net node empty);
+      c.history (own_side net) []) (sym is) (standing-first n c net (record {
+        members = low-members net members;
+        member = member;
+        answer = answer;
+      }) node empty);
   on = record {
     members = low-members net members;
     legal = tt;

@@ -237,7 +237,7 @@ fn station_of(
     ensures { IfOk result (λ station. CanTurn node station.controller station.worker station.away
         net.now []) }
 {
-    let worker = CommWorker::new(alloc, node, net, true)?;
+    let worker = CommWorker::new(alloc, node, true)?;
     Ok(Station {
         controller,
         worker,

@@ -211,7 +211,7 @@ fn turn_on(
     requires holder { (ring_after ring.old.net []).holder ≡ 2 }
     requires members { All (λ m. m < addresses) net.now.members }
 {
-    let mut worker = CommWorker::new(alloc, 2, net, true)?;
+    let mut worker = CommWorker::new(alloc, 2, true)?;
     let _end = worker.hold_turn(controller, ring)?;
     Ok(())
 }

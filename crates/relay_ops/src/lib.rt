@@ -25,8 +25,8 @@ pub enum ContactKind {
     Fall,
 }
 
-/// Whether a contact passes power. `past` holds the discretes as the last scan ended: the
-/// transitional contacts compare with it.
+/// Whether a contact passes power. `past` holds the discretes as they stood when the last scan with
+/// power ended or failed: the transitional contacts compare with it.
 pub fn contact<R: RefStore, P: RefStore>(kind: ContactKind, at: Ref, ram: &R, past: &P) -> bool
     requires now { HasDiscrete (R.contents ram.now) at }
     requires before { HasDiscrete (P.contents past.now) at }

@@ -17,7 +17,7 @@ use Rattle.ring_core.specs.Stability.{HolderIsMember}
 use Rattle.ring_core.specs.Kept.{IsSoundRing}
 use Rattle.ring_core.proofs.Runs.{after_all-push}
 use Rattle.ring_core.proofs.Sound.{after-sound, each-replicate, opening-sound}
-use Rattle.ring_core.proofs.Keeping.{member-low, sourced}
+use Rattle.ring_core.proofs.Keeping.{member-low}
 use Rattle.ring_core.proofs.Stability.{away-left, first_none, leave_or_join-made, out, status-sent}
 use Rattle.ring_core.proofs.Stability.{status-set, step-status}
 
@@ -177,7 +177,7 @@ step-tended net past e low step i =
     let range : maker e < length r.nodes =
     subst (λ (size : ℕ). maker e < size) (sym i.sound.size) (member-low net (maker e) low member) in
     record {
-      sound = after-sound net (length past) r e i.sound (sourced net past e low step);
+      sound = after-sound net (length past) r e i.sound;
       there = step-there net past r e step.1 range i.there;
       planned = λ n. step-planned net r e member n (i.planned n);
     }

@@ -1,44 +1,27 @@
 -- The fields after one more entry.
 use Rattle.std.proofs.Common.{◌≡◌, ℕ, ◌<◌, List, [], ◌∷◌, ◌++◌, length, get_or, All, sym, ap, ◌∙◌}
-use Rattle.std.proofs.Common.{false, subst, arith}
+use Rattle.std.proofs.Common.{false, subst}
 use Rattle.std.proofs.lemmas.List.{length_push, get_or_read}
 use Rattle.std.proofs.lemmas.List.Elements.{All-contains}
 use Rattle.global_data.specs.Book.{Book, new_book}
 use Rattle.station_stats.specs.Counts.{StatsIs, stats_words}
 use Rattle.ring_core.proofs.Noting.{stats-scratch, length-stats}
-use Rattle.ring_core.specs.Words.{NetPlan, RingEntry, Post, Send, Take, Local, GiveUp, Pass, Leave}
-use Rattle.ring_core.specs.Words.{Join, FrameKind}
+use Rattle.ring_core.specs.Words.{NetPlan, RingEntry}
 use Rattle.ring_core.specs.Machine.{NodeIs, RingIs, after, opening, addresses, least_from}
 use Rattle.ring_core.specs.Machine.{ring_after, ring_node, fresh, opening_nodes}
 use Rattle.ring_core.specs.Scratch.{ring_notes, heard_words, count_members, members_now}
 use Rattle.ring_core.specs.Scratch.{station_counts, statistics}
-use Rattle.ring_core.specs.Legal.{IsRingStep, IsMember, IsFrom}
+use Rattle.ring_core.specs.Legal.{IsRingStep, IsMember}
 use Rattle.ring_core.specs.Kept.{IsRingKept, IsSoundRing, IsBook}
 use Rattle.ring_core.specs.Kept.{stats_at, noted_all, opening_stats, book_step}
 use Rattle.ring_core.proofs.Runs.{IsLegal-push, after_all-push, stats_after-push}
-use Rattle.ring_core.proofs.Sound.{IsSourced, after-sound, opening-sound}
+use Rattle.ring_core.proofs.Sound.{after-sound, opening-sound}
 use Rattle.ring_core.proofs.Books.{book-push, opening-book}
 
 -- a member's address is low
 pub member-low : (net : NetPlan) (n : ℕ) → All (λ m. m < addresses) net.members → IsMember net n
     → n < addresses
 member-low net n all member = All-contains (λ m. m < addresses) net.members n all member
-
--- a Request that is posted asks for a member, on a path of its own
-pub sourced : (net : NetPlan) (h : List RingEntry) (e : RingEntry)
-    → All (λ m. m < addresses) net.members → IsRingStep net h e → IsSourced e
-sourced net h (Post n f) all step = λ asks.
-    let from = subst (λ (kind : FrameKind). IsFrom n kind f) asks step.0.1 in (
-      subst (λ (m : ℕ). m < addresses) (sym from.0) (member-low net n all step.0.0),
-      omega (arith, from.2.1),
-    )
-sourced net h (Send n heard) all step = tt
-sourced net h (Take n f) all step = tt
-sourced net h (Local n id op result) all step = tt
-sourced net h (GiveUp id word) all step = tt
-sourced net h (Pass n done words) all step = tt
-sourced net h (Leave n cause) all step = tt
-sourced net h (Join n) all step = tt
 
 pub kept-push : (net : NetPlan) (h : List RingEntry) (r : RingIs) (s : List StatsIs) (b : Book)
     (e : RingEntry) → IsRingKept net h r s b
@@ -50,7 +33,7 @@ kept-push net h r s b e k step = record {
   legal = IsLegal-push net h e k.legal step;
   state = ap (λ (x : RingIs). after net x e) k.state ∙ sym (after_all-push net (opening net) h e);
   sound = subst (λ (n : ℕ). IsSoundRing n (after net r e)) (sym (length_push h e))
-      (after-sound net (length h) r e k.sound (sourced net h e k.members step));
+      (after-sound net (length h) r e k.sound);
   counters = (λ i. noted_all (k.counters i) (ring_notes net (k.state i) e))
       ∙ sym (stats_after-push net h e);
   said = book-push net h b e k.said step;

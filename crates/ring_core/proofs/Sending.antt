@@ -1,23 +1,20 @@
 -- The fields after a transmission.
 use Rattle.std.proofs.Common.{◌≡◌, ℕ, ◌+◌, ◌<◌, Bool, List, [], ◌∷◌, ◌++◌, length, get_or, set}
-use Rattle.std.proofs.Common.{Option, Some, None, unwrap_or, true, false, cond, All, refl, sym, ap}
+use Rattle.std.proofs.Common.{Option, Some, None, false, refl, sym, ap}
 use Rattle.std.proofs.Common.{◌∙◌, subst}
 use Rattle.std.proofs.lemmas.List.{length-set, get_or_read}
-use Rattle.std.proofs.lemmas.List.Elements.{All-head}
 use Rattle.global_data.specs.Book.{Book}
 use Rattle.station_stats.specs.Counts.{StatsIs}
-use Rattle.ring_core.specs.Words.{NetPlan, RingEntry, Send, Frame, FrameKind, Request, Reply}
-use Rattle.ring_core.specs.Words.{CallId, Fate, Heard, Fell, is_onward}
-use Rattle.ring_core.specs.Words.{AcceptedRequest, AcceptedReply, DroppedReply}
+use Rattle.ring_core.specs.Words.{NetPlan, RingEntry, Send, Frame}
+use Rattle.ring_core.specs.Words.{Fate, Heard, Fell, is_onward}
 use Rattle.ring_core.specs.Machine.{NodeIs, RingIs, ring_node, part_of, fresh, fate_at, heard_of}
-use Rattle.ring_core.specs.Machine.{arrival, arrived, heard_by, sent_head, sent_one, fell}
-use Rattle.ring_core.specs.Machine.{waits_for, path_of, arrives, ring_after, hears}
+use Rattle.ring_core.specs.Machine.{arrival, arrived, heard_by, sent_head, sent_one}
+use Rattle.ring_core.specs.Machine.{ring_after, hears}
 use Rattle.ring_core.specs.Refusals.{turn_no, empty_no, or_no}
 use Rattle.ring_core.specs.Scratch.{counts, heard_event, arrival_notes, sent_notes, send_notes}
 use Rattle.ring_core.specs.Scratch.{ring_notes}
 use Rattle.ring_core.specs.Legal.{IsMember, IsFirst, IsHeard}
-use Rattle.ring_core.specs.Kept.{IsRingKept, noted_at, noted_all, IsSource}
-use Rattle.ring_core.specs.Kept.{HasSource}
+use Rattle.ring_core.specs.Kept.{IsRingKept, noted_at, noted_all}
 use Rattle.ring_core.proofs.Runs.{noted_two}
 use Rattle.ring_core.proofs.Keeping.{kept-call, within}
 
@@ -115,31 +112,3 @@ kept-send net past r s s1 s2 b n f h there fate fall ns p q k member turn first 
     let told = told-send net past r s b n f h fate fall k first fate_is fall_is h_is in
     kept-call net past r _ s s2 b b (Send n h) k (member, (lets, told))
     (next ∙ sym t.next) notes refl
-
-not_asked : (b : Bool) → cond b AcceptedReply DroppedReply ≡ AcceptedRequest → ⊥
-not_asked true e = absurd (cc)
-not_asked false e = absurd (cc)
-
-fell-asks : (c : NodeIs) (kind : FrameKind) (id : CallId) → fell c kind id ≡ AcceptedRequest
-    → kind ≡ Request
-fell-asks c Request id e = refl
-fell-asks c Reply id e = absurd (not_asked (waits_for (path_of c id.path).awaits id.seq) e)
-
-come : (b : Bool) (x : Fell) → cond b (Some x) None ≡ Some AcceptedRequest → x ≡ AcceptedRequest
-come true x e = ap (λ (o : Option Fell). unwrap_or o AcceptedRequest) e
-come false x e = absurd (cc)
-
-head-source : (box : List Frame) (f : Frame) → IsFirst box f → All HasSource box → HasSource f
-head-source [] f first all = absurd first
-head-source (g ∷ gs) f first all = subst HasSource first (All-head HasSource g gs all)
-
--- a Request that is accepted has its source
-pub sent-source : (net : NetPlan) (past : List RingEntry) (r : RingIs) (s : List StatsIs)
-    (b : Book) (n : ℕ) (f : Frame) (fate : Fate) (fall : Option Fell)
-    → IsRingKept net past r s b → IsFirst (ring_node (ring_after net past) n).outbox f
-    → fall ≡ arrival net r.nodes fate f → fall ≡ Some AcceptedRequest → IsSource f.id
-sent-source net past r s b n f fate fall k first fall_is accepted =
-    let own = subst (λ (x : RingIs). IsFirst (ring_node x n).outbox f) (sym k.state) first in
-    let source = head-source (ring_node r n).outbox f own (k.sound.each n).asked in
-    source (fell-asks (part_of r.nodes f.to) f.kind f.id
-    (come (arrives net r.nodes fate f) _ (sym fall_is ∙ accepted)))

@@ -1,10 +1,9 @@
 -- Sizes and bounds after one more entry.
 use Rattle.std.proofs.Common.{◌≡◌, ℕ, zero, suc, ◌+◌, ◌≤◌, Bool, true, false, cond, List, [], ◌∷◌}
 use Rattle.std.proofs.Common.{◌++◌, length, get_or, set, map, drop, replicate, nat_le, not, filter}
-use Rattle.std.proofs.Common.{Option, Some, None, refl, ◌∙◌, arith, leb-false, All}
+use Rattle.std.proofs.Common.{Option, Some, None, refl, ◌∙◌, arith, leb-false}
 use Rattle.std.proofs.lemmas.Bool.{cond_both}
 use Rattle.std.proofs.lemmas.List.{length-set, length-map, length-replicate}
-use Rattle.std.proofs.lemmas.List.Elements.{All-push, All-filter, All-drop, All-nil}
 use Rattle.ring_core.specs.Words.{NetPlan, RingEntry, Post, Send, Take, Local, GiveUp, Pass, Leave}
 use Rattle.ring_core.specs.Words.{Join, LeaveCause, Ended, Spent, Down, NodeStatus, In, Asking}
 use Rattle.ring_core.specs.Words.{Frame, FrameKind, Request, Reply, CallId, Heard, Acked, Silent}
@@ -17,7 +16,7 @@ use Rattle.ring_core.specs.Machine.{is_head, with_frame, heard_by, sent_off, fai
 use Rattle.ring_core.specs.Machine.{arrival, sent_head, heard_of, fate_at, addresses, opening}
 use Rattle.ring_core.specs.Machine.{with_members, after, silence_word, busy_word, hears, is_held}
 use Rattle.ring_core.specs.Machine.{with_status, admitted, downed, gone_by, handed_on}
-use Rattle.ring_core.specs.Kept.{IsSoundNode, IsSoundRing, HasSource}
+use Rattle.ring_core.specs.Kept.{IsSoundNode, IsSoundRing}
 
 -- what holds at each place of a list, past its end too, after a write
 pub each-set : {X : Type 0} (P : X → Type 0) (xs : List X) (d : X) (m : ℕ) (x : X)
@@ -44,7 +43,6 @@ later k c s = record {
   passes = omega (arith, s.passes);
   done_run = omega (arith, s.done_run);
   paths = s.paths;
-  asked = s.asked;
   waits = λ p. omega (arith, s.waits p);
 }
 
@@ -57,37 +55,32 @@ repathed k c path new s low = record {
   done_run = s.done_run;
   paths = length-set c.paths path new
       ∙ s.paths;
-  asked = s.asked;
   waits = each-set (WaitsAtMost k) c.paths no_path path new s.waits low;
 }
 
 -- other boxes and tries
 reboxed : (k : ℕ) (c : NodeIs) (outbox inbox : List Frame) (tries : ℕ) → IsSoundNode k c → tries ≤ 2
-    → All HasSource outbox
     → IsSoundNode k (record c { outbox = outbox; inbox = inbox; tries = tries })
-reboxed k c outbox inbox tries s low asked = record {
+reboxed k c outbox inbox tries s low = record {
   tries = low;
   passes = s.passes;
   done_run = s.done_run;
   paths = s.paths;
-  asked = asked;
   waits = s.waits;
 }
 
-posted-sound : (k : ℕ) (c : NodeIs) (f : Frame) (kind : FrameKind) → IsSoundNode k c → HasSource f
+posted-sound : (k : ℕ) (c : NodeIs) (f : Frame) (kind : FrameKind) → IsSoundNode k c
     → IsSoundNode k (record c { outbox = c.outbox ++ f ∷ []; paths = asked c kind f })
-posted-sound k c f Request s source =
+posted-sound k c f Request s =
     repathed k (record c { outbox = c.outbox ++ f ∷ [] }) f.id.path _
-    (reboxed k c (c.outbox ++ f ∷ []) c.inbox c.tries s s.tries
-    (All-push HasSource c.outbox f s.asked source)) (omega arith)
-posted-sound k c f Reply s source = reboxed k c (c.outbox ++ f ∷ []) c.inbox c.tries s s.tries
-    (All-push HasSource c.outbox f s.asked source)
+    (reboxed k c (c.outbox ++ f ∷ []) c.inbox c.tries s s.tries) (omega arith)
+posted-sound k c f Reply s = reboxed k c (c.outbox ++ f ∷ []) c.inbox c.tries s s.tries
 
 took-sound : (k : ℕ) (c : NodeIs) (kind : FrameKind) (id : CallId) → IsSoundNode k c
     → IsSoundNode k (took c kind id)
-took-sound k c Request id s = reboxed k c c.outbox (drop 1 c.inbox) c.tries s s.tries s.asked
+took-sound k c Request id s = reboxed k c c.outbox (drop 1 c.inbox) c.tries s s.tries
 took-sound k c Reply id s = repathed k (record c { inbox = drop 1 c.inbox }) id.path _
-    (reboxed k c c.outbox (drop 1 c.inbox) c.tries s s.tries s.asked) (omega arith)
+    (reboxed k c c.outbox (drop 1 c.inbox) c.tries s s.tries) (omega arith)
 
 few_tries : (head : Bool) (tries : ℕ) → tries ≤ 2 → cond head 0 tries ≤ 2
 few_tries true tries low = omega arith
@@ -98,8 +91,8 @@ gave_up-sound k c id s =
     let outbox = filter (λ f. not (asks_for id f)) c.outbox in
     let tries = cond (is_head id c.outbox) 0 c.tries in
     repathed k (record c { outbox = outbox; tries = tries }) id.path _
-    (reboxed k c outbox c.inbox tries s (few_tries (is_head id c.outbox) c.tries s.tries)
-    (All-filter (λ f. not (asks_for id f)) HasSource c.outbox s.asked)) (omega arith)
+    (reboxed k c outbox c.inbox tries s (few_tries (is_head id c.outbox) c.tries s.tries))
+    (omega arith)
 
 aged-waits : (k : ℕ) (a : Await) → passes_of a ≤ k → passes_of (aged_await a) ≤ k + 1
 aged-waits k Nothing h = omega arith
@@ -118,7 +111,6 @@ passed-sound k c done s = record {
   passes = omega (arith, s.passes);
   done_run = run-low k c.done_run done s.done_run;
   paths = length-map c.paths aged ∙ s.paths;
-  asked = s.asked;
   waits =
       each-map (WaitsAtMost k) (WaitsAtMost (k + 1)) aged c.paths no_path
       (λ p h. aged-waits k p.awaits h) (omega arith) s.waits;
@@ -130,7 +122,6 @@ gone-sound k c s = record {
   passes = s.passes;
   done_run = s.done_run;
   paths = s.paths;
-  asked = s.asked;
   waits = s.waits;
 }
 
@@ -140,7 +131,6 @@ downed-sound k c number s = record {
   passes = s.passes;
   done_run = omega arith;
   paths = s.paths;
-  asked = All-nil HasSource;
   waits = s.waits;
 }
 
@@ -158,7 +148,6 @@ status-sound k c status s = record {
   passes = s.passes;
   done_run = s.done_run;
   paths = s.paths;
-  asked = s.asked;
   waits = s.waits;
 }
 
@@ -169,35 +158,33 @@ received-sound k c AcceptedRequest f s = record {
   passes = s.passes;
   done_run = s.done_run;
   paths = s.paths;
-  asked = s.asked;
   waits = s.waits;
 }
 received-sound k c RepeatedRequest f s = s
 received-sound k c CrowdedOut f s = s
 received-sound k c AcceptedReply f s =
     repathed k (record c { inbox = c.inbox ++ f ∷ [] }) f.id.path _
-    (reboxed k c c.outbox (c.inbox ++ f ∷ []) c.tries s s.tries s.asked) (omega arith)
+    (reboxed k c c.outbox (c.inbox ++ f ∷ []) c.tries s s.tries) (omega arith)
 received-sound k c DroppedReply f s = s
 
 failed-sound : (k : ℕ) (c : NodeIs) (kind : FrameKind) (id : CallId) (word : ℕ) → IsSoundNode k c
     → IsSoundNode k (sent_off c (failed c kind id word))
 failed-sound k c Request id word s =
     repathed k (record c { outbox = drop 1 c.outbox; tries = 0 }) id.path _
-    (reboxed k c (drop 1 c.outbox) c.inbox 0 s (omega arith)
-    (All-drop HasSource 1 c.outbox s.asked)) (omega arith)
+    (reboxed k c (drop 1 c.outbox) c.inbox 0 s (omega arith)) (omega arith)
 failed-sound k c Reply id word s =
-    reboxed k c (drop 1 c.outbox) c.inbox 0 s (omega arith) (All-drop HasSource 1 c.outbox s.asked)
+    reboxed k c (drop 1 c.outbox) c.inbox 0 s (omega arith)
 
 heard-sound : (k : ℕ) (c : NodeIs) (kind : FrameKind) (id : CallId) (there : Bool) (h : Heard)
     → IsSoundNode k c → IsSoundNode k (heard_by c kind id there h)
 heard-sound k c kind id there Acked s =
-    reboxed k c (drop 1 c.outbox) c.inbox 0 s (omega arith) (All-drop HasSource 1 c.outbox s.asked)
+    reboxed k c (drop 1 c.outbox) c.inbox 0 s (omega arith)
 heard-sound k c kind id there Busy s = failed-sound k c kind id busy_word s
 heard-sound k c kind id there Silent s =
     cond_both (nat_le 2 c.tries) _ _ (IsSoundNode k)
     (λ _. failed-sound k c kind id (silence_word there) s)
     (λ few. reboxed k c c.outbox c.inbox (c.tries + 1) s
-    (omega (arith, leb-false 2 c.tries few)) s.asked)
+    (omega (arith, leb-false 2 c.tries few)))
 
 record AreSound (k : ℕ) (nodes : List NodeIs) : Type 0 where
   pub size : length nodes ≡ addresses
@@ -258,7 +245,6 @@ fresh-sound k here = record {
   passes = omega arith;
   done_run = omega arith;
   paths = refl;
-  asked = All-nil HasSource;
   waits = each-replicate (WaitsAtMost k) 5 no_path (omega arith);
 }
 
@@ -273,31 +259,26 @@ handed-sound k r nodes n sent size each = record {
       (λ c s. status-sound k c _ s) (fresh-sound k false) each;
 }
 
--- a Request that is posted has its source
-abbrev pub IsSourced : RingEntry → Type 0
-IsSourced (Post n f) = HasSource f
-IsSourced _ = Unit {0}
-
 pub after-sound : (net : NetPlan) (k : ℕ) (r : RingIs) (e : RingEntry) → IsSoundRing k r
-    → IsSourced e → IsSoundRing (k + 1) (after net r e)
-after-sound net k r (Post n f) s sourced =
-    put-sound k r n _ s (posted-sound k (ring_node r n) f f.kind (s.each n) sourced)
-after-sound net k r (Send n heard) s sourced = sent-sound net k r n (ring_node r n).outbox s
-after-sound net k r (Take n f) s sourced =
+    → IsSoundRing (k + 1) (after net r e)
+after-sound net k r (Post n f) s =
+    put-sound k r n _ s (posted-sound k (ring_node r n) f f.kind (s.each n))
+after-sound net k r (Send n heard) s = sent-sound net k r n (ring_node r n).outbox s
+after-sound net k r (Take n f) s =
     put-sound k r n _ s (took-sound k (ring_node r n) f.kind f.id (s.each n))
-after-sound net k r (Local n id op result) s sourced =
+after-sound net k r (Local n id op result) s =
     record { sent = omega (arith, s.sent); size = s.size; each = all-later k r.nodes s.each }
-after-sound net k r (GiveUp id word) s sourced =
+after-sound net k r (GiveUp id word) s =
     put-sound k r id.node _ s (gave_up-sound k (ring_node r id.node) id (s.each id.node))
-after-sound net k r (Pass n done words) s sourced =
+after-sound net k r (Pass n done words) s =
     handed-sound (k + 1) r _ n (omega (arith, s.sent)) (length-set r.nodes n _ ∙ s.size)
     (each-set (IsSoundNode (k + 1)) r.nodes (fresh false) n _ (all-later k r.nodes s.each)
     (passed-sound k (ring_node r n) done (s.each n)))
-after-sound net k r (Leave n cause) s sourced =
+after-sound net k r (Leave n cause) s =
     handed-sound (k + 1) r _ n (omega (arith, s.sent)) (length-set r.nodes n _ ∙ s.size)
     (all-later k _ (each-set (IsSoundNode k) r.nodes (fresh false) n _ s.each
     (left-sound k (ring_node r n) cause (s.each n))))
-after-sound net k r (Join n) s sourced =
+after-sound net k r (Join n) s =
     let at = ring_node r n in
     let in_now = put-sound k r n (with_status at In) s (status-sound k at In (s.each n)) in
     let asks = put-sound k r n (with_status at Asking) s (status-sound k at Asking (s.each n)) in

@@ -6,7 +6,7 @@ use Rattle.std.specs.Prelude.{MatchOption}
 use Rattle.std.specs.FinMap.{contains_key}
 use Rattle.ring_core.specs.Words.{NetPlan, RingEntry, Local, Pass, Leave, RingNo, NoMemory}
 use Rattle.ring_core.specs.Words.{LocalOp, Ended, Spent, Down}
-use Rattle.ring_core.specs.Words.{PutGlobal, Take, Frame, Heard, LeaveCause, Request, CallId}
+use Rattle.ring_core.specs.Words.{PutGlobal, Take, Frame, Heard, LeaveCause}
 use Rattle.ring_core.specs.Machine.{NodeIs, RingIs, ring_after, opening, addresses, path_places}
 use Rattle.ring_core.specs.Machine.{ring_node, path_of, passes_of}
 use Rattle.ring_core.specs.Refusals.{leave_no}
@@ -102,21 +102,12 @@ book_step book (Pass n done words) = with_passed book n
 book_step book (Leave n cause) = book_left book n cause
 book_step book _ = book
 
--- Who asks is an address, on one of its paths.
-abbrev pub IsSource : CallId → Type 0
-IsSource id = (id.node < addresses) × (id.path < path_places)
-
--- A Request in a box names who asks so.
-abbrev pub HasSource : Frame → Type 0
-HasSource f = f.kind ≡ Request → IsSource f.id
-
 -- Sizes and bounds of a node's part after so many entries.
 pub record IsSoundNode (k : ℕ) (c : NodeIs) : Type 0 where
   pub tries : c.tries ≤ 2
   pub passes : c.passes ≤ k
   pub done_run : c.done_run ≤ k
   pub paths : length c.paths ≡ path_places
-  pub asked : All HasSource c.outbox
   pub waits : (p : ℕ) → passes_of (path_of c p).awaits ≤ k
 
 pub record IsSoundRing (k : ℕ) (r : RingIs) : Type 0 where

@@ -1,10 +1,10 @@
 pub mod Words
 pub mod Machine
-pub mod Sources
 pub mod Refusals
 pub mod Scratch
 pub mod Legal
 pub mod Kept
 pub mod Bare
+pub mod Coded
 pub mod Statistics
 pub mod Stability

@@ -1,76 +1,54 @@
 //! The numbers of the Requests that a node has accepted.
-ghost use Rattle.std.specs.Prelude.{◌≡◌, ◌+◌, ◌*◌, IfOk};
+ghost use Rattle.std.specs.Prelude.{◌≡◌, OnOk, OnErr};
 ghost use Rattle.std.specs.FinMap.{empty};
 ghost use Rattle.ring_core.specs.Machine.{accepted_of, accepting};
-ghost use Rattle.ring_core.specs.Kept.{IsSource};
 
 use mstr_block::CallId;
-use plant_types::PATH_PLACES;
 use std::alloc::{AllocError, Global};
+use std::collections::BTreeMap;
 use std::marker::Model;
 
-// The paths of all addresses, 0 to 64.
-const SOURCES: usize = 325;
-
-// The greatest number that was accepted of each source, at a place of its own.
+// The greatest number that was accepted of each source: the node that asks, and its path.
 #[derive(Drop)]
 pub(crate) struct Accepted {
-    numbers: Vec<Option<u32>>,
+    numbers: BTreeMap<(u8, u8), u32>,
 }
 
 impl Model for Accepted {
-    ghost use Rattle.std.specs.Prelude.{◌≡◌, length};
-    ghost use Rattle.global_data.specs.Places.{map_of_places};
+    ghost use Rattle.std.specs.FinMap.{from_entries};
     ghost use Rattle.ring_core.specs.Machine.{AcceptedIs};
-    ghost use Rattle.ring_core.specs.Sources.{source_at, sources, coded_accepted};
+    ghost use Rattle.ring_core.specs.Coded.{coded_accepted};
 
     ghost Value = { AcceptedIs };
 
     ghost coded = { coded_accepted };
 
-    ghost view = { λ a. map_of_places source_at a.numbers.items };
-
-    ghost invariant = { λ a. length a.numbers.items ≡ sources };
-}
-
-// The place of a Request's source.
-fn place_of(id: CallId) -> usize
-    ensures { result ≡ 5 * id.node + id.path }
-{
-    PATH_PLACES * (id.node as usize) + (id.path as usize)
+    ghost view = { λ a. from_entries a.numbers.entries };
 }
 
 impl Accepted {
-    /// Nothing is accepted yet.
-    pub fn new(alloc: Global) -> Result<Accepted, AllocError>
-        ensures { IfOk result (λ accepted. accepted ≡ empty) }
+    /// Nothing is accepted yet. Takes no memory.
+    pub fn new(alloc: Global) -> Accepted
+        ensures { result ≡ empty }
     {
-        let mut numbers = Vec::new(alloc);
-        for _ in 0..SOURCES {
-            numbers.push(None)?;
+        Accepted {
+            numbers: BTreeMap::new(alloc),
         }
-        Ok(Accepted { numbers })
     }
 
     /// The greatest number that was accepted of a Request's source; 0 for none.
     pub fn greatest(&self, id: CallId) -> u32
         ensures { result ≡ accepted_of self.now id }
     {
-        let place = place_of(id);
-        if place >= self.numbers.len() {
-            return 0;
-        }
-        if id.path as usize >= PATH_PLACES {
-            return 0;
-        }
-        self.numbers[place].unwrap_or(0)
+        self.numbers.get(&(id.node, id.path)).copied().unwrap_or(0)
     }
 
-    /// A Request is accepted. Takes no memory.
-    pub fn accept(&mut self, id: CallId)
-        requires { IsSource id }
-        ensures { self.new ≡ accepting self.old id }
+    /// A Request is accepted.
+    pub fn accept(&mut self, id: CallId) -> Result<(), AllocError>
+        ensures ok { OnOk result (self.new ≡ accepting self.old id) }
+        ensures err { OnErr result (self.new ≡ self.old) }
     {
-        self.numbers[place_of(id)] = Some(id.seq);
+        self.numbers.insert((id.node, id.path), id.seq)?;
+        Ok(())
     }
 }

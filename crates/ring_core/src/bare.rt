@@ -33,7 +33,6 @@ use std::alloc::{AllocError, Global};
 
 /// A token ring that keeps no list of what happened on it. Each call is given that list, `past`,
 /// which its clauses are about and nothing reads. This project's own.
-#[derive(Drop)]
 pub struct BareRing {
     pub(crate) alloc: Global,
     plan: NetPlan,
@@ -42,6 +41,20 @@ pub struct BareRing {
     nodes: Vec<Node>,
     stats: Vec<Stats>,
     book: GlobalBook,
+}
+
+impl Drop for BareRing {
+    fn drop(self) {
+        let BareRing {
+            alloc: _,
+            plan: _,
+            holder: _,
+            sent: _,
+            nodes: _,
+            stats: _,
+            book: _,
+        } = self;
+    }
 }
 
 impl BareRing {

@@ -7,7 +7,6 @@ use plant_types::Words;
 
 /// A call that concerns the own station, or one that another node asked for
 /// (*Modicon Ladder Logic Block Library User Guide*).
-#[derive(Drop)]
 pub enum LocalOp {
     GetStats,
     ClearStats,
@@ -17,6 +16,19 @@ pub enum LocalOp {
     /// The statistics for another node.
     RemoteGet,
     RemoteClear,
+}
+
+impl Drop for LocalOp {
+    fn drop(self) {
+        match self {
+            LocalOp::GetStats
+            | LocalOp::ClearStats
+            | LocalOp::PutGlobal(_)
+            | LocalOp::GetGlobal { node: _, length: _ }
+            | LocalOp::RemoteGet
+            | LocalOp::RemoteClear => {}
+        }
+    }
 }
 
 impl LocalOp {
@@ -65,7 +77,6 @@ pub enum LeaveCause {
 }
 
 /// One thing that happened on the ring.
-#[derive(Drop)]
 pub enum RingEntry {
     Post {
         node: u8,
@@ -104,4 +115,28 @@ pub enum RingEntry {
     Join {
         node: u8,
     },
+}
+
+impl Drop for RingEntry {
+    fn drop(self) {
+        match self {
+            RingEntry::Post { node: _, frame: _ }
+            | RingEntry::Send { node: _, heard: _ }
+            | RingEntry::Take { node: _, frame: _ }
+            | RingEntry::Local {
+                node: _,
+                id: _,
+                op: _,
+                result: _,
+            }
+            | RingEntry::GiveUp { id: _, word: _ }
+            | RingEntry::Pass {
+                node: _,
+                done: _,
+                words: _,
+            }
+            | RingEntry::Leave { node: _, cause: _ }
+            | RingEntry::Join { node: _ } => {}
+        }
+    }
 }

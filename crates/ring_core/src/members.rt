@@ -7,7 +7,6 @@ ghost use Rattle.ring_core.specs.Machine.{is_here, is_in_or_asking, is_bridge, o
 ghost use Rattle.ring_core.specs.Machine.{hears, admitted};
 ghost use Rattle.ring_core.specs.Refusals.{least_done};
 ghost use Rattle.ring_core.specs.Scratch.{count_members};
-ghost use Rattle.ring_core.specs.Kept.{IsSource};
 
 use crate::arrival::{Fell, fate_reaches};
 use crate::frame::Frame;
@@ -147,7 +146,6 @@ pub(crate) fn settle(
     fell: Option<Fell>,
 ) -> Result<(), AllocError>
     requires there { IfSome fell (λ _. frame.to < length nodes.old.items) }
-    requires source { fell ≡ Some Fell.AcceptedRequest → IsSource frame.id }
     ensures ok { OnOk result (nodes.new.items ≡ arrived nodes.old.items frame fell) }
     ensures err { OnErr result (nodes.new.items ≡ nodes.old.items) }
 {

@@ -8,7 +8,6 @@ ghost use Rattle.ring_core.specs.Machine.{path_of, is_here, downed, admitted, wi
 ghost use Rattle.ring_core.specs.Machine.{no_path, awaited_number, CanAge, is_repeat, is_full};
 ghost use Rattle.ring_core.specs.Machine.{waits_for, fell, with_frame, heard_by, sent_off, failed};
 ghost use Rattle.ring_core.specs.Machine.{gave_up, is_head, silence_word, paths_awaiting};
-ghost use Rattle.ring_core.specs.Kept.{IsSource};
 ghost use Rattle.ring_core.specs.Refusals.{path_no, boxes_no, cause_boxes_no, empty_no};
 ghost use Rattle.ring_core.specs.Refusals.{away_no, paths_no, or_no};
 ghost use Rattle.ring_core.specs.Legal.{IsFirst, IsNextNumber, TookFirst};
@@ -39,7 +38,6 @@ const BUSY: u16 = 0x6105;
 // The word of a target that hears the frame and says nothing.
 const NO_ANSWER: u16 = 0x6101;
 
-#[derive(Drop)]
 pub(crate) struct Node {
     status: NodeStatus,
     // The number of its latest Down; 0 for none.
@@ -55,7 +53,7 @@ pub(crate) struct Node {
 
 impl Model for Node {
     ghost use Rattle.ring_core.specs.Machine.{NodeIs};
-    ghost use Rattle.ring_core.specs.Sources.{coded_node};
+    ghost use Rattle.ring_core.specs.Coded.{coded_node};
 
     ghost Value = { NodeIs };
 
@@ -72,6 +70,22 @@ impl Model for Node {
       paths = n.paths.items;
       accepted = n.accepted;
     } };
+}
+
+impl Drop for Node {
+    fn drop(self) {
+        let Node {
+            status: _,
+            down: _,
+            outbox: _,
+            tries: _,
+            inbox: _,
+            passes: _,
+            done_run: _,
+            paths: _,
+            accepted: _,
+        } = self;
+    }
 }
 
 // The path after a Request was posted on it.
@@ -122,7 +136,7 @@ impl Node {
             passes: 0,
             done_run: 0,
             paths: vec![in alloc; no_path(); PATH_PLACES]?,
-            accepted: Accepted::new(alloc)?,
+            accepted: Accepted::new(alloc),
         })
     }
 
@@ -359,13 +373,13 @@ impl Node {
     }
 
     fn accept_request(&mut self, frame: Frame) -> Result<(), AllocError>
-        requires source { IsSource frame.id }
         ensures ok { OnOk result (self.new ≡ with_frame self.old Fell.AcceptedRequest frame) }
         ensures err { OnErr result (self.new ≡ self.old) }
     {
         let id = frame.id;
-        self.inbox.push_back(frame)?;
-        self.accepted.accept(id);
+        self.inbox.reserve(1)?;
+        self.accepted.accept(id)?;
+        let _ = self.inbox.push_back(frame);
         Ok(())
     }
 
@@ -381,7 +395,6 @@ impl Node {
 
     /// A frame arrives.
     pub fn receive(&mut self, fell: Fell, frame: Frame) -> Result<(), AllocError>
-        requires source { fell ≡ Fell.AcceptedRequest → IsSource frame.id }
         ensures ok { OnOk result (self.new ≡ with_frame self.old fell frame) }
         ensures err { OnErr result (self.new ≡ self.old) }
     {

@@ -27,7 +27,6 @@ use std::marker::Model;
 /// The token ring of a net, with all that happened on it
 /// (*Modbus Plus Network Planning and Installation Guide*). A contract sees the plan, the history
 /// and the spare: for how many entries memory is kept.
-#[derive(Drop)]
 pub struct Ring {
     bare: BareRing,
     history: Vec<RingEntry>,
@@ -51,6 +50,16 @@ impl Model for Ring {
         IsWholeRing r.bare r.history.items r.spare (vec_capacity r.history) };
 }
 
+impl Drop for Ring {
+    fn drop(self) {
+        let Ring {
+            bare: _,
+            history: _,
+            spare: _,
+        } = self;
+    }
+}
+
 impl Ring {
     /// All that happened, the first entry first.
     pub fn history(&self) -> &[RingEntry]
@@ -65,7 +74,12 @@ impl Ring {
         ensures history { result ≡ self.history }
         ensures legal { IsLegalRing self.net self.history }
     {
-        List::from_vec(self.history)
+        let Ring {
+            bare: _,
+            history,
+            spare: _,
+        } = self;
+        List::from_vec(history)
     }
 
     /// Who holds the token; 0 where all have left.

@@ -96,7 +96,7 @@ calls-stay : (a : Items) (h : List Entry) (c : Called) → Contains a.calls c
 calls-stay a [] c there = there
 calls-stay a (e ∷ h) c there = calls-stay (item_next a e) h c (calls-grow a e c there)
 
-collect-told : (a : Items) (h : List Entry) (calls : List Call) (call : Call)
+pub collect-told : (a : Items) (h : List Entry) (calls : List Call) (call : Call)
     → Contains h (entries.Collect calls) → Contains calls call
     → Contains (items_after a h).calls (called_of call)
 collect-told a [] calls call there among = absurd (in-none _ there)
@@ -140,7 +140,7 @@ ask-told a (e ∷ h) id route request there =
 
 -- ---- calls are named by their controller's own address
 
-abbrev IsOwn : ℕ → Called → Type 0
+abbrev pub IsOwn : ℕ → Called → Type 0
 IsOwn n c = c.id.node ≡ n
 
 running-own : (routed : Bool) (n : ℕ) (numbers : List ℕ) (r : Running) (call : MstrCall)
@@ -197,7 +197,7 @@ own-next laws fixed h (entries.Collect calls) legal fits all =
     follows.node
     (blocks-own T.routed T.node T.numbers T.blocks follows.table.states)))
 
-calls-own : CallLaws → (fixed : Fixed) (h : List Entry) → IsLegal fixed h
+pub calls-own : CallLaws → (fixed : Fixed) (h : List Entry) → IsLegal fixed h
     → Each (IsOwn fixed.plan.node) (items_of h).calls
 calls-own laws fixed h legal =
     by-entries fixed (λ a. Each (IsOwn fixed.plan.node) a.calls) tt (own-next laws fixed) h legal
@@ -206,7 +206,7 @@ calls-own laws fixed h legal =
 
 module _ (laws : CallLaws) (plant : Plant) (scans : ℕ) (joint : Joint) (is : IsPlant plant)
     (legal : IsLegalJoint plant scans joint) (tied : IsJoint joint) where
-  called-requested : (n : ℕ) (a : Items) (id : CallId) (route request : List ℕ)
+  pub called-requested : (n : ℕ) (a : Items) (id : CallId) (route request : List ℕ)
       → AsksAreCalls a (own n (noted_on_rings joint))
       → Contains a.calls (record { id = id; sort = OverNet route request })
       → Requested (noted_on_rings joint) id route request
@@ -229,30 +229,26 @@ module _ (laws : CallLaws) (plant : Plant) (scans : ℕ) (joint : Joint) (is : I
       }
 
   -- the Request of a call that asks another node was posted
-  pub asks-requested : (id : CallId) (route : List ℕ) → AsksBy joint id route
-      → (request : List ℕ) × Requested (noted_on_rings joint) id route request
-  asks-requested id route (inl (log, there, calls, listed, call, among, named, request, net)) =
+  pub asks-requested : (id : CallId) (route request : List ℕ) → AsksBy joint id route request
+      → Requested (noted_on_rings joint) id route request
+  asks-requested id route request (inl (log, there, calls, listed, call, among, named, net)) =
       let t = All-contains (IsTiedController (noted_on_rings joint)) joint.controllers log
       tied.controllers there in
       let made = collect-told no_items log.entries calls call listed among in
       let c : Called = record { id = id; sort = OverNet route request } in
       let same : called_of call ≡ c =
-      λ i. record { id = named i; sort = ap sort_of net i } in (
-        request,
-        called-requested log.node (items_of log.entries) id route request t.asks
-            (subst (λ (x : Called). Contains (items_of log.entries).calls x) same made),
-      )
-  asks-requested id route (inr (log, there, request, listed)) =
-      let t = All-contains (IsTiedHost (noted_on_rings joint)) joint.hosts log tied.hosts there in (
-        request,
-        called-requested log.node (host_items_of log.entries) id route request t.asks
-            (ask-told no_items log.entries id route request listed),
-      )
+      λ i. record { id = named i; sort = ap sort_of net i } in
+      called-requested log.node (items_of log.entries) id route request t.asks
+      (subst (λ (x : Called). Contains (items_of log.entries).calls x) same made)
+  asks-requested id route request (inr (log, there, listed)) =
+      let t = All-contains (IsTiedHost (noted_on_rings joint)) joint.hosts log tied.hosts there in
+      called-requested log.node (host_items_of log.entries) id route request t.asks
+      (ask-told no_items log.entries id route request listed)
 
   -- a call to the own port asks nobody
-  port-unasked : (id : CallId) (route request : List ℕ) → AsksOwnPort joint id
+  port-unasked : (id : CallId) (op : LocalOp) (route request : List ℕ) → AsksOwnPort joint id op
       → Requested (noted_on_rings joint) id route request → ⊥
-  port-unasked id route request (log, there, calls, listed, call, among, named, op, local) r =
+  port-unasked id op route request (log, there, calls, listed, call, among, named, local) r =
       let ring = noted_on_rings joint in
       let a = items_of log.entries in
       let t = All-contains (IsTiedController ring) joint.controllers log tied.controllers there in
@@ -324,6 +320,31 @@ module _ (laws : CallLaws) (plant : Plant) (scans : ℕ) (joint : Joint) (is : I
       was_asked taken.frame.pdu (requested-as r taken.same (ap (λ (l : List ℕ). n ∷ l)
       (taken-last ring n a taken.frame t.peers last there taken.kind)) refl)
 
+  -- what a port did for another node was asked of it
+  pub port-request : (name : CallId) (n : ℕ) (op : LocalOp) (result : MstrResult)
+      → name.node ≢ n → Contains (noted_on_rings joint) (Local n name op result)
+      → (request : List ℕ) × (request_of op ≡ Some request)
+      × Requested (noted_on_rings joint) name (n ∷ []) request
+  port-request name n op result other there =
+      let ring = noted_on_rings joint in
+      let e = Local n name op result in
+      let answer : Answered = record {
+        id = name;
+        rest = [];
+        request = request_of op;
+        reply = Some (reply_of result);
+      } in
+      let answered = in-map answered_of (own n ring) e answer
+      (ap (λ b. if b then None else Some answer) (ne_eqb name.node n other))
+      (in-own n ring e (eq-eqb n n refl) there) in
+      let t = port-took ring n answer (port-taken plant scans joint is legal tied n
+      (noted-by plant scans joint is legal tied n e there refl)) answered in
+      let r = take-requested plant scans joint is legal tied n t.frame t.there t.kind in (
+        t.request,
+        t.asked,
+        requested-as r t.name (ap (λ (l : List ℕ). n ∷ l) t.rest_is) t.request_is,
+      )
+
   port-at : (name : CallId) (n : ℕ) (op : LocalOp) (result : MstrResult)
       → Contains (noted_on_rings joint) (Local n name op result) → EffectAt name n
   port-at name n op result there =
@@ -336,19 +357,7 @@ module _ (laws : CallLaws) (plant : Plant) (scans : ℕ) (joint : Joint) (is : I
       (contains-count (acts_at_home name) (own name.node ring) e acts
       (in-own name.node ring e (eq-eqb n name.node (sym home)) there)))
       (λ (other : name.node ≢ n).
-      let answer : Answered = record {
-        id = name;
-        rest = [];
-        request = request_of op;
-        reply = Some (reply_of result);
-      } in
-      let answered = in-map answered_of (own n ring) e answer
-      (ap (λ b. if b then None else Some answer) (ne_eqb name.node n other))
-      (in-own n ring e (eq-eqb n n refl) there) in
-      let t = port-took ring n answer (port-taken plant scans joint is legal tied n
-      (noted-by plant scans joint is legal tied n e there refl)) answered in
-      let r = take-requested plant scans joint is legal tied n t.frame t.there t.kind in
-      was_asked t.frame.pdu (requested-as r t.name (ap (λ (l : List ℕ). n ∷ l) t.rest_is) refl))
+      let asked = port-request name n op result other there in was_asked asked.0 asked.2)
       (cases_eq name.node n)
 
   effect-at : (name : CallId) (n : ℕ) → TakesEffectAt joint name n → EffectAt name n
@@ -365,7 +374,7 @@ module _ (laws : CallLaws) (plant : Plant) (scans : ℕ) (joint : Joint) (is : I
   effect-at name n (inr (inr (op, result, there))) = port-at name n op result there
 
   -- what was done at home was asked of nobody
-  home-unasked : (name : CallId) (route request : List ℕ)
+  pub home-unasked : (name : CallId) (route request : List ℕ)
       → 1 ≤ count_by (acts_at_home name) (own name.node (noted_on_rings joint))
       → Requested (noted_on_rings joint) name route request → ⊥
   home-unasked name route request some r =
@@ -387,33 +396,32 @@ module _ (laws : CallLaws) (plant : Plant) (scans : ℕ) (joint : Joint) (is : I
 
   -- ---- at the end
 
-  effect-ends : (id : CallId) (route : List ℕ) → AsksBy joint id route
+  effect-ends : (id : CallId) (route request : List ℕ) → AsksBy joint id route request
       → (name : CallId) → Contains (names_from (length (sent_on_in joint)) (sent_on_in joint) id)
       name
       → (n : ℕ) → TakesEffectAt joint name n → EndsAt route n
-  effect-ends id route asks name among n effect =
-      let asked = asks-requested id route asks in
-      let to = reached plant scans joint is legal tied (length (sent_on_in joint)) id route asked.0
-      asked.1 name among in
-      at to.way to.rest to.route_is asked.0 to.requested (effect-at name n effect)
+  effect-ends id route request asks name among n effect =
+      let to = reached plant scans joint is legal tied (length (sent_on_in joint)) id route request
+      (asks-requested id route request asks) name among in
+      at to.way to.rest to.route_is to.requested (effect-at name n effect)
     where
-      at : (way rest : List ℕ) → route ≡ way ++ rest → (request : List ℕ)
+      at : (way rest : List ℕ) → route ≡ way ++ rest
           → Requested (noted_on_rings joint) name rest request → EffectAt name n → EndsAt route n
-      at way rest whole request r (was_asked bytes q) =
+      at way rest whole r (was_asked bytes q) =
           let same = same-request plant scans joint is legal tied name rest (n ∷ []) request bytes
           r q in
           (way, whole ∙ ap (λ (l : List ℕ). way ++ l) same.0)
-      at way rest whole request r (at_home node some) =
+      at way rest whole r (at_home node some) =
           absurd (home-unasked name rest request some r)
 
   -- a call to the own port has one name
-  one-name : (more : ℕ) (id : CallId) → AsksOwnPort joint id → (name : CallId)
+  one-name : (more : ℕ) (id : CallId) (op : LocalOp) → AsksOwnPort joint id op → (name : CallId)
       → Contains (names_from more (sent_on_in joint) id) name → id ≡ name
-  one-name zero id asks name among =
+  one-name zero id op asks name among =
       ⊎_elim (λ (same : id ≡ name). same)
       (λ (more : Contains {X = CallId} [] name). absurd (in-none name more))
       (first-or-behind id [] name among)
-  one-name (suc more) id asks name among =
+  one-name (suc more) id op asks name among =
       ⊎_elim (λ (same : id ≡ name). same) (at _ refl) (first-or-behind id _ name among)
     where
       at : (found : Option SentOn) → slice_get (filter (is_old id) (sent_on_in joint)) 0 ≡ found
@@ -427,20 +435,20 @@ module _ (laws : CallLaws) (plant : Plant) (scans : ℕ) (joint : Joint) (is : I
           let passes = All-contains (λ x. is_old id x ≡ true) (filter (is_old id) sent) s
           (filter_passes (is_old id) sent) listed in
           let h = hop plant scans joint is legal tied s (of-filter (is_old id) sent s listed) in
-          absurd (port-unasked id (h.to ∷ h.route) h.request asks
+          absurd (port-unasked id op (h.to ∷ h.route) h.request asks
           (subst (λ (i : CallId). Requested (noted_on_rings joint) i (h.to ∷ h.route) h.request)
           (same-eq s.old id passes) h.before))
 
-  effect-home : (id : CallId) → AsksOwnPort joint id
+  pub effect-home : (id : CallId) (op : LocalOp) → AsksOwnPort joint id op
       → (name : CallId) → Contains (names_from (length (sent_on_in joint)) (sent_on_in joint) id)
       name
       → (n : ℕ) → TakesEffectAt joint name n → n ≡ id.node
-  effect-home id asks name among n effect =
-      let same = one-name (length (sent_on_in joint)) id asks name among in
+  effect-home id op asks name among n effect =
+      let same = one-name (length (sent_on_in joint)) id op asks name among in
       at (effect-at id n (subst (λ (i : CallId). TakesEffectAt joint i n) (sym same) effect))
     where
       at : EffectAt id n → n ≡ id.node
-      at (was_asked request r) = absurd (port-unasked id (n ∷ []) request asks r)
+      at (was_asked request r) = absurd (port-unasked id op (n ∷ []) request asks r)
       at (at_home node some) = node
 
   -- each effect is that of a call that was made

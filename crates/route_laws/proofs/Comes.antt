@@ -1,6 +1,6 @@
 -- Where a reply comes from: the node at the end of the route, or a bridge on the way.
-use Rattle.std.proofs.Common.{◌≡◌, ◌⊎◌, ℕ, zero, suc, ◌<◌, ◌≤◌, not, List, [], ◌∷◌, Option, Some}
-use Rattle.std.proofs.Common.{None, refl, sym, ap, ◌∙◌, subst, inl, inr, ⊎_elim, arith}
+use Rattle.std.proofs.Common.{◌≡◌, ◌⊎◌, ℕ, zero, suc, ◌<◌, ◌≤◌, not, List, [], ◌∷◌, ◌++◌, Option}
+use Rattle.std.proofs.Common.{Some, None, refl, sym, ap, ◌∙◌, subst, inl, inr, ⊎_elim, arith}
 use Rattle.std.specs.Prelude.{Contains, filter, filter_map, map, option_map, slice_get, unwrap_or}
 use Rattle.std.specs.List.{AllByRecursion as Each}
 use Rattle.std.proofs.lemmas.Bool.{cases_Bool, eq-eqb}
@@ -14,10 +14,13 @@ use Rattle.ring_core.specs.declared.frame.Frame.{Frame}
 use Rattle.ring_core.specs.declared.frame.FrameKind.{FrameKind}
 use Rattle.ring_core.specs.declared.frame.FrameKind.TheVariants as kinds
 use Rattle.ring_laws.proofs.Lists.{each-contains, same-refl}
-use Rattle.bridge_relay.specs.declared.entry.BridgeEntry.TheVariants.{Accept, Back}
+use Rattle.bridge_relay.specs.declared.entry.BridgeEntry.{BridgeEntry}
+use Rattle.bridge_relay.specs.declared.entry.BridgeEntry.TheVariants.{Back}
 use Rattle.bridge_relay.specs.declared.entry.RelayResult.TheVariants.{Reply}
 use Rattle.bridge_relay.specs.Legal.{IsEnd}
-use Rattle.bridge_relay.specs.Machine.{exception_to}
+use Rattle.bridge_relay.specs.Machine.{exception_to, far_side}
+use Rattle.bridge_causes.specs.Causes.{BackCause, IsFromCall, IsRefusal, OfCall, OfRefusal}
+use Rattle.bridge_causes.specs.Causes.{RefusalCause}
 use Rattle.tied_lists.specs.Own.{own}
 use Rattle.tied_lists.specs.Items.{ABridge, AController, AHost, Answered, Came, Ended, Item, Items}
 use Rattle.tied_lists.specs.Items.{Lacked, Replied, Station, outcome_of_reply, outcome_of_word}
@@ -39,11 +42,12 @@ use Rattle.effect_laws.proofs.Fits.{Fitting, NetAsk, exception-fits, port-fits}
 use Rattle.effect_laws.proofs.Reports.{Origin, origin-in, port-served}
 use Rattle.effect_laws.proofs.Sources.{EndedBy, behind, by_port, by_reply, by_word, here, in-map}
 use Rattle.effect_laws.proofs.Sources.{in-own, of-mapped}
-use Rattle.route_laws.specs.Ends.{AnsweredAtEnd, IsBridgeCode, RefusedOnWay}
+use Rattle.route_laws.specs.Ends.{AnsweredAtEnd, RefusedOnWay}
 use Rattle.plant_types.specs.Plans.{IsPlant}
 use Rattle.route_laws.specs.Ways.{SentOn, names_from, next_name, sent_of, sent_on_in}
 use Rattle.route_laws.proofs.Effects.{one-effect}
-use Rattle.route_laws.proofs.Given.{GoneOn, Refused, back-given, sent-accepts}
+use Rattle.route_laws.proofs.Causes.{Caused, back-caused, cause-accepted, cause-some, of-front}
+use Rattle.route_laws.proofs.Causes.{plan-of}
 use Rattle.effect_laws.proofs.Gave.{controller-gave, host-gave, port-gave}
 use Rattle.effect_laws.proofs.Words.{TellsTruly, truly}
 use Rattle.route_laws.proofs.Hops.{accepted-requested, partner, sent-requested}
@@ -109,17 +113,19 @@ pub record AtNode (joint : Joint) (id : CallId) (reply : List ℕ) : Type 0 wher
 
 -- a bridge to which the Request of the call went made it
 pub record AtBridge (joint : Joint) (id : CallId) (reply : List ℕ) : Type 0 where
+  pub plan : BridgePlan
   pub log : BridgeLog
   pub there : Contains joint.bridges log
+  pub legal : IsLegalBridgeLog plan log
   pub side : ℕ
   pub rest : List ℕ
   pub request : List ℕ
   pub requested : Requested (noted_on_rings joint) id (side ∷ rest) request
-  pub accepted : Contains log.entries (Accept side id rest request)
-  pub back : ℕ
-  pub returned : Contains log.entries (Back back id reply)
+  pub before : List BridgeEntry
+  pub after : List BridgeEntry
+  pub returned : log.entries ≡ before ++ Back side id reply ∷ after
   pub code : ℕ
-  pub is_code : IsBridgeCode code
+  pub cause : RefusalCause plan before side (far_side plan side) id rest request code
   pub is : reply ≡ exception_to request code
 
 -- a bridge sent the call on, on a shorter way, and there it was taken
@@ -245,58 +251,79 @@ module _ (laws : CallLaws) (plant : Plant) (scans : ℕ) (joint : Joint) (is : I
 
   -- ---- bridges
 
-  refused-gives : (plan : BridgePlan) (log : BridgeLog) (back : ℕ) (id : CallId) (pdu : List ℕ)
+  refused-gives : (plan : BridgePlan) (log : BridgeLog) (side : ℕ) (id : CallId) (pdu : List ℕ)
       → IsLegalBridgeLog plan log → Contains joint.bridges log
-      → Contains log.entries (Back back id pdu) → Refused log.entries id pdu
-      → AtBridge joint id pdu
-  refused-gives plan log back id pdu lawful there returned no' = record {
-    log = log;
-    there = there;
-    side = no'.got.side;
-    rest = no'.route;
-    request = no'.request;
-    requested = accepted-requested plant scans joint is legal tied plan log no'.got.side id
-        no'.route no'.request lawful there no'.got.there;
-    accepted = no'.got.there;
-    back = back;
-    returned = returned;
-    code = no'.code;
-    is_code = no'.is_code;
-    is = no'.is;
-  }
+      → (c : Caused plan log.entries side id pdu)
+      → IsRefusal plan c.before side (far_side plan side) id pdu → AtBridge joint id pdu
+  refused-gives plan log side id pdu lawful there c no' =
+      let got = of-front log.entries c.before _ c.after _ c.is
+      (cause-accepted plan c.before side (far_side plan side) id no'.route no'.request no'.code
+      no'.cause) in
+      record {
+        plan = plan;
+        log = log;
+        there = there;
+        legal = lawful;
+        side = side;
+        rest = no'.route;
+        request = no'.request;
+        requested = accepted-requested plant scans joint is legal tied plan log side id no'.route
+            no'.request lawful there got;
+        before = c.before;
+        after = c.after;
+        returned = c.is;
+        code = no'.code;
+        cause = no'.cause;
+        is = no'.reply_is;
+      }
 
-  next-gives : (plan : BridgePlan) (log : BridgeLog) (id : CallId) (pdu : List ℕ)
-      → IsLegalBridgeLog plan log → Contains joint.bridges log → GoneOn log.entries id pdu
-      → FromNext joint id pdu
-  next-gives plan log id pdu lawful there on =
+  next-gives : (plan : BridgePlan) (log : BridgeLog) (side : ℕ) (id : CallId) (pdu : List ℕ)
+      → IsLegalBridgeLog plan log → Contains joint.bridges log
+      → (c : Caused plan log.entries side id pdu)
+      → IsFromCall c.before side (far_side plan side) id pdu → FromNext joint id pdu
+  next-gives plan log side id pdu lawful there c on =
       let list = log.entries in
       let ring = noted_on_rings joint in
-      let got = sent-accepts plan list on.side id on.id on.route on.request lawful.2 on.sent in
-      let before = size-accepted plant scans joint is legal tied plan log got.side id on.route
-      on.request lawful there got.there in
-      let after = size-sent plant scans joint is legal tied plan log on.side id on.id on.route
-      on.request lawful there on.sent in
-      let this : SentOn = record { old = id; id = on.id } in
-      let t = side-tied plant scans joint is legal tied plan log on.side lawful there
-      (entry-end plant scans joint is legal tied plan list _ lawful.2 on.ended) in
-      let told = finish-told list on.side on.id (Reply pdu) on.ended in
+      let across = far_side plan side in
+      let got = of-front list c.before _ c.after _ c.is on.accepted in
+      let sent = of-front list c.before _ c.after _ c.is on.sent in
+      let ended = of-front list c.before _ c.after _ c.is on.ended in
+      let before = size-accepted plant scans joint is legal tied plan log side id on.route
+      on.request lawful there got in
+      let after = size-sent plant scans joint is legal tied plan log across id on.onward on.route
+      on.request lawful there sent in
+      let this : SentOn = record { old = id; id = on.onward } in
+      let t = side-tied plant scans joint is legal tied plan log across lawful there
+      (entry-end plant scans joint is legal tied plan list _ lawful.2 ended) in
+      let told = finish-told list across on.onward (Reply pdu) ended in
       record {
-        new = on.id;
+        new = on.onward;
         sent = in-flat (λ (l : BridgeLog). filter_map sent_of l.entries) joint.bridges log this
-            there (in-map sent_of list _ this refl on.sent);
+            there (in-map sent_of list _ this refl sent);
         shorter = omega (arith, before, after);
-        to = got.side;
+        to = side;
         rest = on.route;
         request = on.request;
-        before = accepted-requested plant scans joint is legal tied plan log got.side id on.route
-            on.request lawful there got.there;
-        after = sent-requested plant scans joint is legal tied plan log on.side id on.id on.route
-            on.request lawful there on.sent;
-        took = took-given joint ABridge told.end' on.id pdu (λ request reply. refl)
+        before = accepted-requested plant scans joint is legal tied plan log side id on.route
+            on.request lawful there got;
+        after = sent-requested plant scans joint is legal tied plan log across id on.onward
+            on.route on.request lawful there sent;
+        took = took-given joint ABridge told.end' on.onward pdu (λ request reply. refl)
             (λ word. refl)
-            (ended-at ring ABridge on.side _ told.end' t.ends told.there)
+            (ended-at ring ABridge across _ told.end' t.ends told.there)
             told.id_is told.outcome_is;
       }
+
+  -- what a bridge gave back
+  back-gives : (log : BridgeLog) (side : ℕ) (id : CallId) (pdu : List ℕ)
+      → (there : Contains joint.bridges log)
+      → (plan : BridgePlan) → IsLegalBridgeLog plan log
+      → (c : Caused plan log.entries side id pdu) → ReplyFrom joint id pdu
+  back-gives log side id pdu there plan lawful c = by c.cause
+    where
+      by : BackCause plan c.before side (far_side plan side) id pdu → ReplyFrom joint id pdu
+      by (OfCall on) = from_next (next-gives plan log side id pdu lawful there c on)
+      by (OfRefusal no') = from_bridge (refused-gives plan log side id pdu lawful there c no')
 
   -- what the port of a bridge's end posted is its answer
   port-replies : (n : ℕ) (id : CallId) (pdu : List ℕ) → StandsAt joint n
@@ -333,12 +360,9 @@ module _ (laws : CallLaws) (plant : Plant) (scans : ℕ) (joint : Joint) (is : I
             (replied_by b) item (ap not back) replied in
             let among = back-there log.entries side f.id f.pdu
             (subst (λ (l : List Item). Contains l item) t.replies.given given) in
-            ⊎_elim
-            (λ (no' : Refused log.entries f.id f.pdu).
-            from_bridge (refused-gives plan log among.0 f.id f.pdu lawful there among.1 no'))
-            (λ (on : GoneOn log.entries f.id f.pdu).
-            from_next (next-gives plan log f.id f.pdu lawful there on))
-            (back-given plan log.entries among.0 f.id f.pdu lawful.2 among.1)
+            let p = plan-of plant scans joint log is legal there in
+            back-gives log side f.id f.pdu there p.plan p.legal
+            (back-caused p.plan log.entries side f.id f.pdu p.sound p.legal.2 among)
       ]
 
   -- ---- all nodes
@@ -399,12 +423,6 @@ module _ (laws : CallLaws) (plant : Plant) (scans : ℕ) (joint : Joint) (is : I
         fits = subst (λ (l : List ℕ). NetAsk l → Fitting l reply) (sym same.1) a.fits;
       }
 
-  code-some : (code : ℕ) → IsBridgeCode code → 1 ≤ code
-  code-some code (inl c) = omega (arith, c)
-  code-some code (inr (inl c)) = omega (arith, c)
-  code-some code (inr (inr (inl c))) = omega (arith, c)
-  code-some code (inr (inr (inr c))) = omega (arith, c)
-
   bridge-end : (names : List CallId) (id : CallId) (route request reply : List ℕ)
       → Contains names id → AtBridge joint id reply
       → Requested (noted_on_rings joint) id route request
@@ -418,22 +436,26 @@ module _ (laws : CallLaws) (plant : Plant) (scans : ℕ) (joint : Joint) (is : I
         by = inr (record {
           name = id;
           named = named;
+          plan = a.plan;
           log = a.log;
           there = a.there;
+          legal = a.legal;
           side = a.side;
           way = [];
           rest = a.rest;
           on_way = same.0;
-          accepted = subst (λ (l : List ℕ). Contains a.log.entries (Accept a.side id a.rest l))
-              (sym same.1) a.accepted;
-          back = a.back;
+          before = a.before;
+          after = a.after;
           returned = a.returned;
           code = a.code;
-          is_code = a.is_code;
+          cause = subst (λ (l : List ℕ).
+              RefusalCause a.plan a.before a.side (far_side a.plan a.side) id a.rest l a.code)
+              (sym same.1) a.cause;
           is = made;
         });
         fits = λ net. subst (λ (l : List ℕ). Fitting request l) (sym made)
-            (exception-fits request a.code (code-some a.code a.is_code));
+            (exception-fits request a.code (cause-some a.plan a.before a.side
+            (far_side a.plan a.side) id a.rest a.request a.code a.cause));
       }
 
   -- what is so of the rest of a way is so of all of it
@@ -453,17 +475,19 @@ module _ (laws : CallLaws) (plant : Plant) (scans : ℕ) (joint : Joint) (is : I
         (λ (r : RefusedOnWay joint more route request reply). inr (record {
           name = r.name;
           named = among r.name r.named;
+          plan = r.plan;
           log = r.log;
           there = r.there;
+          legal = r.legal;
           side = r.side;
           way = to ∷ r.way;
           rest = r.rest;
           on_way = ap (λ (l : List ℕ). to ∷ l) r.on_way;
-          accepted = r.accepted;
-          back = r.back;
+          before = r.before;
+          after = r.after;
           returned = r.returned;
           code = r.code;
-          is_code = r.is_code;
+          cause = r.cause;
           is = r.is;
         }))
         e.by;

@@ -44,7 +44,7 @@ use Rattle.joint_history.specs.declared.joint.Joint.{Joint}
 use Rattle.joint_history.specs.JointLaws.{IsJoint, IsLegalJoint, IsTiedController, IsTiedHost}
 use Rattle.joint_history.specs.JointLaws.{IsTiedBridge, fixed_of}
 use Rattle.effect_laws.specs.Success.{ReportsSuccess, is_exception_reply}
-use Rattle.route_laws.specs.Ends.{IsReplyOnWay}
+use Rattle.route_laws.specs.Own.{IsOwnAnswer}
 use Rattle.route_laws.specs.Ways.{effects_on_way, names_on_way}
 use Rattle.route_laws.proofs.Example.{node-from, none-rise, one-rises, two-rise}
 
@@ -460,12 +460,12 @@ names : names_on_way joint (id 1) ≡ id 1 ∷ []
 names = refl
 
 -- the exception reply is the answer of the node that was asked, to what it was asked
-reply-is : IsReplyOnWay joint (record { node = 5; entries = asker }) (id 2) refused
+reply-is : IsOwnAnswer joint (record { node = 5; entries = asker }) (id 2) (results.Reply refused)
 reply-is = record {
   route = to_one;
   request = unknown;
   asked = (1, omega arith, refl);
-  given = inl (record {
+  came = inl (record {
     name = id 2;
     named = (0, omega arith, refl);
     last = refl;

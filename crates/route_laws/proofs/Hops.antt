@@ -1,7 +1,7 @@
 -- A call that a bridge sent on: what it asks under either name, and by which route.
 use Rattle.std.proofs.Common.{◌≡◌, ℕ, zero, suc, ◌++◌, true, List, [], ◌∷◌, Option, Some, None}
 use Rattle.std.proofs.Common.{refl, sym, ap, ◌∙◌, subst, ⊎_elim}
-use Rattle.std.specs.Prelude.{Contains, filter, filter_map, flat_map, option_map, slice_get}
+use Rattle.std.specs.Prelude.{Contains, filter, filter_map, flat_map, map, option_map, slice_get}
 use Rattle.std.specs.Prelude.{unwrap_or}
 use Rattle.std.specs.List.{AllZip}
 use Rattle.std.proofs.lemmas.List.Elements.{All-contains, Contains-append_cases, filter_passes}
@@ -14,9 +14,11 @@ use Rattle.ring_laws.proofs.Lists.{same-eq}
 use Rattle.bridge_relay.specs.declared.entry.BridgeEntry.{BridgeEntry}
 use Rattle.bridge_relay.specs.declared.entry.BridgeEntry.TheVariants.{Accept, Forward, Finish}
 use Rattle.bridge_relay.specs.declared.entry.BridgeEntry.TheVariants.{Back, Gone}
+use Rattle.bridge_relay.specs.Machine.{far_side}
 use Rattle.tied_lists.specs.Own.{own}
-use Rattle.tied_lists.specs.Items.{Asked, Called, OverNet, Plain, RequestItem, asked_of, item_of}
-use Rattle.tied_lists.specs.Items.{net_ask, taken_by, taken_of}
+use Rattle.tied_lists.specs.Items.{Answered, Asked, Called, Items, OverNet, Plain, RequestItem}
+use Rattle.tied_lists.specs.Items.{asked_of, item_of, net_ask, taken_by, taken_of}
+use Rattle.tied_lists.specs.Tied.{PeersAreTaken}
 use Rattle.joint_history.specs.declared.joint.BridgeLog.{BridgeLog}
 use Rattle.joint_history.specs.declared.joint.Joint.{Joint}
 use Rattle.joint_history.specs.Bridges.{side_items}
@@ -26,11 +28,11 @@ use Rattle.effect_laws.proofs.Sources.{behind, first-or-behind, here, in-map, in
 use Rattle.effect_laws.proofs.Sources.{of-own, in-mapped}
 use Rattle.plant_types.specs.Plans.{IsPlant}
 use Rattle.route_laws.specs.Ways.{SentOn, names_from, sent_of, sent_on_in}
-use Rattle.route_laws.proofs.Given.{sent-accepts}
+use Rattle.route_laws.proofs.Causes.{plan-of, sent-accepts}
 use Rattle.route_laws.proofs.Once.{is_old}
 use Rattle.route_laws.proofs.Requests.{Requested, requested-as, same-request, take-requested}
-use Rattle.route_laws.proofs.Sides.{accept-answered, forward-called, of-filter, plain-there}
-use Rattle.route_laws.proofs.Sides.{take-plain}
+use Rattle.route_laws.proofs.Sides.{accept-answered, accepted_as, forward-called, of-filter}
+use Rattle.route_laws.proofs.Sides.{plain-there, take-plain}
 use Rattle.effect_laws.proofs.Words.{post-of}
 use Rattle.route_laws.proofs.Traces.{entry-end, side-tied}
 
@@ -102,6 +104,28 @@ pub record Reached (ring : List RingEntry) (route request : List ℕ) (name : Ca
 
 module _ (plant : Plant) (scans : ℕ) (joint : Joint) (is : IsPlant plant)
     (legal : IsLegalJoint plant scans joint) (tied : IsJoint joint) where
+  -- what a station or an end answered was asked of its node
+  pub answered-requested : (n : ℕ) (a : Items) (x : Answered) (request : List ℕ)
+      → PeersAreTaken a (own n (noted_on_rings joint)) → Contains a.answers x
+      → x.request ≡ Some request
+      → Requested (noted_on_rings joint) x.id (n ∷ x.rest) request
+  answered-requested n a x request peers there asks =
+      let ring = noted_on_rings joint in
+      let b = own n ring in
+      let item : RequestItem = record { id = x.id; rest = x.rest; request = Some request } in
+      let same : item_of x ≡ item =
+      λ i. record { id = x.id; rest = x.rest; request = asks i } in
+      let among = subst (λ (y : RequestItem). Contains (map item_of a.answers) y) same
+      (in-mapped item_of a.answers x there) in
+      let plain = plain-there (taken_by b) x.id x.rest request
+      (subst (λ (l : List RequestItem). Contains l item) peers among) in
+      let found = of-map taken_of b (Plain x.id x.rest request) plain in
+      let g = take-plain found.0 x.id x.rest request found.2 in
+      let at = of-own n ring (Take g.node g.frame)
+      (subst (λ (e : RingEntry). Contains b e) g.is found.1) in
+      let r = take-requested plant scans joint is legal tied g.node g.frame at.0 g.kind in
+      requested-as r g.name (λ i. at.1 i ∷ g.rest_is i) g.pdu_is
+
   -- what an end accepted was asked of it
   pub accepted-requested : (plan : BridgePlan) (log : BridgeLog) (side : ℕ) (id : CallId)
       (route request : List ℕ)
@@ -109,21 +133,10 @@ module _ (plant : Plant) (scans : ℕ) (joint : Joint) (is : IsPlant plant)
       → Contains log.entries (Accept side id route request)
       → Requested (noted_on_rings joint) id (side ∷ route) request
   accepted-requested plan log side id route request lawful there got =
-      let ring = noted_on_rings joint in
-      let b = own side ring in
       let t = side-tied plant scans joint is legal tied plan log side lawful there
       (entry-end plant scans joint is legal tied plan log.entries _ lawful.2 got) in
-      let item : RequestItem = record { id = id; rest = route; request = Some request } in
-      let among = in-mapped item_of (side_items side log.entries).answers _
-      (accept-answered log.entries side id route request got) in
-      let plain = plain-there (taken_by b) id route request
-      (subst (λ (l : List RequestItem). Contains l item) t.peers among) in
-      let found = of-map taken_of b (Plain id route request) plain in
-      let g = take-plain found.0 id route request found.2 in
-      let at = of-own side ring (Take g.node g.frame)
-      (subst (λ (e : RingEntry). Contains b e) g.is found.1) in
-      let r = take-requested plant scans joint is legal tied g.node g.frame at.0 g.kind in
-      requested-as r g.name (λ i. at.1 i ∷ g.rest_is i) g.pdu_is
+      answered-requested side (side_items side log.entries) (accepted_as id route request) request
+      t.peers (accept-answered log.entries side id route request got) refl
 
   -- what an end sent on it asked
   pub sent-requested : (plan : BridgePlan) (log : BridgeLog) (side : ℕ) (old new : CallId)
@@ -159,19 +172,19 @@ module _ (plant : Plant) (scans : ℕ) (joint : Joint) (is : IsPlant plant)
       let found = of-flat (λ (log : BridgeLog). filter_map sent_of log.entries) joint.bridges s
       there in
       let log = found.0 in
-      let plan = partner IsLegalBridgeLog plant.bridges joint.bridges log legal.bridges found.1 in
+      let p = plan-of plant scans joint log is legal found.1 in
       let entry = of-map sent_of log.entries s found.2 in
       let by = sent-by entry.0 s entry.2 in
       let sent = subst (λ (e : BridgeEntry). Contains log.entries e) by.is entry.1 in
-      let got = sent-accepts plan.0 log.entries by.side s.old s.id by.route by.request plan.1.2 sent
-      in
+      let to = far_side p.plan by.side in
+      let got = sent-accepts p.plan log.entries by.side s.old s.id by.route by.request p.sound
+      p.legal.2 sent in
       record {
-        to = got.side;
+        to = to;
         route = by.route;
         request = by.request;
-        before = accepted-requested plan.0 log got.side s.old by.route by.request plan.1 found.1
-            got.there;
-        after = sent-requested plan.0 log by.side s.old s.id by.route by.request plan.1 found.1
+        before = accepted-requested p.plan log to s.old by.route by.request p.legal found.1 got;
+        after = sent-requested p.plan log by.side s.old s.id by.route by.request p.legal found.1
             sent;
       }
 

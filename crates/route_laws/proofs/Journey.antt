@@ -27,34 +27,34 @@ use Rattle.route_laws.specs.Ends.{AnsweredAtEnd, AsksBy}
 use Rattle.route_laws.specs.Ways.{effects_on_way, names_on_way}
 
 -- the call of node 2, and the same as the bridge sends it on
-abbrev own-name : CallId
+abbrev pub own-name : CallId
 own-name = record { node = 2; path = 1; seq = 1 }
 
-abbrev onward-name : CallId
+abbrev pub onward-name : CallId
 onward-name = record { node = 12; path = 1; seq = 1 }
 
-abbrev reads : List ℕ
+abbrev pub reads : List ℕ
 reads = 3 ∷ 0 ∷ 0 ∷ 0 ∷ 2 ∷ []
 
-abbrev tells : List ℕ
+abbrev pub tells : List ℕ
 tells = 3 ∷ 4 ∷ 0 ∷ 42 ∷ 0 ∷ 43 ∷ []
 
 abbrev frame : FrameKind → ℕ → List ℕ → CallId → List ℕ → Frame
 frame kind to rest name pdu = record { kind = kind; to = to; rest = rest; id = name; pdu = pdu }
 
-abbrev asks : Call
+abbrev pub asks : Call
 asks = record { id = own-name; kind = Net (9 ∷ 5 ∷ []) reads }
 
-abbrev caller : ControllerLog
+abbrev pub caller : ControllerLog
 caller = record {
   node = 2;
   entries = Collect (asks ∷ []) ∷ Finish own-name (Good (42 ∷ 43 ∷ [])) ∷ [];
 }
 
-abbrev target : ControllerLog
+abbrev pub target : ControllerLog
 target = record { node = 5; entries = Peer onward-name reads tells ∷ [] }
 
-abbrev bridge : BridgeLog
+abbrev pub bridge : BridgeLog
 bridge = record {
   left = 9;
   right = 12;
@@ -81,7 +81,7 @@ far-ring =
     ∷ Take 12 (frame Reply 12 [] onward-name tells) ∷ Pass 12 true [] ∷ Leave 5 Ended
     ∷ Leave 12 Ended ∷ []
 
-abbrev joint : Joint
+abbrev pub joint : Joint
 joint = record {
   controllers = caller ∷ target ∷ [];
   hosts = [];
@@ -154,7 +154,7 @@ once = refl
 succeeds : ReportsSuccess joint own-name
 succeeds = inl (caller, (0, omega arith, refl), (42 ∷ 43 ∷ [], (1, omega arith, refl)))
 
-asked : AsksBy joint own-name (9 ∷ 5 ∷ [])
+pub asked : AsksBy joint own-name (9 ∷ 5 ∷ []) reads
 asked = inl (
   caller,
   (0, omega arith, refl),
@@ -163,11 +163,10 @@ asked = inl (
   asks,
   (0, omega arith, refl),
   refl,
-  reads,
   refl,
 )
 
-answered : AnsweredAtEnd joint (names_on_way joint own-name) (9 ∷ 5 ∷ []) reads tells
+pub answered : AnsweredAtEnd joint (names_on_way joint own-name) (9 ∷ 5 ∷ []) reads tells
 answered = record {
   name = onward-name;
   named = (1, omega arith, refl);

@@ -5,7 +5,7 @@ pub mod Once
 pub mod Homes
 pub mod Effects
 pub mod Ways
-pub mod Given
+pub mod Causes
 pub mod Plain
 pub mod Places
 pub mod Sides
@@ -17,8 +17,12 @@ pub mod Comes
 pub mod Results
 pub mod Made
 pub mod AtEnd
-pub mod HostEnds
+pub mod Noted
+pub mod Offs
+pub mod Out
+pub mod Own
 pub mod OneNetwork
 mod Example
 mod Journey
+mod Owned
 mod Echo

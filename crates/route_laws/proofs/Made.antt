@@ -24,8 +24,8 @@ use Rattle.bridge_relay.specs.declared.entry.BridgeEntry.TheVariants.{Back, Gone
 use Rattle.bridge_relay.specs.Laws.{is_by}
 use Rattle.tied_lists.specs.Own.{own}
 use Rattle.tied_lists.specs.Items.{ABridge, AController, AHost, Asked, AtHome, CallSort, Called}
-use Rattle.tied_lists.specs.Items.{Items, LocalCall, NetCall, OverNet, asked_in, asked_of, kind_in}
-use Rattle.tied_lists.specs.Items.{kind_of_sort, net_ask, no_items}
+use Rattle.tied_lists.specs.Items.{Items, Kind, LocalCall, NetCall, OverNet, asked_in, asked_of}
+use Rattle.tied_lists.specs.Items.{kind_in, kind_of_sort, net_ask, no_items}
 use Rattle.tied_lists.specs.Tied.{AsksAreCalls}
 use Rattle.joint_history.specs.declared.joint.BridgeLog.{BridgeLog}
 use Rattle.joint_history.specs.declared.joint.ControllerLog.{ControllerLog}
@@ -72,29 +72,50 @@ net-called c a is = at c.sort refl is
         first ∙ ap (λ (x : Asked). record { id = x.id; sort = OverNet x.route x.pdu }) one
     at (AtHome op) same is' = absurd cc
 
--- a name of which the call is at home has one
-home-called : (cs : List Called) (id : CallId) (op : LocalOp)
-    → kind_in cs id ≡ Some (LocalCall op) → Contains cs (record { id = id; sort = AtHome op })
-home-called [] id op is = absurd cc
-home-called (c ∷ cs) id op is =
-    at c.sort (is_same_call c.id id) refl refl is (home-called cs id op)
-  where
-    found : Called
-    found = record { id = id; sort = AtHome op }
+-- a call of this name and kind
+pub record CalledAs (calls : List Called) (id : CallId) (kind : Kind) : Type 0 where
+  pub call : Called
+  pub there : Contains calls call
+  pub name : call.id ≡ id
+  pub kind_is : kind_of_sort call.sort ≡ kind
 
-    at : (sort : CallSort) (b : Bool) → c.sort ≡ sort → is_same_call c.id id ≡ b
-        → (if b then Some (kind_of_sort sort) else kind_in cs id) ≡ Some (LocalCall op)
-        → (kind_in cs id ≡ Some (LocalCall op) → Contains cs found)
-        → Contains (c ∷ cs) found
-    at (OverNet route pdu) true is_sort same is' rest =
-        absurd (let no' : Some NetCall ≡ Some (LocalCall op) = is' in cc)
-    at (AtHome other) true is_sort same is' rest =
-        let ops : other ≡ op = cc in
-        let sorts : c.sort ≡ AtHome op = is_sort ∙ ap AtHome ops in
-        let names = same-eq c.id id same in
-        subst (λ (x : Called). Contains (c ∷ cs) x)
-        (λ i. record { id = names i; sort = sorts i }) (here c cs)
-    at sort false is_sort same is' rest = behind c cs found (rest is')
+-- a name that has a kind has a call
+pub kind-called : (cs : List Called) (id : CallId) (kind : Kind) → kind_in cs id ≡ Some kind
+    → CalledAs cs id kind
+kind-called [] id kind is = absurd cc
+kind-called (c ∷ cs) id kind is =
+    at (is_same_call c.id id) refl is (kind-called cs id kind)
+  where
+    at : (b : Bool) → is_same_call c.id id ≡ b
+        → (if b then Some (kind_of_sort c.sort) else kind_in cs id) ≡ Some kind
+        → (kind_in cs id ≡ Some kind → CalledAs cs id kind) → CalledAs (c ∷ cs) id kind
+    at true same is' rest =
+        let kinds : kind_of_sort c.sort ≡ kind = cc in
+        record { call = c; there = here c cs; name = same-eq c.id id same; kind_is = kinds }
+    at false same is' rest =
+        let found = rest is' in
+        record {
+          call = found.call;
+          there = behind c cs found.call found.there;
+          name = found.name;
+          kind_is = found.kind_is;
+        }
+
+-- what is at home is an operation
+home-sort : (sort : CallSort) (op : LocalOp) → kind_of_sort sort ≡ LocalCall op
+    → sort ≡ AtHome op
+home-sort (OverNet route pdu) op is = absurd (let no' : NetCall ≡ LocalCall op = is in cc)
+home-sort (AtHome other) op is = let same : other ≡ op = cc in ap AtHome same
+
+-- a name of which the call is at home has one
+pub home-called : (cs : List Called) (id : CallId) (op : LocalOp)
+    → kind_in cs id ≡ Some (LocalCall op) → Contains cs (record { id = id; sort = AtHome op })
+home-called cs id op is =
+    let c = kind-called cs id (LocalCall op) is in
+    let sorts = home-sort c.call.sort op c.kind_is in
+    let same : c.call ≡ record { id = id; sort = AtHome op } =
+    λ i. record { id = c.name i; sort = sorts i } in
+    subst (λ (x : Called). Contains cs x) same c.there
 
 -- a controller's call at home is one of this operation, and one over the net one by this route
 home-kind-of : (kind : CallKind) (op : LocalOp) → sort_of kind ≡ AtHome op → kind ≡ Local op
@@ -158,7 +179,8 @@ sent-in a (e ∷ h) id route request there =
         (Contains-push_cases a.calls (record { id = name; sort = OverNet way bytes }) c old)
 
 -- a name is the first of its names
-own-there : (sent : List SentOn) (more : ℕ) (id : CallId) → Contains (names_from more sent id) id
+pub own-there : (sent : List SentOn) (more : ℕ) (id : CallId)
+    → Contains (names_from more sent id) id
 own-there sent zero id = here id []
 own-there sent (suc more) id =
     here id (unwrap_or (option_map (names_from more sent) (next_name sent id)) [])
@@ -299,6 +321,7 @@ module _ (laws : CallLaws) (plant : Plant) (scans : ℕ) (joint : Joint) (is : I
       (λ (c : CollectIn log.entries over).
       inl (
         route,
+        request,
         inl (
           log,
           there,
@@ -307,7 +330,6 @@ module _ (laws : CallLaws) (plant : Plant) (scans : ℕ) (joint : Joint) (is : I
           c.call,
           c.among,
           ap (λ (x : Called). x.id) c.is,
-          request,
           net-kind-of c.call.kind route request (ap (λ (x : Called). x.sort) c.is),
         ),
       ))
@@ -323,7 +345,7 @@ module _ (laws : CallLaws) (plant : Plant) (scans : ℕ) (joint : Joint) (is : I
       let asked : Asked = record { id = name; route = route; pdu = request } in
       ⊎_elim
       (λ (none : Contains {X = Called} [] over). absurd (in-none over none))
-      (λ (a : AskIn log.entries asked). inl (route, inr (log, there, request, a.there)))
+      (λ (a : AskIn log.entries asked). inl (route, request, inr (log, there, a.there)))
       (ask-in no_items log.entries over asked refl called)
 
   -- what an end of a bridge asks under a name it sent on
@@ -423,7 +445,7 @@ module _ (laws : CallLaws) (plant : Plant) (scans : ℕ) (joint : Joint) (is : I
       own-made name (inr (by
       (noted-by plant scans joint is legal tied name.node found.0 at.0 at.1)))
     where
-      by : StandsAt joint name.node → AsksOwnPort joint name
+      by : StandsAt joint name.node → (op : LocalOp) × AsksOwnPort joint name op
       by (a_controller log there node) =
           let ring = noted_on_rings joint in
           let a = items_of log.entries in
@@ -440,15 +462,17 @@ module _ (laws : CallLaws) (plant : Plant) (scans : ℕ) (joint : Joint) (is : I
           ⊎_elim
           (λ (none : Contains {X = Called} [] local). absurd (in-none local none))
           (λ (c : CollectIn log.entries local). (
-            log,
-            there,
-            c.calls,
-            c.there,
-            c.call,
-            c.among,
-            ap (λ (x : Called). x.id) c.is,
             made.0,
-            home-kind-of c.call.kind made.0 (ap (λ (x : Called). x.sort) c.is),
+            (
+              log,
+              there,
+              c.calls,
+              c.there,
+              c.call,
+              c.among,
+              ap (λ (x : Called). x.id) c.is,
+              home-kind-of c.call.kind made.0 (ap (λ (x : Called). x.sort) c.is),
+            ),
           ))
           (call-in no_items log.entries local (home-called a.calls name made.0 made.1))
       by (a_host log there node) =

@@ -19,7 +19,7 @@ use Rattle.ring_laws.proofs.Law.{given-up-word}
 use Rattle.ring_laws.proofs.Lists.{each-contains}
 use Rattle.tied_lists.specs.Own.{own}
 use Rattle.tied_lists.specs.Items.{AController, Asked, Came, Ended, asked_by, asked_in, asked_of}
-use Rattle.tied_lists.specs.Items.{net_ask, result_for}
+use Rattle.tied_lists.specs.Items.{last_asked, net_ask, result_for}
 use Rattle.joint_history.specs.declared.joint.ControllerLog.{ControllerLog}
 use Rattle.joint_history.specs.declared.joint.Joint.{Joint}
 use Rattle.joint_history.specs.JointLaws.{IsTiedController, fixed_of, IsJoint, IsLegalJoint}
@@ -44,6 +44,14 @@ use Rattle.route_laws.proofs.Hops.{partner}
 use Rattle.route_laws.proofs.Places.{on-its-ring, ring-of-node, size_of}
 use Rattle.route_laws.proofs.Requests.{Requested}
 
+-- the Request that a node posted last for a call, before it took the Reply
+pub record AskedLast (ring : List RingEntry) (n : ℕ) (before : List RingEntry) (id : CallId)
+    : Type 0 where
+  pub ask : Asked
+  pub posted : Contains (asked_by (own n ring)) ask
+  pub last : last_asked id (asked_by before) ≡ Some ask.pdu
+  pub requested : Requested ring id ask.route ask.pdu
+
 module _ (laws : CallLaws) (plant : Plant) (scans : ℕ) (joint : Joint) (is : IsPlant plant)
     (legal : IsLegalJoint plant scans joint) (tied : IsJoint joint) where
   -- what a controller asks another node for
@@ -60,15 +68,40 @@ module _ (laws : CallLaws) (plant : Plant) (scans : ℕ) (joint : Joint) (is : I
       ask-of called.0 a
       (each-contains IsAskOf (items_of log.entries).calls called.0 known.asks called.1) called.2
 
-  reply-fits : (log : ControllerLog) (before after : List RingEntry) (m : ℕ) (f : Frame)
-      → Contains joint.controllers log
-      → own log.node (noted_on_rings joint) ≡ before ++ Take m f ∷ after → f.kind ≡ Reply
-      → FitsLast f.id before f.pdu
-  reply-fits log before after m f there own_is kind =
+  -- it stands in the node's own list
+  last-posted : (n : ℕ) (before : List RingEntry) (x : RingEntry) (after : List RingEntry)
+      (id : CallId) (pdu : List ℕ) → own n (noted_on_rings joint) ≡ before ++ x ∷ after
+      → last_asked id (asked_by before) ≡ Some pdu
+      → AskedLast (noted_on_rings joint) n before id
+  last-posted n before x after id pdu own_is last =
       let ring = noted_on_rings joint in
-      let n = log.node in
-      let sent = sent_on_in joint in
-      let size = size_of ring in
+      let w = last-of id (asked_by before) pdu last in
+      let found = of-map asked_of before w.last w.there in
+      let post = post-of found.0 w.last found.2 in
+      let in_own : Contains (own n ring) found.0 =
+      subst (λ (l : List RingEntry). Contains l found.0) (sym own_is)
+      (Contains-append_left before (x ∷ after) found.0 found.1) in
+      record {
+        ask = w.last;
+        posted = in-map asked_of (own n ring) found.0 w.last found.2 in_own;
+        last = last ∙ ap (λ (l : List ℕ). Some l) (sym w.pdu_is);
+        requested = record {
+          node = post.node;
+          frame = post.frame;
+          there = subst (λ (e : RingEntry). Contains ring e) post.is
+              (of-own n ring found.0 in_own).0;
+          kind = post.kind;
+          name = post.id ∙ w.name;
+          route_is = post.route;
+          request_is = post.pdu;
+        };
+      }
+
+  pub asked-last : (n : ℕ) (before after : List RingEntry) (m : ℕ) (f : Frame)
+      → own n (noted_on_rings joint) ≡ before ++ Take m f ∷ after → f.kind ≡ Reply
+      → AskedLast (noted_on_rings joint) n before f.id
+  asked-last n before after m f own_is kind =
+      let ring = noted_on_rings joint in
       let among_own : Contains (own n ring) (Take m f) =
       subst (λ (l : List RingEntry). Contains l (Take m f)) (sym own_is)
       (Contains-append_right before (Take m f ∷ after) (Take m f) (here (Take m f) after)) in
@@ -80,24 +113,24 @@ module _ (laws : CallLaws) (plant : Plant) (scans : ℕ) (joint : Joint) (is : I
       let asking : Contains before (Post m earlier.request) =
       subst (λ (l : List RingEntry). Contains l (Post m earlier.request)) place.own_is
       (in-own n place.front (Post m earlier.request) (eq-eqb m n taken.1) earlier.posted) in
-      let some = last-some f.id (asked_by before) (asked_as earlier.request)
-      (in-map asked_of before (Post m earlier.request) _
+      let asked = asked_as earlier.request in
+      let some = last-some f.id (asked_by before) asked
+      (in-map asked_of before (Post m earlier.request) asked
       (ap (λ (k : FrameKind). asked_in k earlier.request) earlier.kind) asking) earlier.same in
-      let w = last-of f.id (asked_by before) some.0 some.1 in
-      let found = of-map asked_of before w.last w.there in
-      let post = post-of found.0 w.last found.2 in
-      let in_own : Contains (own n ring) found.0 =
-      subst (λ (l : List RingEntry). Contains l found.0) (sym own_is)
-      (Contains-append_left before (Take m f ∷ after) found.0 found.1) in
-      let requested : Requested ring f.id w.last.route w.last.pdu = record {
-        node = post.node;
-        frame = post.frame;
-        there = subst (λ (e : RingEntry). Contains ring e) post.is (of-own n ring found.0 in_own).0;
-        kind = post.kind;
-        name = post.id ∙ w.name;
-        route_is = post.route;
-        request_is = post.pdu;
-      } in
+      last-posted n before (Take m f) after f.id some.0 own_is some.1
+
+  reply-fits : (log : ControllerLog) (before after : List RingEntry) (m : ℕ) (f : Frame)
+      → Contains joint.controllers log
+      → own log.node (noted_on_rings joint) ≡ before ++ Take m f ∷ after → f.kind ≡ Reply
+      → FitsLast f.id before f.pdu
+  reply-fits log before after m f there own_is kind =
+      let ring = noted_on_rings joint in
+      let sent = sent_on_in joint in
+      let size = size_of ring in
+      let asked = asked-last log.node before after m f own_is kind in
+      let taken = of-own log.node ring (Take m f)
+      (subst (λ (l : List RingEntry). Contains l (Take m f)) (sym own_is)
+      (Contains-append_right before (Take m f ∷ after) (Take m f) (here (Take m f) after))) in
       let took : TookReply joint f.id f.pdu = record {
         node = m;
         frame = f;
@@ -108,13 +141,11 @@ module _ (laws : CallLaws) (plant : Plant) (scans : ℕ) (joint : Joint) (is : I
       } in
       let end = reply-end laws plant scans joint is legal tied (length sent) f.id f.pdu
       (count_by-le-length (λ (s : SentOn). nat_le (size s.old) (size f.id)) sent) took
-      w.last.route w.last.pdu requested in
-      let ask = net-asked log there w.last (in-map asked_of (own n ring) found.0 w.last found.2
-      in_own) in
+      asked.ask.route asked.ask.pdu asked.requested in
       record {
-        ask = w.last.pdu;
-        last = some.1 ∙ ap (λ l. Some l) (sym w.pdu_is);
-        fits = end.fits ask;
+        ask = asked.ask.pdu;
+        last = asked.last;
+        fits = end.fits (net-asked log there asked.ask asked.posted);
       }
 
   -- ---- the law

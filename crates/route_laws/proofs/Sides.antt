@@ -3,8 +3,9 @@ use Rattle.std.proofs.Common.{◌≡◌, ◌⊎◌, ℕ, ◌≤◌, Bool, true, 
 use Rattle.std.proofs.Common.{refl, sym, ap, ◌∙◌, subst, inl, inr, ⊎_elim, arith}
 use Rattle.std.specs.Prelude.{Contains, filter, flat_map, if◌then◌else◌, ◌==◌}
 use Rattle.std.specs.List.{AllZip, count_by, list_any}
-use Rattle.std.proofs.lemmas.Bool.{cases_eq, eq-eqb, ne_eqb, or_cases}
-use Rattle.std.proofs.lemmas.List.Elements.{Contains-append_left, Contains-push}
+use Rattle.std.proofs.lemmas.Bool.{cases_eq, eq-eqb, eqb-true, ne_eqb, or_cases}
+use Rattle.std.proofs.lemmas.List.Elements.{All-contains, Contains-append_left, Contains-push}
+use Rattle.std.proofs.lemmas.List.Elements.{filter_passes}
 use Rattle.plant_types.specs.declared.net.BridgePlan.{BridgePlan}
 use Rattle.mstr_block.specs.declared.call.CallId.{CallId}
 use Rattle.ring_core.specs.declared.entry.RingEntry.{RingEntry}
@@ -189,15 +190,17 @@ back-entry (Back side name reply) id pdu is =
 back-entry (Gone side) id pdu is = absurd cc
 
 pub back-there : (list : List BridgeEntry) (side : ℕ) (id : CallId) (pdu : List ℕ)
-    → Contains (backs_of side list) (id, Some pdu)
-    → (by : ℕ) × Contains list (Back by id pdu)
+    → Contains (backs_of side list) (id, Some pdu) → Contains list (Back side id pdu)
 back-there list side id pdu there =
     let found = of-map back_of (made_at_end side list) (id, Some pdu) there in
-    let back = back-entry found.0 id pdu found.2 in (
-      back.0,
-      subst (λ (e : BridgeEntry). Contains list e) back.1
-          (of-filter (is_by side) list found.0 found.1),
-    )
+    let back = back-entry found.0 id pdu found.2 in
+    let mine = All-contains (λ (e : BridgeEntry). is_by side e ≡ true) (made_at_end side list)
+    found.0 (filter_passes (is_by side) list) found.1 in
+    let by : back.0 ≡ side = eqb-true back.0 side
+    (subst (λ (e : BridgeEntry). is_by side e ≡ true) back.1 mine) in
+    subst (λ (n : ℕ). Contains list (Back n id pdu)) by
+    (subst (λ (e : BridgeEntry). Contains list e) back.1
+    (of-filter (is_by side) list found.0 found.1))
 
 -- a Request that was taken, for what stands behind the node
 pub record TakePlain (x : RingEntry) (id : CallId) (rest pdu : List ℕ) : Type 0 where

@@ -22,7 +22,8 @@ use Rattle.ring_laws.proofs.Lists.{each-contains}
 use Rattle.bridge_relay.specs.declared.entry.BridgeEntry.{BridgeEntry}
 use Rattle.bridge_relay.specs.declared.entry.BridgeEntry.TheVariants.{Accept, Forward}
 use Rattle.bridge_relay.specs.declared.entry.RelayResult.TheVariants.{Reply}
-use Rattle.bridge_relay.specs.Machine.{side_of}
+use Rattle.bridge_causes.specs.Causes.{BackCause, IsFromCall, OfCall, OfRefusal}
+use Rattle.bridge_relay.specs.Machine.{far_side, side_of}
 use Rattle.bridge_relay.specs.Legal.{IsBridgeHistory, IsEnd}
 use Rattle.bridge_relay.proofs.Parts.{all_steps}
 use Rattle.tied_lists.specs.Own.{own}
@@ -52,7 +53,7 @@ use Rattle.effect_laws.proofs.Sources.{EndedBy, by_port, by_reply, by_word, end-
 use Rattle.effect_laws.proofs.Sources.{first-or-behind, in-map, in-none, in-own, of-map, of-own}
 use Rattle.effect_laws.proofs.Sources.{in-mapped}
 use Rattle.route_laws.specs.Ways.{SentOn, sent_of, sent_on_in}
-use Rattle.route_laws.proofs.Given.{GoneOn, Refused, back-given, exceptions-are, sent-accepts}
+use Rattle.route_laws.proofs.Causes.{Caused, back-caused, exceptions-are, of-front, plan-of}
 use Rattle.net_laws.proofs.Members.{all_nodes, times}
 use Rattle.route_laws.proofs.Places.{posted-on-rings, reply-posted, request-posted, size-is}
 use Rattle.route_laws.proofs.Places.{size_of}
@@ -257,27 +258,43 @@ module _ (plant : Plant) (scans : ℕ) (joint : Joint) (is : IsPlant plant)
       (asks-this id g.frame g.kind g.name) ∙ ap length g.rest_is
 
   -- a reply of the call that was sent on
-  gone-on : (plan : BridgePlan) (log : BridgeLog) (id : CallId) (pdu : List ℕ)
+  gone-on : (plan : BridgePlan) (log : BridgeLog) (side : ℕ) (id : CallId) (pdu : List ℕ)
       → IsLegalBridgeLog plan log → Contains joint.bridges log
-      → (is_exception_reply pdu ≡ true → ⊥) → GoneOn log.entries id pdu → Onward joint id
-  gone-on plan log id pdu lawful there plain on =
+      → (is_exception_reply pdu ≡ true → ⊥) → (c : Caused plan log.entries side id pdu)
+      → IsFromCall c.before side (far_side plan side) id pdu → Onward joint id
+  gone-on plan log side id pdu lawful there plain c on =
       let list = log.entries in
-      let got = sent-accepts plan list on.side id on.id on.route on.request lawful.2 on.sent in
-      let before = size-accepted plan log got.side id on.route on.request lawful there got.there in
-      let after = size-sent plan log on.side id on.id on.route on.request lawful there on.sent in
-      let this : SentOn = record { old = id; id = on.id } in
-      let t = side-tied plan log on.side lawful there (entry-end plan list _ lawful.2 on.ended) in
-      let told = finish-told list on.side on.id (Reply pdu) on.ended in
+      let across = far_side plan side in
+      let got = of-front list c.before _ c.after _ c.is on.accepted in
+      let sent = of-front list c.before _ c.after _ c.is on.sent in
+      let ended = of-front list c.before _ c.after _ c.is on.ended in
+      let before = size-accepted plan log side id on.route on.request lawful there got in
+      let after = size-sent plan log across id on.onward on.route on.request lawful there sent in
+      let this : SentOn = record { old = id; id = on.onward } in
+      let t = side-tied plan log across lawful there (entry-end plan list _ lawful.2 ended) in
+      let told = finish-told list across on.onward (Reply pdu) ended in
       record {
-        new = on.id;
+        new = on.onward;
         sent = in-flat (λ (l : BridgeLog). filter_map sent_of l.entries) joint.bridges log this
-            there (in-map sent_of list _ this refl on.sent);
+            there (in-map sent_of list _ this refl sent);
         shorter = omega (arith, before, after);
-        took = took-replied joint ABridge told.end' on.id pdu (λ request reply. refl)
+        took = took-replied joint ABridge told.end' on.onward pdu (λ request reply. refl)
             (λ word. refl)
-            (ended-at (noted_on_rings joint) ABridge on.side _ told.end' t.ends told.there)
+            (ended-at (noted_on_rings joint) ABridge across _ told.end' t.ends told.there)
             told.id_is told.outcome_is plain;
       }
+
+  -- no reply that is no exception is a bridge's own
+  back-traced : (plan : BridgePlan) (log : BridgeLog) (side : ℕ) (id : CallId) (pdu : List ℕ)
+      → IsLegalBridgeLog plan log → Contains joint.bridges log
+      → (is_exception_reply pdu ≡ true → ⊥) → Caused plan log.entries side id pdu
+      → Traced joint id
+  back-traced plan log side id pdu lawful there plain c = by c.cause
+    where
+      by : BackCause plan c.before side (far_side plan side) id pdu → Traced joint id
+      by (OfCall on) = inr (gone-on plan log side id pdu lawful there plain c on)
+      by (OfRefusal no') = absurd (plain
+          (ap is_exception_reply no'.reply_is ∙ exceptions-are no'.request no'.code))
 
   bridge-traced : (plan : BridgePlan) (log : BridgeLog) (side : ℕ) (f : Frame)
       → IsLegalBridgeLog plan log → Contains joint.bridges log → IsEnd plan side
@@ -299,12 +316,9 @@ module _ (plant : Plant) (scans : ℕ) (joint : Joint) (is : IsPlant plant)
             (replied_by b) item (ap not back) replied in
             let among = back-there log.entries side f.id f.pdu
             (subst (λ (l : List Item). Contains l item) t.replies.given given) in
-            ⊎_elim
-            (λ (no' : Refused log.entries f.id f.pdu). absurd (plain
-            (ap is_exception_reply no'.is ∙ exceptions-are no'.request no'.code)))
-            (λ (on : GoneOn log.entries f.id f.pdu).
-            inr (gone-on plan log f.id f.pdu lawful there plain on))
-            (back-given plan log.entries among.0 f.id f.pdu lawful.2 among.1)
+            let p = plan-of plant scans joint log is legal there in
+            back-traced p.plan log side f.id f.pdu p.legal there plain
+            (back-caused p.plan log.entries side f.id f.pdu p.sound p.legal.2 among)
       ]
 
   -- ---- all nodes

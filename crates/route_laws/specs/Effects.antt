@@ -1,5 +1,5 @@
 -- What is promised of the effects of calls. This project's own.
-use Rattle.std.specs.Prelude.{◌≡◌, ℕ, ◌≤◌, Bool, false}
+use Rattle.std.specs.Prelude.{◌≡◌, ℕ, List, ◌≤◌, Bool, false, Contains}
 use Rattle.std.specs.List.{count_by, sum_by}
 use Rattle.mstr_block.specs.Call.{is_same_call}
 use Rattle.mstr_block.specs.declared.call.CallId.{CallId}
@@ -9,8 +9,9 @@ use Rattle.joint_history.specs.declared.joint.BridgeLog.{BridgeLog}
 use Rattle.joint_history.specs.declared.joint.Joint.{Joint}
 use Rattle.effect_laws.specs.Fits.{RepliesFit}
 use Rattle.effect_laws.specs.Success.{ReportsSuccess}
-use Rattle.route_laws.specs.Ends.{EffectsAreAtEnd, HostRepliesAreOnWay}
-use Rattle.route_laws.specs.Ways.{SentOn, sent_on_in, effects_on_way}
+use Rattle.route_laws.specs.Ends.{EffectsAreAtEnd}
+use Rattle.route_laws.specs.Own.{EffectsAreOwn, NodeMisses}
+use Rattle.route_laws.specs.Ways.{SentOn, sent_on_in, effects_on_way, names_on_way}
 
 -- No call takes effect twice, under whatever names it goes.
 abbrev pub EffectsAtMostOnce : Joint → Type 0
@@ -19,6 +20,15 @@ EffectsAtMostOnce joint = (id : CallId) → effects_on_way joint id ≤ 1
 -- Each call that reports success took effect, once.
 abbrev pub SuccessIsOneEffect : Joint → Type 0
 SuccessIsOneEffect joint = (id : CallId) → ReportsSuccess joint id → effects_on_way joint id ≡ 1
+
+-- The request of a call came to a controller that had no power.
+abbrev pub CameWithoutPower : Joint → CallId → Type 0
+CameWithoutPower joint name = (n : ℕ) × (request : List ℕ) × NodeMisses joint n name request
+
+-- A call whose request came without power, under whatever of its names, took no effect.
+abbrev pub OffsAreNoEffects : Joint → Type 0
+OffsAreNoEffects joint = (id name : CallId) → Contains (names_on_way joint id) name
+    → CameWithoutPower joint name → effects_on_way joint id ≡ 0
 
 -- An end of a bridge accepted the request of a call.
 abbrev pub accepts_call : CallId → BridgeEntry → Bool
@@ -53,4 +63,5 @@ pub record EffectsAreRight (joint : Joint) : Type 0 where
   pub success : SuccessIsOneEffect joint
   pub at_end : EffectsAreAtEnd joint
   pub replies : RepliesFit joint
-  pub host_replies : HostRepliesAreOnWay joint
+  pub own : EffectsAreOwn joint
+  pub without_power : OffsAreNoEffects joint

@@ -8,8 +8,9 @@ use Rattle.joint_history.specs.Effects.{effects}
 use Rattle.joint_history.specs.JointLaws.{IsJoint, IsLegalJoint}
 use Rattle.effect_laws.specs.Fits.{RepliesFit}
 use Rattle.route_laws.specs.Effects.{AreTakenOnOnce, EffectsAreRight, EffectsAtMostOnce}
-use Rattle.route_laws.specs.Effects.{SuccessIsOneEffect}
-use Rattle.route_laws.specs.Ends.{EffectsAreAtEnd, HostRepliesAreOnWay}
+use Rattle.route_laws.specs.Effects.{OffsAreNoEffects, SuccessIsOneEffect}
+use Rattle.route_laws.specs.Ends.{EffectsAreAtEnd}
+use Rattle.route_laws.specs.Own.{EffectsAreOwn}
 use Rattle.route_laws.specs.Ways.{effects_on_way, names_on_way}
 
 -- Something is so of every joint history whose lists are legal ones of a plant's stations, bridges
@@ -39,10 +40,13 @@ FinishesHaveResults = InEachJoint RepliesFit
 abbrev pub AllEffectsAreAtTheirEnd : Type 0
 AllEffectsAreAtTheirEnd = InEachJoint EffectsAreAtEnd
 
--- In each joint history a reply that a host got is the answer of the node at which the route ends
--- to the very request that it made, or an exception that a bridge on the way made of it.
-abbrev pub HostsGetTheirReplies : Type 0
-HostsGetTheirReplies = InEachJoint HostRepliesAreOnWay
+-- In each joint history the effects of a call, own or sent on by bridges, are its own.
+abbrev pub AllEffectsAreOwn : Type 0
+AllEffectsAreOwn = InEachJoint EffectsAreOwn
+
+-- In each joint history a call whose request came without power took no effect.
+abbrev pub OffsHaveNoEffect : Type 0
+OffsHaveNoEffect = InEachJoint OffsAreNoEffects
 
 -- In each joint history all that is promised of the effects of calls is so.
 abbrev pub AllEffectsAreRight : Type 0

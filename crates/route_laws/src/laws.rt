@@ -2,8 +2,8 @@
 //! own.
 ghost use Rattle.route_laws.specs.Laws.{RequestsAreTakenOnOnce, WaysHaveOneEffect};
 ghost use Rattle.route_laws.specs.Laws.{FinishesHaveResults, SuccessIsOneEffectOnWay};
-ghost use Rattle.route_laws.specs.Laws.{AllEffectsAreAtTheirEnd, HostsGetTheirReplies};
-ghost use Rattle.route_laws.specs.Laws.{AllEffectsAreRight, WaysOfOneNetwork};
+ghost use Rattle.route_laws.specs.Laws.{AllEffectsAreAtTheirEnd, AllEffectsAreOwn};
+ghost use Rattle.route_laws.specs.Laws.{AllEffectsAreRight, OffsHaveNoEffect, WaysOfOneNetwork};
 
 use ladder_solver::segments_keep_calls;
 use mstr_block::{calls_are_taken_in_order, finishes_end_one_call, stays_table};
@@ -54,10 +54,24 @@ pub fn effects_are_at_their_end()
     success_is_one_effect_on_way();
 }
 
-/// Each reply that a host got is the answer of the node at which the route ends, to the very
-/// request that it made, or an exception that a bridge on the way made of it.
-pub fn hosts_get_their_replies()
-    ensures { HostsGetTheirReplies }
+/// Each call's effects are its own, whether a controller or a host made it or a bridge sent it on.
+/// What a node answers, a bridge accepts or sends on, or comes without power is the request that was
+/// made. A result that a controller notes is that of this request and of the very reply of the node
+/// at the end, and what a host or a bridge notes is this reply; or they are of an exception that a
+/// bridge on the way made of it, for a cause that its list tells, or of a call that was given up.
+pub fn effects_are_own()
+    ensures { AllEffectsAreOwn }
+{
+    segments_keep_calls();
+    calls_are_taken_in_order();
+    finishes_end_one_call();
+    stays_table();
+}
+
+/// A call whose request came to a controller without power took no effect, under whatever names it
+/// goes.
+pub fn offs_have_no_effect()
+    ensures { OffsHaveNoEffect }
 {
     segments_keep_calls();
     calls_are_taken_in_order();
@@ -76,7 +90,8 @@ pub fn effects_are_right()
     success_is_one_effect_on_way();
     effects_are_at_their_end();
     finishes_have_results();
-    hosts_get_their_replies();
+    effects_are_own();
+    offs_have_no_effect();
 }
 
 /// In a plant of one network there is no bridge, and each call has its own name alone: what takes

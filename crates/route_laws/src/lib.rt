@@ -5,7 +5,7 @@
 mod laws;
 
 pub use laws::{
-    effects_are_at_their_end, effects_are_right, finishes_have_results, hosts_get_their_replies,
-    requests_are_taken_on_once, success_is_one_effect_on_way, ways_have_one_effect,
-    ways_of_one_network,
+    effects_are_at_their_end, effects_are_own, effects_are_right, finishes_have_results,
+    offs_have_no_effect, requests_are_taken_on_once, success_is_one_effect_on_way,
+    ways_have_one_effect, ways_of_one_network,
 };

@@ -1,7 +1,7 @@
--- The due list of a scan, and what of it is left behind a place.
-use Rattle.std.specs.Prelude.{◌≡◌, ◌≤◌, ℕ, suc, ◌+◌, ◌-◌, ◌==◌, Bool, true, false, if◌then◌else◌}
-use Rattle.std.specs.Prelude.{List}
-use Rattle.std.specs.Prelude.{[], ◌∷◌, ◌++◌, filter, length, Option, Some, None, slice_get}
+-- The due list of a scan, and how one follows it.
+use Rattle.std.specs.Prelude.{◌≡◌, ◌≤◌, ℕ, suc, ◌-◌, ◌==◌, Bool, true, false, if◌then◌else◌}
+use Rattle.std.specs.Prelude.{List, [], ◌∷◌, ◌++◌, filter, fold, length, Option, Some, None}
+use Rattle.std.specs.Prelude.{slice_get, ◌↔◌}
 use Rattle.std.specs.List.{flat_map, range_with_len}
 use Rattle.plant_types.specs.declared.plan.OrderRow.{OrderRow}
 use Rattle.plant_types.specs.declared.plan.ControllerPlan.{ControllerPlan}
@@ -53,15 +53,6 @@ rows_from plan row =
 abbrev pub full_scan : ControllerPlan → List ScanStep
 full_scan plan = steps.Begin ∷ rows_from plan 1
 
--- What of it is left behind a place. This project's own.
-abbrev pub full_after : ControllerPlan → ScanPlace → List ScanStep
-full_after plan places.Start = full_scan plan
-full_after plan places.Began = rows_from plan 1
-full_after plan (places.DidIn row) =
-    steps.Solve row ∷ (output_steps plan row ++ rows_from plan (row + 1))
-full_after plan (places.DidSolve row) = output_steps plan row ++ rows_from plan (row + 1)
-full_after plan (places.DidOut row) = rows_from plan (row + 1)
-
 -- The place behind a step. This project's own.
 abbrev pub place_after : ScanStep → ScanPlace
 place_after steps.Begin = places.Began
@@ -79,23 +70,12 @@ ends_scan steps.Fail = true
 ends_scan steps.Dark = true
 ends_scan _ = false
 
--- What is left of a scan with power behind a step. This project's own.
-abbrev pub full_rest : ControllerPlan → ScanStep → List ScanStep
-full_rest plan step = if ends_scan step then [] else full_after plan (place_after step)
-
 -- Power that fails at a row fails at this place: behind the Solve of the row, or behind Begin for
 -- row 0. This project's own.
 abbrev pub is_failing : ℕ → ScanPlace → Bool
 is_failing row places.Began = row == 0
 is_failing row (places.DidSolve solved) = row == solved
 is_failing row _ = false
-
--- The step with which a scan ends at a place for want of power, if it does: Fail where power fails,
--- Dark where there is none. This project's own.
-abbrev pub last_off : ScanPower → ScanPlace → Option ScanStep
-last_off (powers.Fails row) at = if is_failing row at then Some steps.Fail else None
-last_off powers.Dark places.Start = Some steps.Dark
-last_off _ at = None
 
 -- These steps up to the place where power fails, and Fail behind them. This project's own.
 unfoldable pub up_to_failure : ℕ → List ScanStep → List ScanStep
@@ -113,31 +93,6 @@ due_with plan powers.Dark = steps.Dark ∷ []
 abbrev pub due : ControllerPlan → ℕ → List ScanStep
 due plan scan = due_with plan (power_in plan scan)
 
--- These steps up to a failure of the power. This project's own.
-abbrev pub cut_by : ScanPower → List ScanStep → List ScanStep
-cut_by (powers.Fails row) due = up_to_failure row due
-cut_by _ due = due
-
--- What of a scan is left behind a place in it, by what becomes of the power: its last step where it
--- ends there for want of power, else what would be left with power, up to a failure. This project's
--- own.
-abbrev pub left_with : ControllerPlan → ScanPower → ScanPlace → Option ScanStep → List ScanStep
-left_with plan power at (Some step) = step ∷ []
-left_with plan power at None = cut_by power (full_after plan at)
-
-abbrev pub left_behind : ControllerPlan → ScanPower → ScanPlace → List ScanStep
-left_behind plan power at = left_with plan power at (last_off power at)
-
--- The same, where the scan of this number runs, or is the next one. This project's own.
-abbrev pub due_after : ControllerPlan → ℕ → ScanPlace → List ScanStep
-due_after plan scan places.Start = due plan scan
-due_after plan scan at = left_behind plan (power_in plan scan) at
-
--- What is left of the same scan behind a step. This project's own.
-abbrev pub rest_after : ControllerPlan → ℕ → ScanStep → List ScanStep
-rest_after plan scan step =
-    if ends_scan step then [] else due_after plan scan (place_after step)
-
 -- A row of the plan. This project's own.
 abbrev pub IsRow : ControllerPlan → ℕ → Type 0
 IsRow plan row = (1 ≤ row) × (row ≤ length plan.orders)
@@ -152,6 +107,39 @@ IsPlace plan (places.DidOut row) = IsRow plan row
 
 abbrev pub IsStep : ControllerPlan → ScanStep → Type 0
 IsStep plan step = IsPlace plan (place_after step)
+
+-- The place that the first steps of a scan lead to: that behind the last of them, and Start where
+-- there are none. This project's own.
+abbrev pub place_behind : List ScanStep → ScanPlace
+place_behind steps = fold (λ at step. place_after step) places.Start steps
+
+-- A step stands first in a list. This project's own.
+abbrev pub IsFirst : ScanStep → List ScanStep → Type 0
+IsFirst step steps = (rest : List ScanStep) × (steps ≡ step ∷ rest)
+
+-- A step is the next of a list at a place: where first steps of the list lead there, it is the one
+-- behind them. This project's own.
+abbrev pub IsNextOf : List ScanStep → ScanPlace → ScanStep → Type 0
+IsNextOf due at step =
+    (before : List ScanStep) (next : ScanStep) (after : List ScanStep)
+    → before ++ next ∷ after ≡ due → place_behind before ≡ at → step ≡ next
+
+-- What following an answer to each place gives, from Start to a step that ends the scan: each step
+-- is the answer at the place that those before it lead to, and it ends the scan just where it is
+-- the last. This project's own.
+pub record IsFollowed (answer : ScanPlace → ScanStep) (steps : List ScanStep) : Type 0 where
+  pub some : ¬ (steps ≡ [])
+  pub each : (before : List ScanStep) (step : ScanStep) (after : List ScanStep)
+      → before ++ step ∷ after ≡ steps → step ≡ answer (place_behind before)
+  pub last : (before : List ScanStep) (step : ScanStep) (after : List ScanStep)
+      → before ++ step ∷ after ≡ steps → ends_scan step ≡ true ↔ after ≡ []
+
+-- Where each answer is the next of the due list, as `next_due` answers, following it gives the due
+-- list, and nothing else. This project's own.
+abbrev pub FollowingGivesDue : Type 0
+FollowingGivesDue = (plan : ControllerPlan) (scan : ℕ) (answer : ScanPlace → ScanStep)
+    → ((at : ScanPlace) → IsPlace plan at → IsNextOf (due plan scan) at (answer at))
+    → (steps : List ScanStep) → IsFollowed answer steps ↔ steps ≡ due plan scan
 
 -- The last step of a scan, by what becomes of the power. This project's own.
 abbrev pub last_by : ScanPower → ScanStep

@@ -1,9 +1,9 @@
 //! The due list of a scan, walked by a place and a next step.
-ghost use Rattle.std.specs.Prelude.{◌≡◌, ◌≤◌, ◌-◌, ◌∷◌, length, slice_get};
+ghost use Rattle.std.specs.Prelude.{◌≡◌, ◌≤◌, ◌+◌, ◌-◌, ◌++◌, length, slice_get};
 ghost use Rattle.plant_types.specs.PlanTests.{order_limit};
-ghost use Rattle.scan_order.specs.Due.{due_after, rest_after, rows_from, place_after, ends_scan};
-ghost use Rattle.scan_order.specs.Due.{full_after, full_rest, is_failing, last_off, row_of};
-ghost use Rattle.scan_order.specs.Due.{IsPlace, IsStep, ScansEndOnce};
+ghost use Rattle.scan_order.specs.Due.{due, ends_scan, full_scan, is_failing, output_steps};
+ghost use Rattle.scan_order.specs.Due.{place_after, row_of, rows_from, FollowingGivesDue, IsFirst};
+ghost use Rattle.scan_order.specs.Due.{IsNextOf, IsPlace, IsStep, ScansEndOnce};
 
 use crate::power::{ScanPower, power_in};
 use plant_types::{ControllerPlan, OrderRow};
@@ -44,7 +44,7 @@ pub fn row_of(plan: &ControllerPlan, row: u16) -> Option<OrderRow>
 /// The first step of a scan with power from a row on.
 fn first_from(plan: &ControllerPlan, row: u16) -> ScanStep
     requires { 1 ≤ row }
-    ensures next { rows_from plan.now row ≡ result ∷ full_rest plan.now result }
+    ensures first { IsFirst result (rows_from plan.now row) }
     ensures step { IsStep plan.now result }
 {
     let Some(found) = row_of(plan, row) else {
@@ -60,8 +60,7 @@ fn first_from(plan: &ControllerPlan, row: u16) -> ScanStep
 fn first_behind(plan: &ControllerPlan, row: u16) -> ScanStep
     requires row { IsPlace plan.now (ScanPlace.DidSolve row) }
     requires rows { length plan.now.orders ≤ order_limit }
-    ensures next { full_after plan.now (ScanPlace.DidSolve row)
-        ≡ result ∷ full_rest plan.now result }
+    ensures first { IsFirst result (output_steps plan.now row ++ rows_from plan.now (row + 1)) }
     ensures step { IsStep plan.now result }
 {
     let Some(found) = row_of(plan, row) else {
@@ -77,7 +76,7 @@ fn first_behind(plan: &ControllerPlan, row: u16) -> ScanStep
 fn full_next(plan: &ControllerPlan, at: ScanPlace) -> ScanStep
     requires place { IsPlace plan.now at }
     requires rows { length plan.now.orders ≤ order_limit }
-    ensures next { full_after plan.now at ≡ result ∷ full_rest plan.now result }
+    ensures next { IsNextOf (full_scan plan.now) at result }
     ensures step { IsStep plan.now result }
 {
     match at {
@@ -100,28 +99,19 @@ fn is_failing(row: u16, at: ScanPlace) -> bool
     }
 }
 
-/// The event with which a scan ends at a place for want of power, if it does.
-fn last_off(power: ScanPower, at: ScanPlace) -> Option<ScanStep>
-    ensures { result ≡ last_off power at }
-{
-    match (power, at) {
-        (ScanPower::Fails(row), _) => is_failing(row, at).then_some(ScanStep::Fail),
-        (ScanPower::Dark, ScanPlace::Start) => Some(ScanStep::Dark),
-        _ => None,
-    }
-}
-
 /// The event that is due behind a place, where the scan of this number, from 1 on, runs or is the
 /// next one. Takes no memory.
 pub fn next_due(plan: &ControllerPlan, scan: u32, at: ScanPlace) -> ScanStep
     requires place { IsPlace plan.now at }
     requires rows { length plan.now.orders ≤ order_limit }
-    ensures next { due_after plan.now scan at ≡ result ∷ rest_after plan.now scan result }
+    ensures next { IsNextOf (due plan.now scan) at result }
     ensures step { IsStep plan.now result }
 {
-    match last_off(power_in(plan, scan), at) {
-        Some(step) => step,
-        None => full_next(plan, at),
+    match power_in(plan, scan) {
+        ScanPower::Stays => full_next(plan, at),
+        ScanPower::Fails(row) if is_failing(row, at) => ScanStep::Fail,
+        ScanPower::Fails(_) => full_next(plan, at),
+        ScanPower::Dark => ScanStep::Dark,
     }
 }
 
@@ -144,6 +134,12 @@ pub fn place_after(step: ScanStep) -> ScanPlace
         ScanStep::End | ScanStep::Fail | ScanStep::Dark => ScanPlace::Start,
     }
 }
+
+/// Following `next_due` from Start gives the due list of a scan: an event, the place behind it, the
+/// event that is due there, up to one that ends the scan.
+pub fn following_gives_due()
+    ensures { FollowingGivesDue }
+{}
 
 /// Of the events that are due in a scan just one is a last one, and what becomes of the power says
 /// which.

@@ -1,6 +1,6 @@
 -- A run at whose end all stations have finished.
 use Rattle.std.proofs.Common.{◌≡◌, ℕ, zero, suc, ◌==◌, Bool, true, false, List, [], ◌∷◌}
-use Rattle.std.proofs.Common.{map, Some, None, refl, sym, ap, subst, ◌∙◌, arith, ⊎_elim, inl, inr}
+use Rattle.std.proofs.Common.{map, Some, None, refl, sym, ap, subst, ◌∙◌, arith}
 use Rattle.std.specs.Prelude.{◌&&◌, if◌then◌else◌}
 use Rattle.std.specs.List.{AllZip, list_all, slice_get}
 use Rattle.std.proofs.lemmas.List.Elements.{All-contains}
@@ -10,7 +10,6 @@ use Rattle.plant_types.specs.declared.net.NetPlan.{NetPlan}
 use Rattle.plant_types.specs.declared.plan.Plant.{Plant}
 use Rattle.plant_types.specs.Plans.{IsBridgeOf, IsBridgePlan, net_of}
 use Rattle.ring_core.specs.declared.entry.RingEntry.{RingEntry}
-use Rattle.ring_core.specs.declared.status.NodeStatus.TheVariants.{Away, Gone}
 use Rattle.scan_order.specs.declared.due.ScanStep.{ScanStep}
 use Rattle.controller_core.specs.declared.fixed.Fixed.{Fixed}
 use Rattle.controller_core.specs.Controller.{ControllerIs, first_step, has_ended, has_started}
@@ -20,18 +19,15 @@ use Rattle.bridge_station.specs.Station.{end_has_left}
 use Rattle.bridge_station.specs.Stands.{StandsEnd}
 use Rattle.end_laws.specs.EndKeeps.{EndKeepsOn}
 use Rattle.end_laws.proofs.Complete.{end-complete}
-use Rattle.joint_history.specs.Complete.{ControllerIsComplete, ControllerIsOut, EndIsComplete}
-use Rattle.joint_history.specs.Complete.{HostIsComplete, IsComplete, IsCompleteBridgeLog}
-use Rattle.joint_history.specs.Complete.{IsCompleteHostLog, IsCompleteLog, LeavesQuietly}
-use Rattle.joint_history.specs.Complete.{NodeIsComplete, StaysOff}
+use Rattle.joint_history.specs.declared.joint.RingLog.{RingLog}
+use Rattle.joint_history.specs.Complete.{ControllerIsCompleteOn, EndIsComplete, HostIsCompleteOn}
+use Rattle.joint_history.specs.Complete.{IsComplete, IsCompleteBridgeLog, IsCompleteHostLog}
+use Rattle.joint_history.specs.Complete.{IsCompleteLog}
 use Rattle.joint_history.specs.JointLaws.{fixed_of}
-use Rattle.joint_history.specs.Nets.{noted_on_rings}
-use Rattle.joint_history.specs.Reading.{has_ended_at, has_started_at, host_items_of, is_off_at}
-use Rattle.joint_history.specs.Reading.{items_of}
+use Rattle.joint_history.specs.Nets.{entries_on, own_ring}
+use Rattle.joint_history.specs.Reading.{has_ended_at, has_started_at, is_off_at}
 use Rattle.comm_port.specs.Worker.{IsMemberWorker}
 use Rattle.comm_port.specs.HostStands.{own_side}
-use Rattle.net_laws.proofs.Rings.{away-from, gone-from}
-use Rattle.tied_lists.specs.Own.{own}
 use Rattle.tied_lists.specs.Waits.{has_left, status_at}
 use Rattle.turn_laws.specs.KeepsOn.{HostKeepsOn, HostStandsTied}
 use Rattle.turn_laws.specs.KeepsOn.{KeepsOn, is_out_of_ring}
@@ -47,8 +43,8 @@ use Rattle.serial_run.specs.Scans.{have_ended, KeepScans}
 use Rattle.serial_run.specs.Stations.{StandAll, host_log_of, joint_of, log_of, log_of_ring}
 use Rattle.serial_run.specs.Stations.{log_of_site, plain_ram_side, station_ring}
 use Rattle.serial_run.specs.Held.{AllHave, IsOffAway, IsVisited, stations_here, status_in}
-use Rattle.serial_run.proofs.Laws.{controllers-each, hosts-each, own-noted, sites-each}
-use Rattle.serial_run.proofs.Networks.{NodeOn, contains-at, low-members, noted-is, rings-legal}
+use Rattle.serial_run.proofs.Laws.{controllers-each, hosts-each, sites-each}
+use Rattle.serial_run.proofs.Networks.{NodeOn, contains-at, low-members, noted-is}
 use Rattle.serial_run.proofs.Repeats.{all-at, controller-left, host-left, left-out, site-left}
 use Rattle.serial_run.proofs.TurnsMade.{at-place, host-at-place, site-at-place}
 
@@ -96,33 +92,16 @@ zip-map-at S g (x ∷ xs) (y ∷ ys) all = (all.0, zip-map-at S g xs ys all.1)
 
 module _ (law : ControllersComplete) (host_law : HostsComplete) (plant : Plant) (scans : ℕ)
     (run : Stations) (all : StandAll plant scans run) (here : stations_here run ≡ 0) where
-  abbrev noted : List RingEntry
-  noted = noted_on_rings (joint_of run)
+  abbrev rings : List RingLog
+  rings = map log_of_ring run.rings.items
 
-  -- a node that is gone from its ring, or away, is so behind the entries of all rings
-  gone-noted : (network node : ℕ) → NodeOn plant run.rings.items network node
-      → status_at (net_of plant node) (station_ring run network).history node ≡ Gone
-      → status_at (net_of plant node) noted node ≡ Gone
-  gone-noted network node on gone =
-      subst (λ (net : NetPlan). status_at net noted node ≡ Gone) (sym on.on.is)
-      (gone-from plant (map log_of_ring run.rings.items) all.sound
-      (rings-legal plant.nets run.rings.items all.rings) on.on.net node on.on.there on.on.member
-      (ap (λ (l : List RingEntry). status_at on.on.net l node)
-      (noted-is run.rings.items on.on.net.number)
-      ∙ ((λ i. status_at (sym on.on.is i) (station_ring run (on.on.number i)).history node)
-      ∙ gone)))
-
-  away-noted : (network node : ℕ) → NodeOn plant run.rings.items network node
-      → status_at (net_of plant node) (station_ring run network).history node ≡ Away
-      → status_at (net_of plant node) noted node ≡ Away
-  away-noted network node on away =
-      subst (λ (net : NetPlan). status_at net noted node ≡ Away) (sym on.on.is)
-      (away-from plant (map log_of_ring run.rings.items) all.sound
-      (rings-legal plant.nets run.rings.items all.rings) on.on.net node on.on.there on.on.member
-      (ap (λ (l : List RingEntry). status_at on.on.net l node)
-      (noted-is run.rings.items on.on.net.number)
-      ∙ ((λ i. status_at (sym on.on.is i) (station_ring run (on.on.number i)).history node)
-      ∙ away)))
+  -- the ring on which a node stands is that of its own network
+  own-ring-is : (network node : ℕ) → NodeOn plant run.rings.items network node
+      → (station_ring run network).history ≡ own_ring plant rings node
+  own-ring-is network node on =
+      sym (ap (λ (net : NetPlan). entries_on net.number rings) on.on.is
+      ∙ (noted-is run.rings.items on.on.net.number
+      ∙ ap (λ (k : ℕ). (station_ring run k).history) on.on.number))
 
   -- a visit that is not due has nothing to collect
   none-started : (s : ControllerStation) → has_ended s.controller ≡ true
@@ -136,7 +115,7 @@ module _ (law : ControllersComplete) (host_law : HostsComplete) (plant : Plant) 
   complete-at : (k : ℕ) (s : ControllerStation) (is : slice_get run.controllers.items k ≡ Some s)
       → s.left ≡ true → has_ended s.controller ≡ true → IsOffAway (station_ring run s.network) s
       → IsVisited (station_ring run s.network) s
-      → IsCompleteLog plant scans noted (at-place plant scans run k s all is).plan (log_of s)
+      → IsCompleteLog plant scans rings (at-place plant scans run k s all is).plan (log_of s)
   complete-at k s is left ended off visited =
       let p = at-place plant scans run k s all is in
       let st = p.stands in
@@ -169,22 +148,13 @@ module _ (law : ControllersComplete) (host_law : HostsComplete) (plant : Plant) 
       (ap (λ (f : Fixed). has_started_at f known) (sym st.fixed)
       ∙ none-started s ended out' visited)
       ((λ i. is_out_of_ring (is_off_at (sym st.fixed i) known) (sym status i)) ∙ out') in
-      subst (λ (n : ℕ). ControllerIsComplete fixed known
-      × ControllerIsOut (net_of plant n) noted n fixed known
-      × NodeIsComplete (items_of known) (own n noted)) (sym st.node) (
-        each.0,
-        ⊎_elim
-            (λ (gone : status_at home ring.history p.plan.node ≡ Gone).
-            inl (gone-noted s.network p.plan.node p.ring gone))
-            (λ (away : (status_at home ring.history p.plan.node ≡ Away) × StaysOff fixed known).
-            inr (away-noted s.network p.plan.node p.ring away.0, away.1))
-            each.1,
-        subst (NodeIsComplete (items_of known))
-            (sym (own-noted plant scans run all s.network p.plan.node p.ring)) each.2,
-      )
+      subst (λ (n : ℕ). ControllerIsCompleteOn (net_of plant n) (own_ring plant rings n) n fixed
+      known) (sym st.node)
+      (subst (λ (l : List RingEntry). ControllerIsCompleteOn home l p.plan.node fixed known)
+      (own-ring-is s.network p.plan.node p.ring) each)
 
   host-complete-at : (k : ℕ) (s : HostStation) (is : slice_get run.hosts.items k ≡ Some s)
-      → IsCompleteHostLog plant noted (host-at-place plant scans run k s all is).plan
+      → IsCompleteHostLog plant rings (host-at-place plant scans run k s all is).plan
       (host_log_of s)
   host-complete-at k s is =
       let p = host-at-place plant scans run k s all is in
@@ -198,21 +168,18 @@ module _ (law : ControllersComplete) (host_law : HostsComplete) (plant : Plant) 
       let keeps : HostKeepsOn p.plan home known ring.history true =
       subst (HostKeepsOn p.plan home known ring.history) (host-left run here k s is) st.keeps in
       let each = host_law p.plan home known ring.history tied keeps in
-      let own_is = sym (own-noted plant scans run all s.network p.plan.node p.ring) in
-      subst (λ (n : ℕ). HostIsComplete p.plan (host_items_of known) (own n noted)
-      × (status_at (net_of plant n) noted n ≡ Gone)
-      × NodeIsComplete (host_items_of known) (own n noted)) (sym st.node) (
-        subst (HostIsComplete p.plan (host_items_of known)) own_is each.0,
-        gone-noted s.network p.plan.node p.ring each.1,
-        subst (NodeIsComplete (host_items_of known)) own_is each.2,
-      )
+      subst (λ (n : ℕ). HostIsCompleteOn (net_of plant n) (own_ring plant rings n) n p.plan known)
+      (sym st.node)
+      (subst (λ (l : List RingEntry). HostIsCompleteOn home l p.plan.node p.plan known)
+      (own-ring-is s.network p.plan.node p.ring) each)
 
   end-complete-at : (site : BridgeSite) (home side other : ℕ)
       → IsBridgePlan site.station.bridge.plan → NodeOn plant run.rings.items home side
       → side ≡ other
       → StandsEnd side site.station (net_of plant side) (station_ring run home).history
       → end_has_left side site.station ≡ true
-      → EndIsComplete (net_of plant other) noted site.station.bridge.history other
+      → EndIsComplete (net_of plant other) (own_ring plant rings other)
+      site.station.bridge.history other
   end-complete-at site home side other sound on same st left =
       let list = site.station.bridge.history in
       let ring = (station_ring run home).history in
@@ -220,15 +187,12 @@ module _ (law : ControllersComplete) (host_law : HostsComplete) (plant : Plant) 
       let net = net_of plant side in
       let each = end-complete plan net side list ring sound st.ready.ties
       (subst (EndKeepsOn plan net side list ring) left st.keeps) in
-      subst (λ (n : ℕ). EndIsComplete (net_of plant n) noted list n) same (record {
-        finished = each.finished;
-        gone = each.gone;
-        left = gone-noted home side on each.left;
-        quiet = subst LeavesQuietly (sym (own-noted plant scans run all home side on)) each.quiet;
-      })
+      subst (λ (n : ℕ). EndIsComplete (net_of plant n) (own_ring plant rings n) list n) same
+      (subst (λ (l : List RingEntry). EndIsComplete net l list side) (own-ring-is home side on)
+      each)
 
   site-complete-at : (k : ℕ) (s : BridgeSite) (is : slice_get run.bridges.items k ≡ Some s)
-      → IsCompleteBridgeLog plant noted (site-at-place plant scans run k s all is).plan
+      → IsCompleteBridgeLog plant rings (site-at-place plant scans run k s all is).plan
       (log_of_site s)
   site-complete-at k s is =
       let p = site-at-place plant scans run k s all is in
@@ -249,10 +213,10 @@ module _ (law : ControllersComplete) (host_law : HostsComplete) (plant : Plant) 
   pub all-complete : have_ended run ≡ true → AllHave IsOffAway run → AllHave IsVisited run
       → IsComplete plant scans (joint_of run)
   all-complete ended off visited = record {
-    controllers = zip-map-at (IsCompleteLog plant scans noted) log_of plant.controllers
+    controllers = zip-map-at (IsCompleteLog plant scans rings) log_of plant.controllers
         run.controllers.items
         (controllers-each plant scans run all
-        (λ plan s. IsCompleteLog plant scans noted plan (log_of s))
+        (λ plan s. IsCompleteLog plant scans rings plan (log_of s))
         (λ k s is. complete-at k s is (controller-left run here k s is)
         (list-all-at (λ (x : ControllerStation). has_ended x.controller)
         run.controllers.items k s ended is)
@@ -260,11 +224,11 @@ module _ (law : ControllersComplete) (host_law : HostsComplete) (plant : Plant) 
         run.controllers.items k s off is)
         (all-at (λ (x : ControllerStation). IsVisited (station_ring run x.network) x)
         run.controllers.items k s visited is)));
-    hosts = zip-map-at (IsCompleteHostLog plant noted) host_log_of plant.hosts run.hosts.items
+    hosts = zip-map-at (IsCompleteHostLog plant rings) host_log_of plant.hosts run.hosts.items
         (hosts-each plant scans run all
-        (λ plan s. IsCompleteHostLog plant noted plan (host_log_of s)) host-complete-at);
-    bridges = zip-map-at (IsCompleteBridgeLog plant noted) log_of_site plant.bridges
+        (λ plan s. IsCompleteHostLog plant rings plan (host_log_of s)) host-complete-at);
+    bridges = zip-map-at (IsCompleteBridgeLog plant rings) log_of_site plant.bridges
         run.bridges.items
         (sites-each plant scans run all
-        (λ plan s. IsCompleteBridgeLog plant noted plan (log_of_site s)) site-complete-at);
+        (λ plan s. IsCompleteBridgeLog plant rings plan (log_of_site s)) site-complete-at);
   }

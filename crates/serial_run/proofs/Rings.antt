@@ -30,7 +30,6 @@ use Rattle.ring_core.proofs.Stability.{admitted-part}
 use Rattle.mstr_block.specs.declared.call.CallId.{CallId}
 use Rattle.ring_core.specs.Legal.{IsLegalRing, IsRun, IsRingStep}
 use Rattle.ring_core.specs.Kept.{IsSoundRing}
-use Rattle.ring_core.proofs.Keeping.{sourced}
 use Rattle.ring_core.proofs.Sound.{after-sound, opening-sound}
 use Rattle.tied_lists.specs.Own.{own}
 use Rattle.tied_lists.proofs.Turns.{next-ring}
@@ -191,8 +190,7 @@ counted-from net n past (e ∷ es) k sound low run =
     ap (λ (x : RingIs). passes x n) (next-ring net past e) ∙ passes-after net past r n e sound.size
     low run.0 in
     let now : IsSoundRing (k + 1) (ring_after net (past ++ e ∷ [])) =
-    subst (IsSoundRing (k + 1)) (sym (next-ring net past e)) (after-sound net k r e sound
-    (sourced net past e low run.0)) in
+    subst (IsSoundRing (k + 1)) (sym (next-ring net past e)) (after-sound net k r e sound) in
     let more = counted-from net n (past ++ e ∷ []) es (k + 1) now low run.1 in
     let whole : passes (ring_after net (past ++ e ∷ es)) n ≡ passes
     (ring_after net ((past ++ e ∷ []) ++ es)) n =

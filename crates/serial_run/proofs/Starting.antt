@@ -60,7 +60,7 @@ pub start-controller : (plant : Plant) (scans : ℕ) (plan : ControllerPlan) (v 
     plan.node
     → IsLegal (fixed_of plant scans plan) []
     → v ≡ record { fixed = fixed_of plant scans plan; history = []; reserved = false }
-    → w ≡ new_worker plan.node (net_of plant plan.node) true
+    → w ≡ new_worker plan.node true
     → StartsController plant scans plan (record {
       node = plan.node;
       network = plan.network;
@@ -92,9 +92,13 @@ start-controller plant scans plan v w sound member legal v-is w-is =
         budget = refl;
         fixed = refl;
         legal = legal;
-        standing = standing-new plan.node home true
+        standing = standing-new plan.node true
             (record { fixed = fixed_of plant scans plan; place = tt }) [] (own_side home)
-            refl refl tt refl;
+            refl (record {
+              members = low-members home sound;
+              member = member;
+              answer = let from = sound.numbers.answer.from in omega (arith, from);
+            }) tt refl;
         left = nobody-left home sound plan.node member;
         keeps = starts (fixed_of plant scans plan) home plan.node [] refl;
       };

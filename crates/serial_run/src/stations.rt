@@ -80,7 +80,7 @@ fn controller_of(
     let node = plan.node;
     let controller = Controller::new(alloc, plan, scan_time, watchdog, scans)?;
     let _ = controller.history();
-    let worker = CommWorker::new(alloc, node, plant.own_net(node), true)?;
+    let worker = CommWorker::new(alloc, node, true)?;
     Ok(ControllerStation {
         node,
         network: plan.network,

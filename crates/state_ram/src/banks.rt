@@ -9,12 +9,22 @@ use crate::bits::{bit_of, with_bit};
 use plant_types::{Ref, RefKind};
 use std::alloc::{AllocError, Global};
 
-#[derive(Drop)]
 pub(crate) struct Banks {
     pub(crate) coils: Vec<u16>,
     pub(crate) inputs: Vec<u16>,
     pub(crate) input_registers: Vec<u16>,
     pub(crate) registers: Vec<u16>,
+}
+
+impl Drop for Banks {
+    fn drop(self) {
+        let Banks {
+            coils: _,
+            inputs: _,
+            input_registers: _,
+            registers: _,
+        } = self;
+    }
 }
 
 /// As many words as there are, taken from others.

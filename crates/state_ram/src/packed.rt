@@ -13,7 +13,6 @@ use std::marker::Model;
 
 /// A store over 16-bit words: sixteen discretes to a word, the first in the highest bit, and a
 /// register to a word. Only `new` takes memory. This project's own.
-#[derive(Drop)]
 pub struct PackedRam {
     banks: Banks,
 }
@@ -29,6 +28,12 @@ impl Model for PackedRam {
     ghost coded = { coded_contents };
 
     ghost view = { λ a. packed_contents (bank_words a.banks) };
+}
+
+impl Drop for PackedRam {
+    fn drop(self) {
+        let PackedRam { banks: _ } = self;
+    }
 }
 
 impl PackedRam {

@@ -1,7 +1,6 @@
 pub mod Lists
 pub mod AnswerSteps
 pub mod Names
-pub mod Due
 pub mod Founded
 pub mod CallKeys
 pub mod EndSteps

@@ -1,11 +1,10 @@
 -- Requests that are taken, and what is due to them. This project's own.
-use Rattle.std.specs.Prelude.{◌≡◌, ℕ, ◌+◌, Bool, true, false, List, [], ◌∷◌, ◌++◌, Option}
-use Rattle.std.specs.Prelude.{Some, None}
+use Rattle.std.specs.Prelude.{◌≡◌, ℕ, Bool, true, false, List, [], ◌∷◌, ◌++◌, Option}
 use Rattle.std.specs.List.{cons_option}
 use Rattle.ring_core.specs.declared.frame.Frame.{Frame}
 use Rattle.ring_core.specs.declared.entry.RingEntry.{RingEntry}
 use Rattle.tied_lists.specs.Items.{ForStats, Item, Plain, RequestItem, Taken, due_replies}
-use Rattle.tied_lists.specs.Items.{first_reply, plain_items, port_answers, replies_in, rest_of}
+use Rattle.tied_lists.specs.Items.{plain_items, port_answers, replies_in, rest_of}
 use Rattle.tied_lists.specs.Items.{stats_items, taken_by, taken_in, taken_of}
 use Rattle.station_laws.specs.Picked.{picked}
 
@@ -33,19 +32,6 @@ abbrev pub left_stats : List Taken → List (Option (List ℕ)) → List (Option
 left_stats [] locals = locals
 left_stats (Plain id rest pdu ∷ ts) locals = left_stats ts locals
 left_stats (ForStats id pdu ∷ ts) locals = left_stats ts (rest_of locals)
-
--- How many Replies an answer of a station makes due: none where there was no power.
-abbrev pub one_due : Option (Option (List ℕ)) → ℕ
-one_due None = 1
-one_due (Some None) = 0
-one_due (Some (Some reply)) = 1
-
--- How many Replies are due for some requests, where the port answers each of its own.
-abbrev pub due_count : List Taken → List (Option (List ℕ)) → ℕ
-due_count [] answers = 0
-due_count (Plain id rest pdu ∷ ts) answers =
-    one_due (first_reply answers) + due_count ts (rest_of answers)
-due_count (ForStats id pdu ∷ ts) answers = 1 + due_count ts answers
 
 -- What is due to some more of them was added, and their answers were used.
 pub record DueNext (taken : List Taken) (list : List Item) (peers locals : List (Option (List ℕ)))

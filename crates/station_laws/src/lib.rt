@@ -17,6 +17,5 @@ mod stations;
 pub use by_call::ByCall;
 pub use failing::{count_fails, downs};
 pub use law::Law;
-pub use replying::{Replies, answers, host_answers};
 pub use same::{same_frame, same_result, same_words};
 pub use stations::{controller_breaks, host_breaks, side_breaks};

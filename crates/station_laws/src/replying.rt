@@ -76,7 +76,7 @@ pub(crate) fn replied(
 }
 
 /// The replies of answers, in their order: none where a request came without power.
-pub type Replies = VecDeque<Option<Pdu>>;
+pub(crate) type Replies = VecDeque<Option<Pdu>>;
 
 /// One more answer.
 fn push(list: &mut Replies, reply: Option<Pdu>) -> Result<(), AllocError>
@@ -100,7 +100,7 @@ fn add_answer(alloc: Global, list: &mut Replies, entry: &Entry) -> Result<(), Al
 }
 
 /// The replies that a controller gave.
-pub fn answers(alloc: Global, entries: &[Entry]) -> Result<Replies, AllocError>
+pub(crate) fn answers(alloc: Global, entries: &[Entry]) -> Result<Replies, AllocError>
     ensures { IfOk result (λ list. list.items ≡ replies_in (items_of entries.now).answers) }
 {
     let mut list = VecDeque::new(alloc);
@@ -121,7 +121,7 @@ fn add_host_answer(alloc: Global, list: &mut Replies, entry: &HostEntry) -> Resu
 }
 
 /// The replies that a host gave.
-pub fn host_answers(alloc: Global, entries: &[HostEntry]) -> Result<Replies, AllocError>
+pub(crate) fn host_answers(alloc: Global, entries: &[HostEntry]) -> Result<Replies, AllocError>
     ensures { IfOk result
         (λ list. list.items ≡ replies_in (host_items_of entries.now).answers) }
 {

@@ -1,7 +1,6 @@
 -- Workers that stand between two turns stand tied.
 use Rattle.std.proofs.Common.{◌≡◌, ℕ, List, [], ◌++◌, refl, sym, ap, subst, ◌∙◌}
 use Rattle.std.proofs.Common.{Some, None}
-use Rattle.plant_types.specs.declared.net.HostPlan.{HostPlan}
 use Rattle.plant_types.specs.declared.net.NetPlan.{NetPlan}
 use Rattle.ring_core.specs.declared.entry.RingEntry.{RingEntry}
 use Rattle.ring_core.specs.Legal.{IsLegalRing}
@@ -10,7 +9,6 @@ use Rattle.controller_core.specs.declared.fixed.Fixed.{Fixed}
 use Rattle.controller_core.specs.Controller.{EachFits, IsLegal}
 use Rattle.controller_core.specs.Replay.{start}
 use Rattle.controller_core.specs.Scans.{all_due}
-use Rattle.host_port.specs.declared.entry.HostEntry.{HostEntry}
 use Rattle.host_port.specs.Host.{HostIs}
 use Rattle.tied_lists.specs.Items.{AController, AHost, NetCall, no_items}
 use Rattle.tied_lists.specs.Own.{own}
@@ -86,13 +84,3 @@ stands-others fixed net n entries ring more legal none s =
       tied = subst (Tied AController (items_of entries)) (sym same) s.tied;
       waits = λ path f is. s.waits path f (sym (ap (waiting path) same) ∙ is);
     }
-
-pub host-stands-others : (plan : HostPlan) (net : NetPlan) (list : List HostEntry)
-    (ring more : List RingEntry) → IsLegalRing net (ring ++ more)
-    → own plan.node more ≡ [] → HostStandsTied plan net list ring
-    → HostStandsTied plan net list (ring ++ more)
-host-stands-others plan net list ring more legal none s = record {
-  legal = s.legal;
-  on = on-others net plan.node ring more s.on legal none;
-  tied = subst (Tied AHost (host_items_of list)) (sym (own-found plan.node ring more none)) s.tied;
-}

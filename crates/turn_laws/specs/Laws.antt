@@ -18,10 +18,8 @@ use Rattle.comm_port.specs.WholeTurn.{HoldsTurn}
 use Rattle.comm_port.specs.HostTurns.{HoldsHostTurn}
 use Rattle.turn_laws.specs.KeepsOn.{StandsTied, KeepsOn, HostStandsTied, HostKeepsOn}
 use Rattle.turn_laws.specs.KeepsOn.{NoneSpent, is_out_of_ring, leaves_out}
-use Rattle.joint_history.specs.Complete.{ControllerIsComplete, HostIsComplete, NodeIsComplete}
-use Rattle.joint_history.specs.Complete.{ControllerIsOut}
+use Rattle.joint_history.specs.Complete.{ControllerIsCompleteOn, HostIsCompleteOn}
 use Rattle.joint_history.specs.Reading.{is_ours, has_ended_at, has_started_at, is_off_at}
-use Rattle.joint_history.specs.Reading.{host_items_of, items_of}
 use Rattle.tied_lists.specs.Waits.{HasLeft, IsOnRing, has_left, status_at}
 use Rattle.comm_port.specs.Parts.{calls_waiting}
 use Rattle.ring_core.specs.Machine.{addresses, ring_after}
@@ -88,8 +86,7 @@ ControllersComplete =
     → StandsTied fixed net n entries ring → KeepsOn fixed net n entries ring true
     → has_ended_at fixed entries ≡ true → has_started_at fixed entries ≡ false
     → is_out_of_ring (is_off_at fixed entries) (status_at net ring n) ≡ true
-    → ControllerIsComplete fixed entries × ControllerIsOut net ring n fixed entries
-    × NodeIsComplete (items_of entries) (own n ring)
+    → ControllerIsCompleteOn net ring n fixed entries
 
 -- A host that has no entry yet has all that turns keep; a hold of the token keeps it, and so do
 -- entries of other nodes.
@@ -118,9 +115,7 @@ abbrev pub HostsComplete : Type 0
 HostsComplete =
     (plan : HostPlan) (net : NetPlan) (list : List HostEntry) (ring : List RingEntry)
     → HostStandsTied plan net list ring → HostKeepsOn plan net list ring true
-    → HostIsComplete plan (host_items_of list) (own plan.node ring)
-    × (status_at net ring plan.node ≡ Gone)
-    × NodeIsComplete (host_items_of list) (own plan.node ring)
+    → HostIsCompleteOn net ring plan.node plan list
 
 -- Where a turn that ended so leaves its node: as it came back it asks to come in, or is in already.
 abbrev pub StandsAs : TurnEnd → NodeStatus → Type 0

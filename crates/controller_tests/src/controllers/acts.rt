@@ -24,6 +24,8 @@ pub enum Act {
     Silent(&'static [u8]),
     /// How often power failed, and whether there is none.
     Power(u32, bool),
+    /// When the scan before began and when this one did, in ticks.
+    Clock(u64, u64),
     /// Has this number at a reference.
     Has(Ref, u16),
     /// Hands on a read of two registers of node 5, and no other call.
@@ -88,6 +90,11 @@ fn has(controller: &Controller, at: Ref, value: u16) -> bool {
     controller.get(at) == value
 }
 
+fn has_clock(controller: &Controller, before: u64, now: u64) -> bool {
+    let clock = controller.state().clock;
+    clock.before == before && clock.now == now
+}
+
 /// Whether these calls are the read alone.
 fn is_read(calls: &[Call]) -> bool {
     match calls {
@@ -142,6 +149,7 @@ fn goes(alloc: Global, controller: &mut Controller, act: &Act) -> Result<bool, F
         Act::Power(failures, off) => {
             Ok(controller.failures() == *failures && controller.is_off() == *off)
         }
+        Act::Clock(before, now) => Ok(has_clock(controller, *before, *now)),
         Act::Has(at, value) => Ok(has(controller, *at, *value)),
         Act::Collect => Ok(collects(controller)?),
         Act::Finish(words) => Ok(finishes(controller, words)?),

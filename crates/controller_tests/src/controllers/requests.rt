@@ -90,7 +90,11 @@ fn a_history_has_each_event(rt: HostRuntime) -> Result<(), Fail> {
     assert!(rt;
         matches!(
             left.history.as_slice(),
-            [Entry::Begin, Entry::Peer { id: ASKER, .. }, Entry::End]
+            [
+                Entry::Begin { .. },
+                Entry::Peer { id: ASKER, .. },
+                Entry::End { .. }
+            ]
         )
     );
     Ok(())

@@ -1,4 +1,5 @@
-use Rattle.std.proofs.Common.{◌≤◌}
+use Rattle.std.proofs.Common.{◌≡◌, ◌≤◌, ◌+◌}
+use Rattle.mstr_block.specs.Table.{network_paths}
 use Rattle.bridge_relay.specs.Laws.{is_by}
 use Rattle.tied_lists.specs.Waits.{HasLeft}
 use Rattle.comm_port.specs.Giving.{GivesWhere, chosen_below, due_calls}
@@ -12,6 +13,7 @@ use Rattle.bridge_port.proofs.giving.give_up_where.Given as goal
 
 abbrev pub invariant-loop-path : goal.invariant-loop-path
 invariant-loop-path g l = record {
+  paths : l.path-items ≡ network_paths;
   turning : EndTurning l.side (g.B.BridgeSide.bridge l.bridge) (g.B.BridgeSide.known l.bridge)
       (g.R.RingSide.side l.ring) (g.R.RingSide.known l.ring);
   kept : KeepsInbox (g.R.RingSide.side l.initial.ring).net l.side
@@ -24,10 +26,11 @@ invariant-loop-path g l = record {
   given : PartOf g.B.BridgeSide.alone g.R.RingSide.alone (is_by l.side) l.side
       (InOrder (EndGivesUp l.side) (due_calls (g.R.RingSide.side
       l.initial.ring).net l.side (g.R.RingSide.known l.initial.ring)
-      (chosen_below l.chosen l.path))) (g.B.BridgeSide.known
+      (chosen_below l.chosen (l.path-index + 1)))) (g.B.BridgeSide.known
       l.initial.bridge) (g.B.BridgeSide.known l.bridge) (g.R.RingSide.known l.initial.ring)
       (g.R.RingSide.known l.ring);
-  part : GivesWhere (g.R.RingSide.side l.initial.ring).net l.side l.chosen l.path
+  part : GivesWhere (g.R.RingSide.side l.initial.ring).net l.side l.chosen
+      (l.path-index + 1)
       (g.R.RingSide.known l.initial.ring) (g.R.RingSide.known l.ring);
   step : EndStep g.B.BridgeSide g.R.RingSide l.side l.initial.bridge l.bridge l.initial.ring l.ring;
 }

@@ -42,3 +42,11 @@ returns-in-Err-clause-step g c =
       station = ram-asked g.M.RamSide q.same q.legal q.went;
       node = ring-called g.R.RingSide c.args.node e.same e.legal e.went refl;
     }
+
+pub returns-in-Err-clause-short : goal.returns-in-Err-clause-short
+returns-in-Err-clause-short g c =
+    let e = c.in-Err.ensures in
+    record {
+      station = c.is_off.ensures.went;
+      node = record { list = e.went.list; kept = e.went.kept };
+    }

@@ -1,10 +1,10 @@
 use Rattle.std.proofs.Common.{List, [], ◌+◌, ◌<◌, length, take, drop, refl, sym, ap, subst, ◌∙◌}
 use Rattle.std.proofs.Common.{arith}
 use Rattle.list_courses.specs.Completing.{EachAllows, NodeAllows, NodeFits, progress_next}
+use Rattle.list_courses.specs.Completing.{left_given}
 use Rattle.list_courses.specs.Completing.{progress_of}
 use Rattle.list_courses.specs.declared.completing.Progress.{Progress}
 use Rattle.station_laws.specs.Picked.{picked}
-use Rattle.station_laws.specs.Taking.{left_plain}
 use Rattle.tied_lists.specs.Items.{taken_by, taken_of}
 use Rattle.std.specs.List.{cons_option}
 use Rattle.ring_core.specs.declared.entry.RingEntry.{RingEntry}
@@ -16,9 +16,9 @@ use Rattle.list_courses.proofs.completing.all_fit.Goals as goal
 pub loop-place-init : goal.loop-place-init
 loop-place-init c =
     record {
-      progress_is = c.no_progress-progress.ensures c.args.answers.items;
+      progress_is = c.no_progress-progress.ensures c.args.given.items;
       left_is = refl;
-      each = each-none (NodeAllows c.args.answers.items);
+      each = each-none (NodeAllows c.args.given.items);
     }
 
 pub returns-then-not-fits : goal.returns-then-not-fits
@@ -38,7 +38,7 @@ returns-then-not-fits c =
 pub next-progress-requires : goal.next-progress-requires
 next-progress-requires c =
     let low : c.loop-place.place-index < length c.args.places.now = omega arith in
-    progress-short c.args.answers.items c.args.ring.now c.args.places.now
+    progress-short c.args.given.items c.args.ring.now c.args.places.now
     c.loop-place.place-index c.loop-place.progress c.loop-place.invariant.progress_is (omega arith)
 
 pub loop-place-preserved : goal.loop-place-preserved
@@ -54,13 +54,13 @@ loop-place-preserved c =
       progress_is = c.next-progress.ensures.next
           ∙ ((λ i. progress_next (c.loop-place.invariant.left_is i)
           (c.loop-place.invariant.progress_is i) e)
-          ∙ (sym (progress-push c.args.answers.items front e)
-          ∙ ap (progress_of c.args.answers.items) (sym push)));
+          ∙ (sym (progress-push c.args.given.items front e)
+          ∙ ap (progress_of c.args.given.items) (sym push)));
       left_is = c.next-progress.ensures.left
-          ∙ (ap (left_plain (cons_option (taken_of e) [])) c.loop-place.invariant.left_is
-          ∙ (sym (left-push c.args.answers.items front e)
-          ∙ ap (λ (b : List RingEntry). left_plain (taken_by b) c.args.answers.items) (sym push)));
+          ∙ (ap (left_given (cons_option (taken_of e) [])) c.loop-place.invariant.left_is
+          ∙ (sym (left-push c.args.given.items front e)
+          ∙ ap (λ (b : List RingEntry). left_given (taken_by b) c.args.given.items) (sym push)));
       each =
-          subst (EachAllows (NodeAllows c.args.answers.items)) (sym push)
-          (each-push (NodeAllows c.args.answers.items) front e c.loop-place.invariant.each here);
+          subst (EachAllows (NodeAllows c.args.given.items)) (sym push)
+          (each-push (NodeAllows c.args.given.items) front e c.loop-place.invariant.each here);
     }

@@ -1,18 +1,18 @@
 use Rattle.std.proofs.Common.{◌≡◌, take}
 use Rattle.list_courses.specs.Completing.{EachAllows, NodeAllows, progress_of}
+use Rattle.list_courses.specs.Completing.{left_given}
 use Rattle.station_laws.specs.Picked.{picked}
-use Rattle.station_laws.specs.Taking.{left_plain}
 use Rattle.tied_lists.specs.Items.{taken_by}
 use Rattle.list_courses.proofs.completing.all_fit.Given as goal
 
 abbrev pub invariant-loop-place : goal.invariant-loop-place
 invariant-loop-place l =
     record {
-      progress_is : l.progress ≡ progress_of l.initial.answers.items
+      progress_is : l.progress ≡ progress_of l.initial.given.items
           (picked l.ring (take l.place-index l.places));
-      left_is : l.answers.items
-          ≡ left_plain (taken_by (picked l.ring (take l.place-index l.places)))
-          l.initial.answers.items;
-      each : EachAllows (NodeAllows l.initial.answers.items)
+      left_is : l.given.items
+          ≡ left_given (taken_by (picked l.ring (take l.place-index l.places)))
+          l.initial.given.items;
+      each : EachAllows (NodeAllows l.initial.given.items)
           (picked l.ring (take l.place-index l.places));
     }

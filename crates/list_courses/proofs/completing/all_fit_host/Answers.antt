@@ -1,10 +1,10 @@
 use Rattle.std.proofs.Common.{List, [], ◌+◌, ◌<◌, length, take, drop, refl, sym, ap, subst, ◌∙◌}
 use Rattle.std.proofs.Common.{arith}
 use Rattle.list_courses.specs.Completing.{EachAllows, HostAllows, HostFits, progress_next}
+use Rattle.list_courses.specs.Completing.{left_given}
 use Rattle.list_courses.specs.Completing.{progress_of}
 use Rattle.list_courses.specs.declared.completing.Progress.{Progress}
 use Rattle.station_laws.specs.Picked.{picked}
-use Rattle.station_laws.specs.Taking.{left_plain}
 use Rattle.tied_lists.specs.Items.{taken_by, taken_of}
 use Rattle.std.specs.List.{cons_option}
 use Rattle.ring_core.specs.declared.entry.RingEntry.{RingEntry}
@@ -17,7 +17,7 @@ pub loop-place-init : goal.loop-place-init
 loop-place-init c =
     record {
       progress_is = c.no_progress-progress.ensures [];
-      left_is = c.new-answers.ensures.items;
+      left_is = c.new-given.ensures.items;
       each = each-none (HostAllows c.args.plan.now);
     }
 
@@ -62,9 +62,9 @@ loop-place-preserved c =
           (c.loop-place.invariant.progress_is i) e)
           ∙ (sym (progress-push [] front e) ∙ ap (progress_of []) (sym push)));
       left_is = c.next-progress.ensures.left
-          ∙ (ap (left_plain (cons_option (taken_of e) [])) c.loop-place.invariant.left_is
+          ∙ (ap (left_given (cons_option (taken_of e) [])) c.loop-place.invariant.left_is
           ∙ (sym (left-push [] front e)
-          ∙ ap (λ (b : List RingEntry). left_plain (taken_by b) []) (sym push)));
+          ∙ ap (λ (b : List RingEntry). left_given (taken_by b) []) (sym push)));
       each =
           subst (EachAllows (HostAllows c.args.plan.now)) (sym push)
           (each-push (HostAllows c.args.plan.now) front e c.loop-place.invariant.each here);

@@ -2,7 +2,7 @@ use Rattle.std.proofs.Common.{◌+◌, ◌<◌, List, length, take, drop, refl, 
 use Rattle.std.proofs.Common.{arith}
 use Rattle.std.proofs.lemmas.List.{take_all}
 use Rattle.list_courses.specs.Completing.{EachAllows}
-use Rattle.list_courses.specs.Leaving.{LeaveAllows, MayLeave, row_next, done_row}
+use Rattle.list_courses.specs.Leaving.{LeaveAllows, MayFollow, row_next, done_row}
 use Rattle.station_laws.specs.Picked.{picked}
 use Rattle.list_courses.specs.declared.leaving.Row.{Row}
 use Rattle.list_courses.proofs.Fitting.{each-none, each-push}
@@ -13,8 +13,8 @@ use Rattle.list_courses.proofs.leaving.leaves_quietly.Goals as goal
 pub loop-place-init : goal.loop-place-init
 loop-place-init c = record { row_is = refl; each = each-none LeaveAllows }
 
-pub returns-then-not-may_leave : goal.returns-then-not-may_leave
-returns-then-not-may_leave c =
+pub returns-then-not-may_follow : goal.returns-then-not-may_follow
+returns-then-not-may_follow c =
     let low : c.loop-place.place-index < length c.args.places.now = omega arith in
     let e = c.index-ring-place.result in
     let front = picked c.args.ring.now (take c.loop-place.place-index c.args.places.now) in
@@ -22,8 +22,8 @@ returns-then-not-may_leave c =
     let around = picked-around c.args.ring.now c.args.places.now c.loop-place.place-index e
     c.requires low c.index-ring-place.is in (
       λ no'. not-true no',
-      λ quietly. c.if-not-may_leave.ensures.1
-          (subst (λ (row : Row). MayLeave row e) (sym c.loop-place.invariant.row_is)
+      λ quietly. c.if-not-may_follow.ensures.1
+          (subst (λ (row : Row). MayFollow row e) (sym c.loop-place.invariant.row_is)
           (by-quietly (picked c.args.ring.now c.args.places.now) quietly front rest e around)),
     )
 
@@ -34,8 +34,8 @@ loop-place-preserved c =
     let front = picked c.args.ring.now (take c.loop-place.place-index c.args.places.now) in
     let push = picked-push c.args.ring.now c.args.places.now c.loop-place.place-index e c.requires
     low c.index-ring-place.is in
-    let here = subst (λ (row : Row). MayLeave row e) c.loop-place.invariant.row_is
-    (c.if-not-may_leave.ensures.0 refl) in
+    let here = subst (λ (row : Row). MayFollow row e) c.loop-place.invariant.row_is
+    (c.if-not-may_follow.ensures.0 refl) in
     record {
       row_is = c.row_next-row.ensures
           ∙ (ap (λ (row : Row). row_next row e) c.loop-place.invariant.row_is

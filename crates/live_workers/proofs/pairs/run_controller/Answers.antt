@@ -1,7 +1,5 @@
 use Rattle.std.proofs.Common.{◌≡◌, false, All, sym, ap, subst, ◌∙◌, refl}
 use Rattle.turn_gate.specs.Known.{Owns, StartsWith}
-use Rattle.plant_types.specs.declared.net.NetPlan.{NetPlan}
-use Rattle.comm_port.specs.Worker.{new_worker}
 use Rattle.controller_core.specs.Controller.{ControllerIs, IsLegal}
 use Rattle.controller_core.specs.Notes.{notes_of}
 use Rattle.joint_history.specs.JointLaws.{fixed_of}
@@ -21,8 +19,7 @@ through_gate-zero-requires-clause-talks g c κs within =
     (ap (λ f. f.plan.node) c.in_ok-gate.ensures.fixed
     ∙ ap (λ (v : ControllerIs). v.fixed.plan.node) made)
     (c.in_ok-gate.ensures.opening ∙ ap (λ (v : ControllerIs). v.history) made)
-    c.requires.unused (c.in_ok-worker.ensures
-    ∙ ap (λ (m : NetPlan). new_worker c.args.plan.now.node m false) c.own_net-net.ensures)
+    c.requires.unused c.in_ok-worker.ensures
 
 pub returns-clause-ended : goal.returns-clause-ended
 returns-clause-ended g c =

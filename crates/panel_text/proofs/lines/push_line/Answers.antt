@@ -1,9 +1,9 @@
 use Rattle.std.proofs.Common.{◌≡◌, ◌+◌, ◌*◌, ◌++◌, ◌∙◌, ℕ, List, ap, append-nil, arith, drop}
 use Rattle.std.proofs.Common.{length}
 use Rattle.std.proofs.Common.{sym, string_bytes}
-use Rattle.std.proofs.lemmas.List.{length-map}
-use Rattle.controller_core.specs.NotedLines.{gone_line}
-use Rattle.panel_text.specs.declared.lines.Reading.{Reading}
+use Rattle.plant_types.specs.declared.reference.Ref.{Ref}
+use Rattle.scan_order.specs.Power.{ends_off}
+use Rattle.panel_line.proofs.LineLemmas.{gone_by}
 use Rattle.panel_text.proofs.LineLemmas.{line_gone, line_stopped, no_line, on_ok}
 use Rattle.panel_text.proofs.lines.push_line.Goals as goal
 
@@ -14,15 +14,16 @@ returns-then-scan-gone c =
     let readings = c.args.readings.now in
     let scan = c.args.scan in
     let old = string_bytes c.args.text.now in
-    let width : length readings ≡ length plan.panel =
-    sym (length-map readings (λ (r : Reading). r.at)) ∙ ap length c.requires in
     let values : c.values_from-values.result.now ≡ drop (scan * length plan.panel) notes.values =
     c.values_from-values.ensures
     ∙ ap (λ (all : List ℕ). drop (scan * length readings) all) c.as_slice.ensures
-    ∙ ap (λ n. drop (scan * n) notes.values) width in
+    ∙ ap (λ (panel : List Ref). drop (scan * length panel) notes.values) c.requires in
+    let power = c.ends_off-is_off.ensures ∙ ap ends_off c.power_in.ensures in
+    let line = gone_by plan (scan + 1) c.ends_off-is_off.result readings
+    c.values_from-values.result.now (drop (scan * length plan.panel) notes.values) power c.requires
+    values in
     on_ok c.push_gone.result
-    (λ added. added ∙ ap (λ line. old ++ line)
-    (ap (gone_line plan (scan + 1)) values ∙ sym (line_gone plan notes scan (omega arith))))
+    (λ added. added ∙ ap (λ line. old ++ line) (line ∙ sym (line_gone plan notes scan (omega arith))))
     c.push_gone.ensures
 
 pub returns-then-scan-lines : goal.returns-then-scan-lines

@@ -3,5 +3,5 @@ use Rattle.panel_text.proofs.panel.panels_of.Given as goal
 
 abbrev pub invariant-loop-plan : goal.invariant-loop-plan
 invariant-loop-plan l =
-    map (λ panel. map (λ reading. reading.at) panel.items) l.panels.items
+    map (λ panel. panel.items) l.panels.items
     ≡ map (λ plan. plan.panel) (take l.plan-index l.plans)

@@ -1,5 +1,4 @@
-use Rattle.std.proofs.Common.{◌++◌, ◌∙◌, List, ap, map, arith, string_bytes}
-use Rattle.panel_text.specs.declared.lines.Reading.{Reading}
+use Rattle.std.proofs.Common.{◌++◌, ◌∙◌, arith, string_bytes}
 use Rattle.panel_text.specs.Scans.{runs_noted, scan_lines}
 use Rattle.panel_text.proofs.ScanLemmas.{controller_step, maps_long, maps_meet}
 use Rattle.panel_text.proofs.scans.push_scan.Goals as goal
@@ -12,8 +11,7 @@ bounds-panels-at c =
 pub push_line-requires : goal.push_line-requires
 push_line-requires c =
     let long = maps_long _ _ c.args.panels.now c.args.plans.now c.requires.panels in
-    let at = λ (readings : List Reading). map (λ (reading : Reading). reading.at) readings in
-    ap at c.as_slice.ensures.value
+    c.as_slice.ensures.value
     ∙ maps_meet _ _ c.args.panels.now c.args.plans.now c.loop-at.at c.index-panels-at.result
     c.index-plans-at.result c.requires.panels (omega (arith, long)) (omega arith)
     c.index-panels-at.is c.index-plans-at.is

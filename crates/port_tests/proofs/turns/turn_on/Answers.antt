@@ -6,14 +6,10 @@ use Rattle.ring_core.specs.declared.entry.RingEntry.{RingEntry}
 use Rattle.std.proofs.Common.{replicate, None, false}
 use Rattle.tied_lists.specs.Waits.{Holds}
 use Rattle.comm_port.specs.Sides.{RamSideIs, RingSideIs}
-use Rattle.ring_core.specs.Machine.{path_places}
-use Rattle.comm_port.specs.Worker.{WorkerIs, Standing}
+use Rattle.comm_port.specs.Worker.{IsMemberWorker, Standing, WorkerIs, new_worker}
 use Rattle.comm_port.proofs.Onward.{none-bridges}
 use Rattle.comm_port.proofs.Standings.{standing-new, first-here}
 use Rattle.port_tests.proofs.turns.turn_on.Goals as goal
-
-pub new-requires-clause-member : goal.new-requires-clause-member
-new-requires-clause-member c = rw c.requires.first.is (0, omega arith, refl)
 
 pub hold_turn-requires-clause-standing : goal.hold_turn-requires-clause-standing
 hold_turn-requires-clause-standing c =
@@ -23,17 +19,13 @@ hold_turn-requires-clause-standing c =
     let known = c.args.controller.now.history in
     subst (λ (w : WorkerIs). Standing w ram known side c.args.ring.now.history)
     (sym c.in_ok-worker.ensures)
-    (subst (λ (r : List RingEntry). Standing
-    (record {
-      node = 2;
-      net = c.args.net.now;
-      budget = true;
-      noticed = 0;
-      waiting = replicate path_places None;
-    })
-    ram known side r) (sym c.requires.empty)
-    (standing-new 2 c.args.net.now true ram known side c.requires.node c.requires.ring tt
-    c.requires.events))
+    (subst (λ (r : List RingEntry). Standing (new_worker 2 true) ram known side r)
+    (sym c.requires.empty) (standing-new 2 true ram known side c.requires.node
+    (subst (λ (m : NetPlan). IsMemberWorker m 2) (sym c.requires.ring) (record {
+      members = c.requires.members;
+      member = rw c.requires.first.is (0, omega arith, refl);
+      answer = rw c.requires.answer (omega arith);
+    })) tt c.requires.events))
 
 pub hold_turn-requires-clause-no_bridge : goal.hold_turn-requires-clause-no_bridge
 hold_turn-requires-clause-no_bridge c = none-bridges c.args.ring.now.net _

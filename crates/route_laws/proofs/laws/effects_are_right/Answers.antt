@@ -7,5 +7,6 @@ returns c plant scans joint is legal tied = record {
   success = c.success_is_one_effect_on_way.ensures plant scans joint is legal tied;
   at_end = c.effects_are_at_their_end.ensures plant scans joint is legal tied;
   replies = c.finishes_have_results.ensures plant scans joint is legal tied;
-  host_replies = c.hosts_get_their_replies.ensures plant scans joint is legal tied;
+  own = c.effects_are_own.ensures plant scans joint is legal tied;
+  without_power = c.offs_have_no_effect.ensures plant scans joint is legal tied;
 }

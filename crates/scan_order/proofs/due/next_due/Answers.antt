@@ -1,21 +1,23 @@
-use Rattle.std.proofs.Common.{sym, subst, ◌∙◌}
-use Rattle.scan_order.specs.declared.due.ScanPlace.{ScanPlace}
-use Rattle.scan_order.specs.Due.{IsPlace}
-use Rattle.scan_order.proofs.Powers.{due-off, due-on, ends-off}
+use Rattle.std.proofs.Common.{sym, ◌∙◌}
+use Rattle.scan_order.specs.declared.power.ScanPower.TheVariants as powers
+use Rattle.scan_order.proofs.Powers.{dark-next, fails-next, failure-next, next-in}
 use Rattle.scan_order.proofs.due.next_due.Goals as goal
 
-pub returns-in-Some-clause-next : goal.returns-in-Some-clause-next
-returns-in-Some-clause-next c =
-    due-off c.args.plan.now c.args.scan c.args.at c.in-Some.step c.power_in.result
-    c.power_in.ensures (sym c.last_off.ensures ∙ c.in-Some.is)
+pub returns-in-Dark-clause-next : goal.returns-in-Dark-clause-next
+returns-in-Dark-clause-next c =
+    next-in c.args.plan.now c.args.scan powers.Dark c.args.at _
+    (sym c.in-Dark.is ∙ c.power_in.ensures) (dark-next c.args.plan.now c.args.at)
 
-pub returns-in-Some-clause-step : goal.returns-in-Some-clause-step
-returns-in-Some-clause-step c =
-    let ends = ends-off c.power_in.result c.args.at c.in-Some.step
-    (sym c.last_off.ensures ∙ c.in-Some.is) in
-    subst (λ (at : ScanPlace). IsPlace c.args.plan.now at) (sym ends.place) tt
+pub returns-in-Fails-clause-next : goal.returns-in-Fails-clause-next
+returns-in-Fails-clause-next c =
+    next-in c.args.plan.now c.args.scan (powers.Fails c.in-Fails.row) c.args.at _
+    (sym c.in-Fails.is ∙ c.power_in.ensures)
+    (failure-next c.args.plan.now c.in-Fails.row c.args.at
+    (sym c.is_failing.ensures ∙ c.if-is_failing.true))
 
-pub returns-in-None-clause-next : goal.returns-in-None-clause-next
-returns-in-None-clause-next c =
-    due-on c.args.plan.now c.args.scan c.args.at c.full_next.result c.power_in.result
-    c.power_in.ensures (sym c.last_off.ensures ∙ c.in-None.is) c.full_next.ensures.next
+pub returns-in-Fails-2-clause-next : goal.returns-in-Fails-2-clause-next
+returns-in-Fails-2-clause-next c =
+    next-in c.args.plan.now c.args.scan (powers.Fails c.in-Fails.row) c.args.at _
+    (sym c.in-Fails.is ∙ c.power_in.ensures)
+    (fails-next c.args.plan.now c.in-Fails.row c.args.at _
+    (sym c.is_failing.ensures ∙ c.if-is_failing.false) c.full_next-in-Fails-2.ensures.next)

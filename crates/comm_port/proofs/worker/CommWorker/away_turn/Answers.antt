@@ -12,7 +12,7 @@ returns-clause-standing g c =
     (ram.known c.come_back.new.ram) (ring.side c.come_back.new.ring)
     (ring.known c.come_back.new.ring)) c.self.view_is
     (standing-back ram.alone ring.alone c.in-Ok.joined _ _ _ _ _ _ _ _ _ b.step.station.same
-    b.step.node.same b.step.node.stands.legal c.self.invariant b.came
+    b.step.node.same b.step.node.stands.legal b.came
     (subst (λ (w : WorkerIs). Standing w (ram.side c.args.ram.now) (ram.known c.args.ram.now)
     (ring.side c.args.ring.now) (ring.known c.args.ring.now)) (sym c.self.view_is)
     c.requires.standing))

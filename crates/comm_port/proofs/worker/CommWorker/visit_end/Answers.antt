@@ -12,7 +12,6 @@ returns-clause-standing g c =
     let w = c.self.inside in
     let worker : WorkerIs = record {
       node = w.node;
-      net = w.net;
       budget = w.budget;
       noticed = w.noticed;
       waiting = w.waiting;

@@ -1,8 +1,9 @@
-use Rattle.std.proofs.Common.{◌≡◌, ◌+◌, rules, length, ◌++◌, ◌∷◌, [], ap, ◌∙◌, arith}
+use Rattle.std.proofs.Common.{◌≡◌, rules, length, ◌++◌, ◌∷◌, [], ap, ◌∙◌, arith}
 use Rattle.std.proofs.lemmas.Grind.{common_steps}
 use Rattle.controller_core.specs.declared.fixed.Fixed.{Fixed}
 use Rattle.controller_core.specs.declared.entry.Entry.TheVariants as entries
 use Rattle.mstr_block.specs.Table.{BlockTable, is_taken_out}
+use Rattle.controller_core.specs.Event.{scan_steps}
 use Rattle.controller_core.proofs.Keeping.{bank_is, finish_told, kept_with, went_on_told}
 use Rattle.controller_core.proofs.Lengths.{fits_room}
 use Rattle.controller_core.proofs.NoteLemmas.{noted_told}
@@ -32,7 +33,8 @@ invariant_of-self-2 c =
       kept = new;
       room = λ is.
           let most = c.in_ok-try_reserve.ensures.ok in
-          let fits = fits_room n.fixed.plan (n.gone + 1) i.at new.place in
+          let fits = fits_room n.fixed (scan_steps c.note.new.history.items) n.gone i.at
+          new.steps in
           let plan = ap (λ (f : Fixed). length f.plan.orders) tells.fixed in
           grind (arith, common_steps, fits, plan, most);
       noted = noted_told i.machine.fixed c.finish.new.self.fixed i.history.items

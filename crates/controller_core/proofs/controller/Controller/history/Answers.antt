@@ -1,8 +1,7 @@
 use Rattle.std.proofs.Common.{subst}
 use Rattle.controller_core.specs.Controller.{ControllerIs, IsLegal}
-use Rattle.controller_core.proofs.Keeping.{legal_of}
 use Rattle.controller_core.proofs.controller.Controller.history.Goals as goal
 
 pub returns-clause-legal : goal.returns-clause-legal
 returns-clause-legal c = subst (λ (v : ControllerIs). IsLegal v.fixed v.history) c.self.view_is
-    (legal_of _ _ _ _ c.self.invariant.kept)
+    c.self.invariant.kept.legal

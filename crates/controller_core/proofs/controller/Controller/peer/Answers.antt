@@ -1,4 +1,4 @@
-use Rattle.std.proofs.Common.{◌≡◌, ◌+◌, rules, length, ◌++◌, ◌∷◌, [], Some, None, refl, sym, ap}
+use Rattle.std.proofs.Common.{◌≡◌, rules, length, ◌++◌, ◌∷◌, [], Some, None, refl, sym, ap}
 use Rattle.std.proofs.Common.{subst, ◌∙◌, arith}
 use Rattle.std.specs.Prelude.{IsSome, if◌then◌else◌}
 use Rattle.std.proofs.lemmas.Grind.{common_steps}
@@ -6,10 +6,10 @@ use Rattle.controller_core.specs.declared.fixed.Fixed.{Fixed}
 use Rattle.controller_core.specs.declared.entry.Entry.{Entry}
 use Rattle.modbus_exec.specs.Answer.{answer_of}
 use Rattle.controller_core.specs.Controller.{ControllerIs, IsLegal, store_of}
-use Rattle.controller_core.specs.Event.{peer_entry, reply_in}
+use Rattle.controller_core.specs.Event.{peer_entry, reply_in, scan_steps}
 use Rattle.controller_core.specs.Machine.{state_is, Tells}
 use Rattle.controller_core.specs.Replay.{ControllerState}
-use Rattle.controller_core.proofs.Keeping.{kept_with, legal_of, state_as, view_more, went_on_told}
+use Rattle.controller_core.proofs.Keeping.{kept_with, state_as, view_more, went_on_told}
 use Rattle.controller_core.proofs.Lengths.{fits_room}
 use Rattle.controller_core.proofs.NextEntry.{peer_entry-told, peer_fits}
 use Rattle.controller_core.proofs.NoteLemmas.{noted_told}
@@ -40,7 +40,8 @@ invariant_of-self-2 c =
       kept = new;
       room = λ is.
           let most = c.in_ok-try_reserve.ensures.ok in
-          let room = fits_room n.fixed.plan (n.gone + 1) i.at new.place in
+          let room = fits_room n.fixed (scan_steps c.note.new.history.items) n.gone i.at
+          new.steps in
           let plan = ap (λ (f : Fixed). length f.plan.orders) tells.fixed in
           grind (arith, common_steps, room, plan, most);
       noted = noted_told i.machine.fixed n.fixed i.history.items c.note.new.history.items e
@@ -76,7 +77,7 @@ returns-clause-power c = λ keeps.
     let v = c.args.self.now in
     let request = c.args.request.now in
     let legal = subst (λ (u : ControllerIs). IsLegal u.fixed u.history) c.self.view_is
-    (legal_of i.machine.fixed i.machine i.history.items i.at c.self.invariant.kept) in
+    c.self.invariant.kept.legal in
     let on = (kept_power c.kept_power_stays.ensures v.fixed v.history keeps legal).powered in
     let state = state_as i.machine.fixed i.machine i.history.items i.at i.reserved v
     c.self.view_is c.self.invariant.kept in

@@ -1,18 +1,18 @@
-use Rattle.std.proofs.Common.{◌≡◌, ◌+◌, rules, true, ◌&&◌, ◌++◌, ◌∷◌, [], length, sym, ap, ◌∙◌}
+use Rattle.std.proofs.Common.{◌≡◌, rules, true, ◌&&◌, ◌++◌, ◌∷◌, [], List, length, sym, ap, ◌∙◌}
 use Rattle.std.proofs.Common.{arith}
 use Rattle.std.specs.Prelude.{not}
 use Rattle.std.proofs.lemmas.Grind.{common_steps}
-use Rattle.scan_order.specs.declared.due.ScanPlace.{ScanPlace}
-use Rattle.scan_order.specs.Due.{due_after}
+use Rattle.scan_order.specs.declared.due.ScanStep.{ScanStep}
 use Rattle.controller_core.specs.declared.fixed.Fixed.{Fixed}
 use Rattle.controller_core.specs.declared.entry.Entry.{Entry}
-use Rattle.controller_core.specs.Event.{entry_of}
+use Rattle.controller_core.specs.Event.{entry_of, scan_steps}
 use Rattle.controller_core.specs.Machine.{state_is}
 use Rattle.controller_core.specs.Replay.{ControllerState}
-use Rattle.controller_core.specs.Scans.{closes_scan, gone_after}
+use Rattle.controller_core.specs.Scans.{closes_scan, gone_after, left_in_scan}
 use Rattle.controller_core.specs.Controller.{ControllerIs}
-use Rattle.controller_core.proofs.Keeping.{can_solve, gone_made, kept_made, not_done, room_step}
-use Rattle.controller_core.proofs.Keeping.{timely_enough, went_on_step}
+use Rattle.controller_core.proofs.Keeping.{can_solve, gone_made, kept_made, room_step}
+use Rattle.controller_core.proofs.Keeping.{scan_steps-more, timely_enough, went_on_step}
+use Rattle.controller_core.proofs.Places.{left-long, not_done}
 use Rattle.controller_core.proofs.Stepping.{step_made, step_none}
 use Rattle.controller_core.proofs.NoteLemmas.{noted_step}
 use Rattle.controller_core.proofs.controller.Controller.step.Goals as goal
@@ -83,7 +83,8 @@ note-requires c =
     let has : i.reserved ≡ true = ap (λ (v : ControllerIs). v.reserved) c.self.view_is
     ∙ c.requires got.2 in
     let room = c.self.invariant.room has in
-    let some = ap length c.next_due-step.ensures.next in
+    let some = left-long i.machine.fixed (scan_steps i.history.items) i.machine.gone i.at kept.steps
+    in
     grind (arith, common_steps, room, some)
 
 pub returns-then-is_done-clause-grows : goal.returns-then-is_done-clause-grows
@@ -148,18 +149,23 @@ invariant_of-self c =
           new.state c.keeps_room-reserved.ensures
           c.note_panel.ensures.values c.note_panel.ensures.capacity c.self.invariant.noted;
       room = λ is.
-          let two = room_step i.reserved i.machine.fixed i.machine i.at step n.stop
-          (sym c.keeps_room-reserved.ensures ∙ is) next in
+          let made = scan_steps i.history.items in
+          let two = room_step i.reserved i.machine.fixed made i.machine.gone step n.stop
+          (sym c.keeps_room-reserved.ensures ∙ is) in
           let before = c.self.invariant.room two.0 in
           let less = two.1 in
+          let some = left-long i.machine.fixed made i.machine.gone i.at kept.steps in
           let gone = ap (λ (t : ControllerState). t.gone) does.state
           ∙ gone_made i.machine.fixed (state_is i.machine) step in
-          let to = c.place_after-at.result in
-          let plan = ap (λ (f : Fixed). length (due_after f.plan (n.gone + 1) to)) does.fixed in
-          let scan = ap (λ x. length (due_after i.machine.fixed.plan (x + 1) to)) gone in
-          let place = ap (λ (p : ScanPlace). length (due_after i.machine.fixed.plan
-          (gone_after step i.machine.gone + 1) p)) c.place_after-at.ensures in
-          grind (arith, common_steps, before, less, plan, scan, place);
+          let steps = ap scan_steps h ∙ scan_steps-more i.machine.fixed (state_is i.machine)
+          i.history.items step in
+          let plan = ap (λ (f : Fixed). length (left_in_scan f n.gone
+          (scan_steps c.note.new.history.items))) does.fixed in
+          let scan = ap (λ x. length (left_in_scan i.machine.fixed x
+          (scan_steps c.note.new.history.items))) gone in
+          let behind = ap (λ (l : List ScanStep). length (left_in_scan i.machine.fixed
+          (gone_after step i.machine.gone) l)) steps in
+          grind (arith, common_steps, before, less, some, plan, scan, behind);
     }
 
 pub returns-clause-grows : goal.returns-clause-grows

@@ -1,21 +1,18 @@
-use Rattle.std.proofs.Common.{rules, refl, ◌≡◌, ◌<◌, length, get_or, ◌∙◌}
-use Rattle.std.proofs.lemmas.List.{length-set}
-use Rattle.global_data.specs.Places.{byte_addresses}
-use Rattle.global_data.proofs.Members.{joined-first, joined-next}
+use Rattle.std.proofs.Common.{rules, ap, ◌<◌, length, ◌∙◌, ℕ, List}
+use Rattle.std.specs.FinMap.{from_entries}
+use Rattle.global_data.specs.Book.{GlobalIs}
+use Rattle.global_data.proofs.Members.{joined, joined-new, joined-next}
 use Rattle.global_data.proofs.book.GlobalBook.new.Goals as goal
 
 pub loop-member-init : goal.loop-member-init
 loop-member-init c =
-    let size : length c.loop.places.items ≡ byte_addresses = search rules in
-    (size, joined-first c.loop.places.items c.args.members.now c.loop.counter c.loop.invariant)
+    ap (λ (es : List (ℕ × GlobalIs)). joined (from_entries es) c.args.members.now)
+    c.new-words.ensures.empty
+    ∙ joined-new c.args.members.now
 
 pub loop-member-preserved : goal.loop-member-preserved
 loop-member-preserved c =
-    let places = c.loop-member.places.items in
     let k = c.loop-member.member-index in
     let more : k < length c.args.members.now = search rules in
-    let size = c.loop-member.invariant.0 in (
-      length-set places _ _ ∙ size,
-      joined-next places c.args.members.now k (get_or c.args.members.now k 0) c.new.result _
-          (c.type_inv.members k).fits size more refl c.new.ensures c.loop-member.invariant.1,
-    )
+    joined-next c.loop-member.words.entries c.insert.new.self.entries c.args.members.now k
+    c.new.result _ more c.new.ensures c.in_ok-insert.ensures.updates.0 c.loop-member.invariant

@@ -1,22 +1,27 @@
-use Rattle.std.proofs.Common.{ap, ◌∙◌, nat_cmp}
-use Rattle.global_data.specs.Places.{map_of_places}
-use Rattle.global_data.proofs.Places.{numbered-read}
-use Rattle.global_data.proofs.Changes.{has_place, no_member, put-written}
+use Rattle.std.proofs.Common.{◌≡◌, ap, sym, ◌∙◌, None, Some, rules, nat_cmp}
+use Rattle.std.specs.FinMap.{get, from_entries}
+use Rattle.std.specs.Option.{option_copied_mut}
+use Rattle.global_data.proofs.Changes.{words-read, no_member, put-written}
 use Rattle.global_data.proofs.book.GlobalBook.put.Goals as goal
 use Rattle.global_data.proofs.book.GlobalBook.put.Goals.{in-Some, in_default}
 
 pub returns : goal.returns
 returns c =
-    let places = c.self.inside.places.items in
-    let low = has_place _ _ c.ranges.node.fits c.self.invariant in
-    elim c.match-index_mut.branch [
+    let es = c.self.inside.words.entries in
+    let book = c.args.self.now in
+    let node = c.args.node in
+    let read = c.get_mut.ensures.value ∙ words-read es book node c.self.view_is in
+    elim c.match-get_mut.branch [
       | in-Some w ↦
-          ap (λ f. map_of_places {R = nat_cmp} (λ i. i) f.places.items) w.self-inside-is
-          ∙ put-written places c.args.self.now c.args.node c.args.words.now _ w.in-Some.place
-          w.put.new.self c.self.view_is low
-          c.index_mut.ensures.value w.in-Some.is w.put.ensures
+          let new = w.put.new.self in
+          let got : Some w.in-Some.own.now ≡ get book node =
+          ap option_copied_mut (sym w.in-Some.is) ∙ read in
+          ap (λ f. from_entries {R = nat_cmp} f.words.entries) w.self-inside-is
+          ∙ put-written es (c.get_mut.follows.lender new).entries book node c.args.words.now
+          w.in-Some.own.now new
+          c.self.view_is (sym got) w.put.ensures
+          ((c.get_mut.follows.holds new).3 (search rules)).0
       | in_default w ↦
-          absurd (no_member c.args.self.now c.args.node c.requires.member
-          (numbered-read places c.args.self.now c.args.node _ c.self.view_is low
-          c.index_mut.ensures.value ∙ w.in_default.is))
+          let none : None ≡ get book node = ap option_copied_mut (sym w.in_default.is) ∙ read in
+          absurd (no_member book node c.requires.member (sym none))
     ]

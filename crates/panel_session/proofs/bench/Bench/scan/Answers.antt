@@ -9,7 +9,7 @@ use Rattle.panel_session.proofs.bench.Bench.scan.Goals as goal
 
 pub invariant_of-self : goal.invariant_of-self
 invariant_of-self c =
-    subst (λ (v : ControllerIs). IsOnBench c.self.inside.plan v c.self.inside.served)
+    subst (λ (v : ControllerIs). IsOnBench c.self.inside.shown v c.self.inside.served)
     (sym c.in_err-scan.ensures.err) c.self.invariant
 
 pub returns-in_err-scan-clause-err : goal.returns-in_err-scan-clause-err
@@ -27,7 +27,7 @@ invariant_of-self-in_err-give_up_calls c =
     let scanned =
     is-scanned c.self.inside.controller c.scan.new.controller goes c.in_ok-scan.ensures.made
     (c.in_ok-scan.ensures.rests goes) c.in_ok-scan.ensures.between in
-    bench-begun c.self.inside.plan c.self.inside.controller c.scan.new.controller
+    bench-begun c.self.inside.shown c.self.inside.controller c.scan.new.controller
     c.give_up_calls.new.controller c.self.inside.served c.self.invariant scanned
     c.scans_stay_whole.ensures.stays c.in_err-give_up_calls.ensures.err
 
@@ -40,7 +40,7 @@ returns-in_err-give_up_calls-clause-err c =
     on_err c.from_residual-in_err-give_up_calls.result _
     (subst (λ (first : ControllerIs). HasBegunScan first c.give_up_calls.new.controller)
     c.self.view_is
-    (scan-begun c.self.inside.plan c.self.inside.controller c.scan.new.controller
+    (scan-begun c.self.inside.shown c.self.inside.controller c.scan.new.controller
     c.give_up_calls.new.controller c.self.inside.served c.self.invariant scanned
     c.in_err-give_up_calls.ensures.err))
 
@@ -50,7 +50,7 @@ invariant_of-self-2 c =
     let scanned =
     is-scanned c.self.inside.controller c.scan.new.controller goes c.in_ok-scan.ensures.made
     (c.in_ok-scan.ensures.rests goes) c.in_ok-scan.ensures.between in
-    bench-ended c.self.inside.plan c.self.inside.controller c.scan.new.controller
+    bench-ended c.self.inside.shown c.self.inside.controller c.scan.new.controller
     c.give_up_calls.new.controller c.self.inside.served c.self.invariant scanned
     c.scans_stay_whole.ensures.stays c.in_ok-give_up_calls.ensures.ok
 
@@ -62,7 +62,7 @@ returns-clause-ok c =
     (c.in_ok-scan.ensures.rests goes) c.in_ok-scan.ensures.between in
     subst (λ (first : ControllerIs). c.give_up_calls.new.controller ≡ after_scan first)
     c.self.view_is
-    (scan-ended c.self.inside.plan c.self.inside.controller c.scan.new.controller
+    (scan-ended c.self.inside.shown c.self.inside.controller c.scan.new.controller
     c.give_up_calls.new.controller c.self.inside.served c.self.invariant scanned
     c.in_ok-give_up_calls.ensures.ok)
 
@@ -75,7 +75,7 @@ returns-clause-line c = λ done.
     subst (λ (first : ControllerIs). length (lines_of c.give_up_calls.new.controller)
     ≡ length (lines_of first) + 1) c.self.view_is
     (ap (λ (v : ControllerIs). length (lines_of v))
-    (scan-ended c.self.inside.plan c.self.inside.controller c.scan.new.controller
+    (scan-ended c.self.inside.shown c.self.inside.controller c.scan.new.controller
     c.give_up_calls.new.controller c.self.inside.served c.self.invariant scanned
     c.in_ok-give_up_calls.ensures.ok)
     ∙ line-more c.self.inside.controller goes)

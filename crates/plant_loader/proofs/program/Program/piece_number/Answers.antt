@@ -16,7 +16,7 @@ overflow_cast-result c =
       arith,
       ap length c.as_slice.ensures,
       ap length c.as_slice-2.ensures,
-      KeepsProgram-few c.self.inside.driven.keys
+      KeepsProgram-few c.self.inside.driven.keys c.self.inside.labels.keys
           c.self.inside.messages read c.self.invariant,
     )
 
@@ -33,6 +33,6 @@ overflow_add-result c =
       arith,
       ap length c.as_slice.ensures,
       ap length c.as_slice-2.ensures,
-      KeepsProgram-few c.self.inside.driven.keys
+      KeepsProgram-few c.self.inside.driven.keys c.self.inside.labels.keys
           c.self.inside.messages read c.self.invariant,
     )

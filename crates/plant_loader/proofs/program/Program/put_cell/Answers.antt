@@ -18,11 +18,12 @@ invariant_of-result c =
     first_failed (site_cell_tests (site_of c.args.sizes r) r.cells c.args.cell) ≡ Ok tt)
     (sym c.self.view_is) c.requires in
     rw c.in_ok-push.ensures.ok
-    (KeepsProgram-cell c.self.inside.driven.keys c.in_ok-driven.driven.keys c.self.inside.messages
+    (KeepsProgram-cell c.self.inside.driven.keys c.in_ok-driven.driven.keys
+    c.self.inside.labels.keys c.in_ok-labels.labels.keys c.self.inside.messages
     c.messages_with-messages.result
     c.args.sizes read c.args.cell c.driven_by.result
     passes c.driven_by.ensures c.messages_with-messages.ensures c.self.invariant
-    c.in_ok-driven.ensures)
+    c.in_ok-driven.ensures c.in_ok-labels.ensures)
 
 pub messages_with-messages-requires : goal.messages_with-messages-requires
 messages_with-messages-requires c = c.self.invariant.few_messages

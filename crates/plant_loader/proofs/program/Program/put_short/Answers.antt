@@ -15,5 +15,5 @@ invariant_of-result c =
     } in
     let passes = subst (λ (r : ReadProgram). first_failed (short_tests r.shorts c.args.short)
     ≡ Ok tt) (sym c.self.view_is) c.requires in
-    rw c.in_ok-push.ensures.ok (KeepsProgram-short c.self.inside.driven.keys c.self.inside.messages
-    read c.args.short passes c.self.invariant)
+    rw c.in_ok-push.ensures.ok (KeepsProgram-short c.self.inside.driven.keys
+    c.self.inside.labels.keys c.self.inside.messages read c.args.short passes c.self.invariant)

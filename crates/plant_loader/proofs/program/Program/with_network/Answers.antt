@@ -15,4 +15,4 @@ invariant_of-result c =
     let few = subst (λ (r : ReadProgram). length r.networks < 1000)
     (sym c.self.view_is) c.requires in
     rw (c.new.ensures, c.new-2.ensures, c.in_ok-push.ensures.ok) (KeepsProgram-network
-    c.self.inside.driven.keys c.self.inside.messages read few c.self.invariant)
+    c.self.inside.driven.keys c.self.inside.labels.keys c.self.inside.messages read few c.self.invariant)

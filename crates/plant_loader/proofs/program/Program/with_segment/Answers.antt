@@ -14,4 +14,4 @@ invariant_of-result c =
     } in
     let few = subst (λ (r : ReadProgram). length r.segments < 32) (sym c.self.view_is) c.requires in
     rw (c.new.ensures, c.in_ok-push.ensures.ok) (KeepsProgram-segment c.self.inside.driven.keys
-    c.self.inside.messages read few c.self.invariant)
+    c.self.inside.labels.keys c.self.inside.messages read few c.self.invariant)

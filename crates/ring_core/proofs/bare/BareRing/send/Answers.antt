@@ -6,15 +6,8 @@ use Rattle.ring_core.specs.Bare.{bare_net, bare_ring}
 use Rattle.station_stats.specs.declared.event.StatEvent.{StatEvent}
 use Rattle.ring_core.proofs.Keeping.{counted, stations}
 use Rattle.ring_core.proofs.Noting.{length-noted}
-use Rattle.ring_core.proofs.Sending.{kept-send, sent-source, told-send}
+use Rattle.ring_core.proofs.Sending.{kept-send, told-send}
 use Rattle.ring_core.proofs.bare.BareRing.send.Goals as goal
-
-pub settle-requires-clause-source : goal.settle-requires-clause-source
-settle-requires-clause-source c = sent-source _ _ _ _ _ c.args.node c.args.frame
-    c.fate_at-fate.result c.arrival-fell.result c.requires.kept c.requires.head
-    (c.arrival-fell.ensures.fell
-    ∙ ap (λ l. arrival (bare_net c.args.self.now) l c.fate_at-fate.result c.args.frame)
-    c.deref-2.ensures.value)
 
 pub count_arrival-requires : goal.count_arrival-requires
 count_arrival-requires c =

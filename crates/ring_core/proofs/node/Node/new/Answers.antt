@@ -6,7 +6,7 @@ pub returns : goal.returns
 returns c =
     let paths = c.in_ok-vec.ensures.items_if_clones_equal (λ y e. e)
     ∙ ap (λ (p : Path). replicate 5 p) c.no_path.ensures in
-    let accepted = c.in_ok-new.ensures in
+    let accepted = c.new-3.ensures in
     let status = c.at_first.ensures in
     λ i. record {
       status = status i;

@@ -1,0 +1,4 @@
+pub mod Hours
+pub mod Kept
+pub mod Edges
+pub mod Tables

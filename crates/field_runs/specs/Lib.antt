@@ -1,0 +1,5 @@
+pub mod Field
+pub mod Scan
+pub mod Alike
+pub mod Told
+pub mod Played

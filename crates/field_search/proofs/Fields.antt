@@ -1,0 +1,244 @@
+-- Runs of a field beside keys that cover it.
+use Rattle.std.proofs.Common.{◌≡◌, ℕ, zero, suc, ◌+◌, ◌%◌, Bool, true, false, ◌==◌, List, [], ◌∷◌}
+use Rattle.std.proofs.Common.{Option, Some, None, refl, sym, ap, ◌∙◌, subst, arith}
+use Rattle.std.proofs.Common.{length, map, take}
+use Rattle.std.specs.Prelude.{if◌then◌else◌}
+use Rattle.std.proofs.lemmas.Bool.{eqb-true, eq-eqb}
+use Rattle.plant_types.specs.declared.plan.ControllerPlan.{ControllerPlan}
+use Rattle.plant_types.specs.Checks.{sizes_of}
+use Rattle.plant_types.specs.Discretes.{discretes_on}
+use Rattle.plant_types.specs.Sizes.{discretes}
+use Rattle.scan_order.specs.declared.due.ScanStep.{ScanStep}
+use Rattle.scan_order.specs.declared.due.ScanStep.TheVariants as steps
+use Rattle.scan_order.specs.Due.{full_scan}
+use Rattle.ladder_solver.specs.State.{SolveState}
+use Rattle.controller_core.specs.declared.fixed.Fixed.{Fixed}
+use Rattle.controller_core.specs.Controller.{fixed_with}
+use Rattle.controller_core.specs.Replay.{ControllerState, start}
+use Rattle.state_space.specs.Answers.{Covers, IsAmong}
+use Rattle.state_space.specs.Reaching.{IsBelow, LeadBy}
+use Rattle.field_runs.specs.Alike.{AlikeStatesStay, IsAlike, IsSettled, ScansSettle}
+use Rattle.field_runs.specs.Field.{PlaysInField, state_after}
+use Rattle.field_runs.specs.Scan.{behind_steps, scanned, stepped_with, told_behind, told_first}
+use Rattle.field_runs.specs.Played.{behind_scans, AreScansTold, ScansAreFieldRuns}
+use Rattle.field_runs.specs.Told.{Agrees, FieldRunsAreScans}
+use Rattle.field_runs.proofs.Playing.{stopped-steps}
+use Rattle.field_search.specs.Covered.{AsksAlike, CoversHoldInField, IsAlone, StandsFor, TellAll}
+use Rattle.field_search.specs.Covered.{leads_to, starts_at}
+use Rattle.field_search.specs.Found.{EachTells, PathsAreRuns}
+
+alike-then : (s t u : ControllerState) → IsAlike s t → IsAlike t u → IsAlike s u
+alike-then s t u a b = record {
+  references = a.references ∙ b.references;
+  edges = a.edges ∙ b.edges;
+  stop = a.stop ∙ b.stop;
+  clock = a.clock ∙ b.clock;
+}
+
+agrees-alike : (s t : ControllerState) → Agrees s t → IsAlike s t
+agrees-alike s t r = record {
+  references = ap (λ (q : SolveState). q.map) r.solving;
+  edges = ap (λ (q : SolveState). q.edges) r.solving;
+  stop = r.stop;
+  clock = ap (λ (q : SolveState). q.clock.now % 100) r.solving;
+}
+
+agrees-settled : (plan : ControllerPlan) (s t : ControllerState) → Agrees s t → IsSettled plan t
+    → IsSettled plan s
+agrees-settled plan s t r settled = record {
+  kept = ap (λ (q : SolveState). q.past) r.solving
+      ∙ (settled.kept
+      ∙ sym (ap (λ (q : SolveState). discretes_on (discretes (sizes_of plan) q.map)) r.solving));
+  blocks = ap (λ (q : SolveState). q.table) r.solving ∙ settled.blocks;
+}
+
+-- how many scans a controller makes does not matter to one
+same-step : (fixed : Fixed) (n row : ℕ) (s : ControllerState) (step : ScanStep)
+    → stepped_with (fixed_with fixed.plan fixed.scan_time fixed.watchdog n) row s step
+    ≡ stepped_with fixed row s step
+same-step fixed n row s steps.Begin = refl
+same-step fixed n row s (steps.In number) = refl
+same-step fixed n row s (steps.Solve number) = refl
+same-step fixed n row s (steps.Out number) = refl
+same-step fixed n row s steps.End = refl
+same-step fixed n row s steps.Fail = refl
+same-step fixed n row s steps.Dark = refl
+
+same-behind : (fixed : Fixed) (n : ℕ) (rows : List ℕ) (s : ControllerState)
+    (due : List ScanStep)
+    → behind_steps (fixed_with fixed.plan fixed.scan_time fixed.watchdog n) rows s due
+    ≡ behind_steps fixed rows s due
+unfolding behind_steps
+same-behind fixed n rows s [] = refl
+same-behind fixed n rows s (step ∷ due) =
+    ap (λ (q : ControllerState). if s.stop == 0 then q else s)
+    (ap (λ (t : ControllerState). behind_steps (fixed_with fixed.plan fixed.scan_time
+    fixed.watchdog n) (told_behind step rows) t due) (same-step fixed n (told_first rows) s step)
+    ∙ same-behind fixed n (told_behind step rows) (stepped_with fixed (told_first rows) s step) due)
+
+below-less : (bound : Option ℕ) (n : ℕ) → IsBelow bound (n + 1) → IsBelow bound n
+below-less None n h = tt
+below-less (Some most) n h = omega (arith, h)
+
+module _ (stay : AlikeStatesStay) (settle : ScansSettle) (fixed : Fixed)
+    (alone : IsAlone fixed.plan) where
+  -- a scan of a state and of the one that its key stands for
+  scanned-alike : (told : List ℕ) (s kept : ControllerState) (b : Bool) → (s.stop == 0) ≡ b
+      → (s.stop ≡ 0 → IsSettled fixed.plan s) → StandsFor fixed.plan s kept
+      → IsAlike (scanned fixed told s) (scanned fixed told kept)
+  scanned-alike told s kept true is settled stands =
+      let goes : s.stop ≡ 0 = eqb-true s.stop 0 is in
+      stay fixed told s kept (settled goes) (stands.settled (sym stands.alike.stop ∙ goes)) goes
+      stands.alike
+  scanned-alike told s kept false is settled stands =
+      let one = stopped-steps fixed told s (full_scan fixed.plan) is in
+      let other = stopped-steps fixed told kept (full_scan fixed.plan)
+      (ap (λ k. k == 0) (sym stands.alike.stop) ∙ is) in
+      subst (λ (q : ControllerState). IsAlike q (scanned fixed told kept)) (sym one)
+      (subst (λ (q : ControllerState). IsAlike s q) (sym other) stands.alike)
+
+  -- a scan that did not stop settles
+  scanned-settled : (told : List ℕ) (s : ControllerState) (b : Bool) → (s.stop == 0) ≡ b
+      → (s.stop ≡ 0 → IsSettled fixed.plan s) → (scanned fixed told s).stop ≡ 0
+      → IsSettled fixed.plan (scanned fixed told s)
+  scanned-settled told s true is settled goes =
+      settle.scans fixed told s alone.runs alone.messages (settled (eqb-true s.stop 0 is)) goes
+  scanned-settled told s false is settled goes =
+      let one = stopped-steps fixed told s (full_scan fixed.plan) is in
+      let on : s.stop ≡ 0 = ap (λ (q : ControllerState). q.stop) (sym one) ∙ goes in
+      absurd (let no' : true ≡ false = sym (eq-eqb s.stop 0 on) ∙ is in cc)
+
+module _ (stay : AlikeStatesStay) (runs : FieldRunsAreScans) (settle : ScansSettle) (fixed : Fixed)
+    (states : List ℕ → ControllerState) (rows : ℕ → List ℕ) (count : ℕ)
+    (asked : ControllerState → Bool) (bound : Option ℕ) (keys : List (List ℕ)) (depth : ℕ → ℕ)
+    (alone : IsAlone fixed.plan) (tell : TellAll fixed rows count) (asks : AsksAlike asked)
+    (covers : Covers (starts_at fixed states) count (leads_to fixed states rows)
+    (λ key. asked (states key)) bound keys depth)
+    (played : ControllerPlan) (plays : PlaysInField fixed.plan played) where
+  -- a key of the state behind so many scans
+  pub record HasKey (scans : ℕ) : Type 0 where
+    pub key : List ℕ
+    pub among : IsAmong keys depth scans key
+    pub stands : StandsFor fixed.plan (state_after played fixed.scan_time fixed.watchdog scans)
+        (states key)
+    pub settled : (state_after played fixed.scan_time fixed.watchdog scans).stop ≡ 0
+        → IsSettled fixed.plan (state_after played fixed.scan_time fixed.watchdog scans)
+
+  first-key : HasKey 0
+  first-key =
+      let at : state_after played fixed.scan_time fixed.watchdog 0 ≡ start fixed.plan =
+      runs.starts fixed.plan played fixed.scan_time fixed.watchdog plays in
+      record {
+        key = covers.first;
+        among = covers.first_among;
+        stands = subst (λ (q : ControllerState). StandsFor fixed.plan q (states covers.first))
+            (sym at) covers.is_first;
+        settled = λ goes. subst (IsSettled fixed.plan) (sym at) (settle.starts fixed.plan);
+      }
+
+  next-key : (n : ℕ) → IsBelow bound (n + 1) → HasKey n → HasKey (n + 1)
+  next-key n below k =
+      let s = state_after played fixed.scan_time fixed.watchdog n in
+      let after = state_after played fixed.scan_time fixed.watchdog (n + 1) in
+      let on = runs.scans fixed.plan played fixed.scan_time fixed.watchdog n alone.power plays in
+      let by = tell on.rows on.told in
+      let next = covers.closed n by.0 k.key k.among by.1.0 below in
+      let same : Agrees after (scanned fixed on.rows s) =
+      subst (λ (q : ControllerState). Agrees after q)
+      (same-behind fixed n on.rows s (full_scan fixed.plan)) on.agrees in
+      record {
+        key = next.0;
+        among = next.1.1;
+        stands = record {
+          alike = alike-then after (scanned fixed on.rows s) (states next.0)
+              (agrees-alike after (scanned fixed on.rows s) same)
+              (alike-then (scanned fixed on.rows s) (scanned fixed (rows by.0) (states k.key))
+              (states next.0)
+              (subst (λ (q : ControllerState). IsAlike q
+              (scanned fixed (rows by.0) (states k.key))) (by.1.1 s)
+              (scanned-alike stay settle fixed alone (rows by.0) s (states k.key) (s.stop == 0) refl k.settled k.stands))
+              next.1.0.alike);
+          settled = next.1.0.settled;
+        };
+        settled = λ goes. agrees-settled fixed.plan after (scanned fixed on.rows s) same
+            (scanned-settled stay settle fixed alone on.rows s (s.stop == 0) refl k.settled (sym same.stop ∙ goes));
+      }
+
+  has-key : (n : ℕ) → IsBelow bound n → HasKey n
+  has-key zero below = first-key
+  has-key (suc n) below =
+      let e : n + 1 ≡ suc n = omega arith in
+      let less : IsBelow bound (n + 1) = subst (IsBelow bound) (sym e) below in
+      subst HasKey e (next-key n less (has-key n (below-less bound n less)))
+
+  never-asked : (scans : ℕ) → IsBelow bound scans
+      → asked (state_after played fixed.scan_time fixed.watchdog scans) ≡ false
+  never-asked scans below =
+      let k = has-key scans below in
+      asks (state_after played fixed.scan_time fixed.watchdog scans) (states k.key) k.stands.alike
+      ∙ covers.good scans k.key k.among below
+
+pub covers-hold : AlikeStatesStay → FieldRunsAreScans → ScansSettle → CoversHoldInField
+covers-hold stay runs settle fixed states rows count asked bound keys depth alone tell asks covers
+    played scans plays below =
+    never-asked stay runs settle fixed states rows count asked bound keys depth alone tell asks covers
+    played plays scans below
+
+-- ---- a path is a run
+
+took-all : {X : Type 0} (xs : List X) → take (length xs) xs ≡ xs
+took-all [] = refl
+took-all {X} (x ∷ xs) = ap (λ (l : List X). x ∷ l) (took-all xs)
+
+length-told : (rows : ℕ → List ℕ) (path : List ℕ) → length (map rows path) ≡ length path
+length-told rows [] = refl
+length-told rows (by ∷ path) = let h = length-told rows path in omega (arith, h)
+
+module _ (stay : AlikeStatesStay) (settle : ScansSettle) (fixed : Fixed)
+    (states : List ℕ → ControllerState) (rows : ℕ → List ℕ) (count : ℕ)
+    (alone : IsAlone fixed.plan) where
+  lead-alike : (path from to : List ℕ) (s : ControllerState)
+      → (s.stop ≡ 0 → IsSettled fixed.plan s) → StandsFor fixed.plan s (states from)
+      → LeadBy count (leads_to fixed states rows) from path to
+      → IsAlike (behind_scans fixed (map rows path) s) (states to)
+  lead-alike [] from to s settled stands same =
+      subst (λ k. IsAlike s (states k)) same stands.alike
+  lead-alike (by ∷ path) from to s settled stands leads =
+      let next = leads.1.0 in
+      lead-alike path next to (scanned fixed (rows by) s)
+      (scanned-settled stay settle fixed alone (rows by) s (s.stop == 0) refl settled)
+      (record {
+        alike = alike-then (scanned fixed (rows by) s) (scanned fixed (rows by) (states from))
+            (states next)
+            (scanned-alike stay settle fixed alone (rows by) s (states from) (s.stop == 0) refl
+            settled stands)
+            leads.1.1.0.alike;
+        settled = leads.1.1.0.settled;
+      })
+      leads.1.1.1
+
+  lead-told : (path from to : List ℕ) → EachTells fixed rows count
+      → LeadBy count (leads_to fixed states rows) from path to
+      → AreScansTold fixed.plan (map rows path)
+  lead-told [] from to tells same = tt
+  lead-told (by ∷ path) from to tells leads =
+      (tells by leads.0, lead-told path leads.1.0 to tells leads.1.1.1)
+
+pub paths-run : AlikeStatesStay → ScansAreFieldRuns → ScansSettle → PathsAreRuns
+paths-run stay scans settle fixed states rows count path key alone tells r =
+    let played = scans fixed (map rows path) alone.runs alone.power
+    (lead-told stay settle fixed states rows count alone path r.first key tells r.leads_on) in
+    let long = length-told rows path in
+    let same = played.same (length path) (omega (arith, long)) in
+    let whole : take (length path) (map rows path) ≡ map rows path =
+    ap (λ n. take n (map rows path)) (sym long) ∙ took-all (map rows path) in
+    record {
+      played = played.played;
+      plays = played.plays;
+      alike = alike-then _ (behind_scans fixed (map rows path) (start fixed.plan)) (states key)
+          (subst (λ (l : List (List ℕ)). IsAlike (state_after played.played fixed.scan_time
+          fixed.watchdog (length path)) (behind_scans fixed l (start fixed.plan))) whole
+          (agrees-alike _ _ same))
+          (lead-alike stay settle fixed states rows count alone path r.first key
+          (start fixed.plan) (λ goes. settle.starts fixed.plan) r.is_first r.leads_on);
+    }

@@ -1,0 +1,61 @@
+-- Keys of states that cover a field. All of it is this project's own.
+use Rattle.std.specs.Prelude.{◌≡◌, ◌<◌, ℕ, Bool, false, List, Option}
+use Rattle.plant_types.specs.declared.plan.ControllerPlan.{ControllerPlan}
+use Rattle.plant_types.specs.Plans.{KeepsPower}
+use Rattle.scan_order.specs.Due.{full_scan}
+use Rattle.traffic_cop.specs.Rows.{IsRunnablePlan}
+use Rattle.alike_states.specs.Alone.{HasNoMessages}
+use Rattle.controller_core.specs.declared.fixed.Fixed.{Fixed}
+use Rattle.controller_core.specs.Replay.{ControllerState, start}
+use Rattle.state_space.specs.Answers.{Covers}
+use Rattle.state_space.specs.Reaching.{IsBelow}
+use Rattle.field_runs.specs.Alike.{IsAlike, IsSettled}
+use Rattle.field_runs.specs.Field.{PlaysInField, state_after}
+use Rattle.field_runs.specs.Scan.{scanned}
+use Rattle.field_runs.specs.Told.{AreTold}
+
+-- A controller that a search can be made of: it can be run, keeps its power, and has no message
+-- blocks.
+pub record IsAlone (plan : ControllerPlan) : Type 0 where
+  pub runs : IsRunnablePlan plan
+  pub power : KeepsPower plan
+  pub messages : HasNoMessages plan.segments
+
+-- Each scan in which the field brings rows of the drops is one of so many moves, each of which tells
+-- rows.
+abbrev pub TellAll : Fixed → (ℕ → List ℕ) → ℕ → Type 0
+TellAll fixed rows count =
+    (told : List ℕ) → AreTold fixed.plan (full_scan fixed.plan) told
+    → (by : ℕ) × ((by < count) × ((s : ControllerState)
+    → scanned fixed (rows by) s ≡ scanned fixed told s))
+
+-- A key stands for a state that is alike another, and has settled unless it stopped.
+pub record StandsFor (plan : ControllerPlan) (s kept : ControllerState) : Type 0 where
+  pub alike : IsAlike s kept
+  pub settled : kept.stop ≡ 0 → IsSettled plan kept
+
+-- A key of the start, and a move from a key to one of a state behind a scan with its rows, where
+-- keys stand for states.
+abbrev pub starts_at : Fixed → (List ℕ → ControllerState) → List ℕ → Type 0
+starts_at fixed states key = StandsFor fixed.plan (start fixed.plan) (states key)
+
+abbrev pub leads_to : Fixed → (List ℕ → ControllerState) → (ℕ → List ℕ) → List ℕ → ℕ → List ℕ
+    → Type 0
+leads_to fixed states rows key by next =
+    StandsFor fixed.plan (scanned fixed (rows by) (states key)) (states next)
+
+-- Alike states are asked the same.
+abbrev pub AsksAlike : (ControllerState → Bool) → Type 0
+AsksAlike asked = (s t : ControllerState) → IsAlike s t → asked s ≡ asked t
+
+-- Where keys cover what fewer moves than a bound lead to, and something is so of none of their
+-- states, it is so of no state behind fewer scans of a run of the field.
+abbrev pub CoversHoldInField : Type 0
+CoversHoldInField =
+    (fixed : Fixed) (states : List ℕ → ControllerState) (rows : ℕ → List ℕ) (count : ℕ)
+    (asked : ControllerState → Bool) (bound : Option ℕ) (keys : List (List ℕ)) (depth : ℕ → ℕ)
+    → IsAlone fixed.plan → TellAll fixed rows count → AsksAlike asked
+    → Covers (starts_at fixed states) count (leads_to fixed states rows) (λ key. asked (states key))
+    bound keys depth
+    → (played : ControllerPlan) (scans : ℕ) → PlaysInField fixed.plan played → IsBelow bound scans
+    → asked (state_after played fixed.scan_time fixed.watchdog scans) ≡ false

@@ -1,0 +1,17 @@
+use Rattle.std.proofs.Common.{[], ◌<◌, length, take, ap, ◌∙◌, arith}
+use Rattle.std.specs.List.{cons_option}
+use Rattle.joint_history.specs.Reading.{items_of}
+use Rattle.list_courses.specs.Completing.{given_in}
+use Rattle.list_courses.proofs.Due.{given-append}
+use Rattle.station_laws.specs.Readings.{answer_in}
+use Rattle.station_laws.proofs.Lists.{answers-more, plain-step}
+use Rattle.list_courses.proofs.replying.answers_given.Goals as goal
+
+pub loop-entry-preserved : goal.loop-entry-preserved
+loop-entry-preserved c =
+    let low : c.loop-entry.entry-index < length c.args.entries.now = omega arith in
+    plain-step _ _ _ _ _ c.in_ok-add_answer.ensures c.loop-entry.invariant
+    (ap given_in (answers-more c.args.entries.now c.loop-entry.entry-index c.entry-item.result low
+    c.entry-item.is)
+    ∙ given-append (items_of (take c.loop-entry.entry-index c.args.entries.now)).answers
+    (cons_option (answer_in c.entry-item.result) []))

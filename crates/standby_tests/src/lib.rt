@@ -1,0 +1,9 @@
+//! Tests of a standby.
+#![tactic(auto)]
+
+#[cfg(test)]
+mod primaries;
+#[cfg(test)]
+mod taking;
+#[cfg(test)]
+mod whole;

@@ -1,0 +1,4 @@
+pub mod Reaching
+pub mod Answers
+pub mod Found
+pub mod Search
