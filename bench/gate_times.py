@@ -34,9 +34,13 @@ def crate_of(folder, words):
 
 
 def provers():
-    """The provers that run now: the process and its start, its words, folder, processor seconds and memory."""
+    """The provers of this run that run now: the process and its start, its words, folder, processor seconds and memory. Those of other runs on this
+    machine are of other sessions."""
+    own = os.getsid(0)
     for process in filter(str.isdigit, os.listdir("/proc")):
         try:
+            if os.getsid(int(process)) != own:
+                continue
             with open(f"/proc/{process}/cmdline", "rb") as file:
                 words = file.read().decode(errors="replace").split("\0")
             if not PROVER.search(words[0]) or words[1:2] == ["fmt"]:

@@ -5,6 +5,7 @@ import tomllib
 
 import cells
 import reasons
+from names import Names
 from places import Places
 from reasons import Finding, Plant
 from schema import TOP, schema
@@ -19,6 +20,9 @@ OWN_STEPS = {"network": "network", "bridge": "bridges"}
 SHOWN = 100
 # A fault of the words and the plant together, and not of the plant file.
 NO_CONTROLLER = (17, "a session of a node without a controller")
+NO_NAMES = Names()
+# The faults that may be about a reference: BadRef, BadCell, BadShape, CoilTwice and BadOrder. What they say has no other number of five digits.
+ABOUT_REFERENCES = range(5, 10)
 
 
 def advice():
@@ -108,12 +112,20 @@ def told(name, spots, number, fault, finding):
 def no_controller(plant, refusal):
     """Why there is no session: no line of the file is at fault."""
     nodes = sorted(controller["node"] for controller in plant.document["controller"])
-    listed = ", ".join(str(node) for node in nodes)
-    yield f"{refusal.number} {refusal.name}, {NO_CONTROLLER[1]}: the plant has a controller at node {listed}"
+    *others, last = map(str, nodes)
+    has = f"controllers at nodes {', '.join(others)} and {last}" if others else f"a controller at node {last}"
+    yield f"{refusal.number} {refusal.name}, {NO_CONTROLLER[1]}: the plant has {has}"
     yield f"what to do: {advice()[NO_CONTROLLER].replace('`', '')}"
 
 
-def explain(name, data, refusal):
+def with_names(plant, refusal, finding, names):
+    """What is wrong, with the names of its references: those of the controller in which it is."""
+    if finding.fault not in ABOUT_REFERENCES or refusal.path[:1] != ("controller",):
+        return finding.detail
+    return names.in_text(plant.at(refusal.path[:2]).get("node"), finding.detail)
+
+
+def explain(name, data, refusal, names=NO_NAMES):
     """The lines that explain the refusal of a file's bytes; none where these tests find nothing wrong there."""
     try:
         text = data.decode()
@@ -134,6 +146,7 @@ def explain(name, data, refusal):
     if finding is None:
         return []
     spots = [spot_of(plant, spot) for spot in finding.spots]
+    finding.detail = with_names(plant, refusal, finding, names)
     return told(name, spots, refusal.number, refusal.name, finding)
 
 

@@ -308,7 +308,7 @@ def of_order(plant, path):
         yield Finding(9, "a control that does not read", f"{words[1]} is neither five digits nor -", path)
     for word, which in ((words[2], "input"), (words[3], "output")):
         if word != "-" and word not in numbers:
-            has = f"drops {', '.join(numbers)}" if numbers else "no drop"
+            has = f"drop{'s' if len(numbers) > 1 else ''} {', '.join(numbers)}" if numbers else "no drop"
             yield Finding(9, "a drop that is not there", f"{word} as the {which} drop, and the controller has {has}", path)
     if words[1] != "-":
         yield from of_reference(plant, words[1], "01", 1, path[:2], path, "a control")
@@ -327,7 +327,7 @@ def of_power(plant, path):
     limits = (("scan", 1, MOST_SCANS), ("row", 0, rows), ("number of dark scans", 0, MOST_SCANS))
     for word, (name, low, high) in zip(words, limits):
         if not re.fullmatch("0|[1-9][0-9]*", word) or not low <= int(word) <= high:
-            has = f"; the controller has {rows} order rows" if name == "row" else ""
+            has = f"; the controller has {rows} order row{'s' if rows != 1 else ''}" if name == "row" else ""
             yield Finding(15, "a number of a power failure out of its range", f"the {name} {word} is not {low} to {high}{has}", path)
     if path[-1]:
         before = path[:-1] + (path[-1] - 1,)

@@ -45,8 +45,9 @@ def at_once(function, items):
         return list(pool.map(function, items))
 
 
-def run_script(name, *words, stdin=None):
-    done = subprocess.run([os.path.join(TOP, "look", name), *words], capture_output=True, text=True, check=False, input=stdin)
+def run_script(name, *words, stdin=None, environment=None):
+    given = {**os.environ, **(environment or {})}
+    done = subprocess.run([os.path.join(TOP, "look", name), *words], capture_output=True, text=True, check=False, input=stdin, env=given)
     return done.returncode, done.stdout, done.stderr
 
 

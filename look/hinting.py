@@ -50,7 +50,9 @@ class ControllerHints:
         self.found = []
         self.places = list(one.cells())
         self.mstrs = [place for place in self.places if place[2].name == "MSTR"]
-        self.from_outside = self.written_from_outside()
+        self.from_outside = {reference for access in self.written_from_outside() for reference in access.references()}
+        self.looked_at = self.read_from_outside()
+        self.reach = {}
         self.writers = defaultdict(list)
         for place in self.places:
             if place[2].name != "MSTR":
@@ -127,10 +129,11 @@ class ControllerHints:
         return found
 
     def is_from_outside(self, reference):
-        return any(access.has(reference) for access in self.from_outside)
+        return reference in self.from_outside
 
-    def may_be_written_by(self, other, reference):
-        """Whether an MSTR of another controller may write a register here."""
+    def windows_of(self, other):
+        """The registers here that the MSTRs of another controller may write: ranges, from each first one to the one behind its last."""
+        windows = set()
         for _, _, cell in other.mstrs:
             operations, routes = other.operations(cell), other.routes(cell)
             starts, lengths = (other.constants(register(cell.operands[0], offset)) for offset in (3, 2))
@@ -138,11 +141,14 @@ class ControllerHints:
                 continue
             if routes is not None and self.one.node not in {route[-1] for route in routes if route}:
                 continue
-            if starts is None or lengths is None:
-                return True
-            if any(start <= int(reference[1:]) < start + length for start in starts for length in lengths):
-                return True
-        return False
+            windows |= {(0, 10000)} if starts is None or lengths is None else {(start, start + length) for start in starts for length in lengths}
+        return windows
+
+    def may_be_written_by(self, other, reference):
+        """Whether an MSTR of another controller may write a register here."""
+        if other not in self.reach:
+            self.reach[other] = self.windows_of(other)
+        return any(first <= int(reference[1:]) < end for first, end in self.reach[other])
 
     def all_readers(self):
         """What looks at a reference: cells, and what is not in a network."""
@@ -167,8 +173,8 @@ class ControllerHints:
             for offset in range(min(int(length), max(lengths))):
                 found[register(area, offset)].append(place)
 
-    def looked_at(self, reference):
-        """Whether something other than a network looks at a reference."""
+    def read_from_outside(self):
+        """The references that something other than a network looks at."""
         outs = []
         for drop in self.one.table.get("drop", []):
             for module in drop["modules"]:
@@ -180,8 +186,8 @@ class ControllerHints:
             for kind, address, quantity, is_write in self.requests()
             if not is_write and address < 9984
         ]
-        is_control = any(row[1] == reference for row in self.one.orders)
-        return reference in self.one.panel or is_control or any(access.has(reference) for access in outs)
+        controls = {row[1] for row in self.one.orders}
+        return {*self.one.panel} | controls | {reference for access in outs for reference in access.references()}
 
     # The hints.
 
@@ -200,10 +206,12 @@ class ControllerHints:
 
     def power(self, segment, network):
         """Cells that no power can reach: nothing to their left ever gives any."""
-        live, dark = set(range(1, 8)), set()
-        for column in range(1, 12):
+        live, dark, columns = set(range(1, 8)), set(), defaultdict(list)
+        for cell in network.cells:
+            columns[cell.column].append(cell)
+        for column in range(1, max(columns, default=0) + 1):
             out = set()
-            for cell in (cell for cell in network.cells if cell.column == column):
+            for cell in columns[column]:
                 has_top = cell.row in live
                 if not has_top and (cell.row, column - 1) not in dark:
                     where = f"nothing gives any at row {cell.row} to the left of column {column}"
@@ -273,7 +281,7 @@ class ControllerHints:
             cell = place[2]
             if cell.name in ladder.COILS:
                 reference = cell.operands[0]
-                if not self.readers.get(reference) and not self.looked_at(reference):
+                if not self.readers.get(reference) and reference not in self.looked_at:
                     self.at(place, f"nothing reads {reference}")
 
     def never_written(self, others):
@@ -317,7 +325,7 @@ class ControllerHints:
         for other in network.cells:
             rows = range(other.row, other.row + ladder.NODES[other.name])
             is_wired = is_wired or (other.column == cell.column + 1 and any(row in rows for row, _ in ends))
-        if not is_wired and not self.readers.get(status) and not self.looked_at(status):
+        if not is_wired and not self.readers.get(status) and status not in self.looked_at:
             self.at(place, f"its status is never looked at: neither {status} nor its middle and bottom outputs")
         operations = self.operations(cell) or set()
         routes = self.routes(cell) or [] if operations & set(ROUTED) else []

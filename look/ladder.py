@@ -22,6 +22,8 @@ class Access:
     writes: bool
 
     def references(self):
+        if self.count == 1:
+            return [self.first]
         start = int(self.first[1:])
         return [f"{self.first[0]}{number:04}" for number in range(start, start + self.count)]
 

@@ -6,9 +6,10 @@ import os
 import ladder
 import journal as journals
 import modbus
+import packing
 
 FOLDER = os.path.join(os.path.dirname(os.path.abspath(__file__)), "page")
-SCRIPTS = ("reading.js", "layout.js", "timing.js", "messages.js", "networks.js", "page.js")
+SCRIPTS = ("reading.js", "names.js", "layout.js", "timing.js", "messages.js", "web.js", "flow.js", "networks.js", "page.js")
 
 
 def part(name):
@@ -25,6 +26,7 @@ def in_script(data):
 
 
 def fill_in(title, data):
+    data = data | {"runs": [packing.packed_run(run) for run in data["runs"]]}
     scripts = "\n".join(part(name) for name in SCRIPTS)
     holes = {"title": html.escape(title), "style": part("page.css"), "data": in_script(data), "script": scripts}
     page = part("page.html")
@@ -85,8 +87,8 @@ def place(first, count, does, what, at, **more):
 DOES = {(True, False): "reads", (False, True): "drives", (True, True): "reads and drives"}
 
 
-def places_of(one, plant, calls):
-    """Each place that reads or drives a reference of a controller."""
+def places_of(one):
+    """Each place in a plant that reads or drives a reference of a controller; the page adds the requests of a run."""
     found = []
     for segment, network, cell in one.cells():
         at = f"segment {segment.number} network {network.number}"
@@ -103,13 +105,25 @@ def places_of(one, plant, calls):
             size = int(count[0]) if count else 16
             does = "drives" if kind in ("in", "inw") else "reads"
             found.append(place(first, size, does, module, f"drop {drop['number']}"))
-    for call in calls.values() if calls else ():
-        if call.pdu and call.served and call.served[0] == one.node:
-            for kind, address, quantity, writes in modbus.touched(call.pdu):
-                if address < 9984:
-                    who = f"request {call.id} of node {call.node}, in scan {call.served[1]}"
-                    found.append(place(f"{kind}{address + 1:04}", quantity, "drives" if writes else "reads", call.words, who))
     return found
+
+
+def requests_at(node, calls):
+    """What the requests of a run that a node served read or write there, as places."""
+    return [
+        place(first, count, "drives" if writes else "reads", call["words"], f"request {call['id']} of node {call['node']}, in scan {call['served'][1]}")
+        for call in calls
+        if call["touched"] and call["served"][0] == node
+        for first, count, writes in call["touched"]
+    ]
+
+
+def touched_by(call, last):
+    """What a request that was served, under its last name, reads or writes: first reference, count, and whether it writes; None where it is nothing."""
+    if call.kind == "bridge" or not call.pdu or not last.served:
+        return None
+    found = [[f"{kind}{address + 1:04}", quantity, writes] for kind, address, quantity, writes in modbus.touched(call.pdu) if address < 9984]
+    return found or None
 
 
 def call_data(call, last, rows_scan):
@@ -133,6 +147,7 @@ def call_data(call, last, rows_scan):
         "result": call.result,
         "tries": len(call.sends),
         "lines": call.lines,
+        "touched": touched_by(call, last),
     }
 
 
@@ -164,19 +179,43 @@ def run_data(name, plant, panel, verdict, journal=None, scans=0, note=""):
         "name": name,
         "verdict": verdict,
         "note": note,
+        "scan_time": plant.document.get("scan_time", 10),
         "values": values,
         "lasts": panel.scans,
         "stops": panel.stops,
         "dark": panel.dark,
         "calls": listed,
         "rows": rows,
+        "journal": journal.text() if journal else "",
         "nodes": sorted({*plant.nodes, *(journal.ends() if journal else ())}),
     }
     return data, calls
 
 
-def plant_data(plant, calls):
-    controllers = [controller_data(one, places_of(one, plant, calls.by_id if calls else None)) for one in plant.controllers]
+def web_data(plant):
+    """The network of each station and of each end of a bridge, and the bridges; nothing in version 1."""
+    if not plant.is_version_two:
+        return {"networks": {}, "bridges": []}
+    networks = {node: plant.network_of(node) for node in plant.nodes} | {address: network for network, address in plant.across}
+    # Both ends of a bridge stand there, one behind the other.
+    bridges = [[left_net, left, right_net, right] for (left_net, left), (right_net, right) in list(plant.across.items())[::2]]
+    return {"networks": networks, "bridges": bridges}
+
+
+def names_data(plant, names):
+    """What the references of each controller are called, with the unit and the scale of a value."""
+    named = {(one.node, name.reference): names.of(one.node, name.reference) for one in plant.controllers for name in names.by_place.values()}
+    data = {one.node: {} for one in plant.controllers}
+    for (node, reference), name in named.items():
+        if name:
+            # Whole numbers of the last decimal place.
+            scale = [int(number.scaleb(name.decimals)) for number in (name.factor, name.offset)] if name.is_measure else []
+            data[node][reference] = [name.text, name.unit, *scale, *([name.decimals] if scale else [])]
+    return {node: of_node for node, of_node in data.items() if of_node}
+
+
+def plant_data(plant, names):
+    controllers = [controller_data(one, places_of(one)) for one in plant.controllers]
     head = []
     for line, text in plant.comments:
         if line != len(head) + 1:
@@ -184,7 +223,8 @@ def plant_data(plant, calls):
         head.append(text)
     return {
         "head": head,
+        "names": names_data(plant, names),
         "hosts": [host["node"] for host in plant.hosts],
         "controllers": controllers,
-        "scan_time": plant.document.get("scan_time", 10),
+        **web_data(plant),
     }

@@ -55,18 +55,19 @@ def differing(old, new, node, references):
     return found
 
 
-def value_text(run, node, reference, scan):
+def value_text(run, node, reference, scan, names):
     """The value of a reference, or why there is none."""
     value = dict(run.panel.values.get(node, {}).get(reference, [])).get(scan)
     if value is not None:
-        return str(value)
+        return names.told_value(node, reference, value)
     if scan in run.panel.dark.get(node, []):
         return "without power"
     return "stopped" if node in run.panel.stops else "no value"
 
 
-def compare_controller(old, new, node, scans, are_journals):
-    """Lines that say how a controller differs, and the ranges of scans by reference."""
+def compare_controller(old, new, node, scans, names, are_journals, cause_of):
+    """Lines that say how a controller differs, and the ranges of scans by reference. What made the first difference a function tells by the node, the
+    scan and the reference."""
     lines = []
     stops = [run.panel.stops.get(node) for run in (old, new)]
     if stops[0] != stops[1]:
@@ -85,16 +86,20 @@ def compare_controller(old, new, node, scans, are_journals):
     scan = min(scans[0] for scans in found.values())
     first = solving.first_of(controllers, [reference for reference in found if found[reference][0] == scan], order)
     all_scans = sorted(set().union(*found.values()))
-    values = [value_text(run, node, first, scan) for run in (old, new)]
-    rest = [reference for reference in sorted(found, key=order.get) if reference != first]
+    values = [value_text(run, node, first, scan, names) for run in (old, new)]
+    rest = [names.told(node, reference) for reference in sorted(found, key=order.get) if reference != first]
     also = f"; also {', '.join(rest[:12])}{f' and {len(rest) - 12} more' if len(rest) > 12 else ''}" if rest else ""
     told = f"which was {values[0]} and is {values[1]}"
     if are_journals:
         told = f"{values[0]} in {old.name} and {values[1]} in {new.name}"
     lines.append(
-        f"controller {node}: first in scan {scan} at {first}, {told}; "
+        f"controller {node}: first in scan {scan} at {names.told(node, first)}, {told}; "
         f"{len(all_scans)} of {scans} scans differ ({ranges_text(ranges_of(all_scans))}){also}"
     )
+    is_stop = any(stop and stop[0] == scan for stop in stops)
+    cause = "" if any(scan in scans_ for scans_ in dark) else cause_of(node, scan, None if is_stop else first)
+    if cause:
+        lines.append(f"controller {node}: {names.in_text(node, cause)}")
     return lines, {reference: ranges_of(list_) for reference, list_ in found.items()}
 
 
@@ -141,7 +146,12 @@ def lines_of_calls(pairs, most=40):
     return lines[:most] + ([f"and {len(lines) - most} more requests"] if len(lines) > most else [])
 
 
-def compare(old, new, scans, are_journals=False):
+def no_cause(_node, _scan, _reference):
+    """Nothing is told of what made a difference."""
+    return ""
+
+
+def compare(old, new, scans, names, are_journals=False, cause_of=no_cause):
     """All that differs: lines on controllers and requests, ranges of scans by node and reference, and all requests."""
     lines, ranges = [], {}
     for name, mine, others in ((old.name, old, new), (new.name, new, old)):
@@ -150,7 +160,7 @@ def compare(old, new, scans, are_journals=False):
                 lines.append(f"controller {one.node}: only in {name}")
     for one in old.plant.controllers:
         if new.plant.controller(one.node):
-            more, ranges[one.node] = compare_controller(old, new, one.node, scans, are_journals)
+            more, ranges[one.node] = compare_controller(old, new, one.node, scans, names, are_journals, cause_of)
             lines += more
     calls = pair_calls(old, new, are_journals)
     sides = ["1st", "2nd"] if are_journals else ["was", "is"]

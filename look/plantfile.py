@@ -30,13 +30,17 @@ class Cell:
     name: str
     operands: list
     line: int
+    # What was found, since it is asked for again and again.
+    found: list = None
 
     @property
     def text(self):
         return " ".join([f"{self.row},{self.column}", self.name, *self.operands])
 
     def accesses(self):
-        return [] if self.name == "V" else ladder.accesses(self.name, self.operands)
+        if self.found is None:
+            self.found = [] if self.name == "V" else ladder.accesses(self.name, self.operands)
+        return self.found
 
 
 @dataclass

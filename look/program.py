@@ -9,6 +9,7 @@ from concurrent.futures import ThreadPoolExecutor
 TOP = os.path.dirname(os.path.dirname(os.path.abspath(__file__)))
 sys.path.append(os.path.join(TOP, "launcher"))
 import journal as journals  # noqa: E402
+from names import names_beside, names_for  # noqa: E402, F401
 from output import WRITE_FAULT, end_unread, named, say, write  # noqa: E402, F401
 
 LAUNCHER = os.path.join(TOP, "plant984")
@@ -51,24 +52,25 @@ class ProgramEnd(Exception):
         self.status, self.text = status, text
 
 
-def call(words, data=b"", file=None):
-    """What the program writes for these words and this input, which is that of a file where it comes from one."""
+def call(words, data=b"", file=None, quiet=False):
+    """What the program writes for these words and this input, which is that of a file where it comes from one. Where it is to be quiet nothing is
+    said on standard error."""
     command = [os.environ.get("PLANT984_PROGRAM", LAUNCHER), *(["--unproved"] if UNPROVED else []), *words]
     if file is not None and os.path.isfile(file):
         # So the launcher can show the lines of a refused plant.
         with open(file, "rb") as source:
             status, out = ended(command, source)
     else:
-        status, out = ended(command, subprocess.PIPE, data)
+        status, out = ended(command, subprocess.PIPE, data, subprocess.DEVNULL if quiet else None)
     text = out.decode(errors="replace")
     if status != 0:
         raise ProgramEnd(status, text)
     return text
 
 
-def ended(command, source, data=None):
-    """The status of a run and what it wrote."""
-    with subprocess.Popen(command, stdin=source, stdout=subprocess.PIPE) as child:
+def ended(command, source, data=None, said=None):
+    """The status of a run and what it wrote; what it says goes where `said` tells."""
+    with subprocess.Popen(command, stdin=source, stdout=subprocess.PIPE, stderr=said) as child:
         running.add(child)
         try:
             out, _ = child.communicate(data)
@@ -82,13 +84,14 @@ def merge(panel, other):
         panel.values.setdefault(node, {}).update(values)
 
 
-def all_values(plant, scans, panel, journal_text=None):
+def all_values(plant, scans, panel, journal_text=None, told=None):
     """Adds to a panel the values of all other references that the plant names, by runs of copies with other panels."""
     others = {one.node: one.references()[1] for one in plant.controllers}
-    add_values(plant, scans, panel, others, journal_text)
+    add_values(plant, scans, panel, others, journal_text, told)
 
 
-def add_values(plant, scans, panel, others, journal_text=None):
+def add_values(plant, scans, panel, others, journal_text=None, told=None):
+    """The same for some references of each controller; `told` hears how many of the runs are done."""
     copies = []
     for start in range(0, max((len(references) for references in others.values()), default=0), PANEL):
         copies.append(plant.with_panels({node: list_[start : start + PANEL] for node, list_ in others.items()}))
@@ -98,8 +101,10 @@ def add_values(plant, scans, panel, others, journal_text=None):
         return journals.read_panel(call(words, (copy + (journal_text or "")).encode()))
 
     with ThreadPoolExecutor(AT_ONCE) as pool:
-        for other in pool.map(run, copies):
+        for count, other in enumerate(pool.map(run, copies), 1):
             merge(panel, other)
+            if told:
+                told(count, len(copies))
 
 
 def read_file(name):

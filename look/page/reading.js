@@ -2,8 +2,41 @@
 // What the page was given, and what a run had at a scan. Nothing here computes a value: all are the program's.
 
 const data = JSON.parse(document.getElementById('data').textContent);
-const runs = data.runs;
+const runs = data.runs.map(unpackRun);
 const isPair = runs.length === 2;
+
+// Lists of records come as columns: look/packing.py says how.
+function unpack({count, columns}) {
+  const records = Array.from({length: count}, () => ({}));
+  for (const key in columns) fillColumn(records, key, columns[key]);
+  return records;
+}
+
+function fillColumn(records, key, {steps, table, at, runs}) {
+  if (at) { at.forEach((place, number) => { records[number][key] = table[place]; }); return; }
+  const pairs = steps || runs;
+  let number = 0, sum = 0;
+  for (let pair = 0; pair < pairs.length; pair += 2) {
+    for (let left = pairs[pair + 1]; left > 0; left--) {
+      sum += pairs[pair];
+      records[number++][key] = steps ? sum : table[pairs[pair]];
+    }
+  }
+}
+
+function unpackRun(run) {
+  const calls = unpack(run.calls), text = run.journal.split('\n');
+  for (const call of calls) {
+    let line = 0;
+    call.lines = call.lines.map(step => line += step);
+  }
+  const heads = text.flatMap((one, place) => (/^[CHWR]( \d+)*$/.test(one) ? [place + 1] : []));
+  return {...run, calls, rows: unpack(run.rows), text, heads, byId: new Map(calls.map((call, number) => [call.id, number]))};
+}
+
+// A line of the journal, and the one that begins its section.
+function lineOf(run, line) { return run.text[line - 1]; }
+function sectionOf(run, line) { return lineOf(run, run.heads.findLast(head => head < line)); }
 
 // The last entry of a list of changes (scan, value, scan, value, ..) that is not behind a scan.
 function lastChange(changes, scan) {
@@ -47,7 +80,7 @@ function valuesOf(run, node, panel, scan) {
 }
 
 // The places of a plant that read or drive a reference: those that drive it first.
-function placesOf(reference) {
+function placesOf(reference, run) {
   const found = [];
   for (const controller of data.plant.controllers) {
     for (const place of controller.places) {
@@ -56,11 +89,18 @@ function placesOf(reference) {
     }
     if (controller.panel.includes(reference)) found.push({node: controller.node, does: 'shows', what: reference, at: 'panel'});
   }
+  for (const call of run.calls) {
+    for (const [first, count, writes] of call.touched || []) {
+      const offset = Number(reference) - Number(first), at = `request ${call.id} of node ${call.node}, in scan ${call.served[1]}`;
+      if (first[0] !== reference[0] || offset < 0 || offset >= count) continue;
+      found.push({node: call.served[0], does: writes ? 'drives' : 'reads', what: call.words, at});
+    }
+  }
   const order = {'drives': 0, 'reads and drives': 1, 'reads': 2, 'shows': 3};
   return found.sort((one, other) => one.node - other.node || order[one.does] - order[other.does]);
 }
 
-function callOf(run, id) { return run.calls.find(call => call.id === id); }
+function callOf(run, id) { return run.calls[run.byId.get(id)]; }
 
 // When a call began or ended, in words.
 function whenOf(at) {

@@ -18,6 +18,18 @@ function make(parent, name, attributes, text) {
   return element;
 }
 
+// Lets an element be pressed: by a click, or by Enter or the space bar once Tab has come to it. The action hears whether it was by key.
+function pressable(element, action) {
+  element.setAttribute('tabindex', 0);
+  element.setAttribute('role', 'button');
+  element.addEventListener('click', () => action(false));
+  element.addEventListener('keydown', event => {
+    if (event.key !== 'Enter' && event.key !== ' ') return;
+    event.preventDefault();
+    action(true);
+  });
+}
+
 function drawTiming(view) {
   const {box, svg, scale, rows} = view;
   scale.width = box.clientWidth;
@@ -26,16 +38,33 @@ function drawTiming(view) {
   svg.setAttribute('width', scale.width);
   svg.setAttribute('height', height);
   svg.replaceChildren();
-  drawColumns(svg, scale, height, view.cursor);
+  view.drawn = {height, labels: []};
+  drawColumns(svg, scale, height, view.drawn);
   const begin = Math.floor(box.scrollTop / ROW);
   const end = Math.min(rows.length, begin + Math.ceil(height / ROW) + 1);
   const plot = draw(svg, 'g', {'clip-path': 'url(#below-axis)'});
   for (let number = begin; number < end; number++) drawRow(plot, view, rows[number], AXIS + number * ROW - box.scrollTop);
-  drawAxis(svg, scale, view.cursor, height);
+  drawAxis(svg, scale, height, view.drawn);
+  drawCursor(view);
+}
+
+// What moves with the cursor: its column, the values at it, and the measure up to it.
+function drawCursor(view) {
+  const {scale, cursor, drawn} = view;
+  drawn.column.setAttribute('x', scale.x(cursor - 1));
+  drawn.at.textContent = cursor;
+  for (const {row, y, named, value} of drawn.labels) {
+    const held = valueAt(runs[row.run], row.node, row.reference, cursor);
+    value.textContent = held === null ? '–' : held;
+    value.classList.toggle('on', !!held);
+    named.replaceChildren();
+    drawNamed(named, row, held, y + 17, isPair ? 92 : 56);
+  }
+  drawMeasure(view);
 }
 
 // The scans as columns, that of the cursor marked.
-function drawColumns(svg, scale, height, cursor) {
+function drawColumns(svg, scale, height, drawn) {
   const clips = draw(svg, 'defs', {});
   draw(draw(clips, 'clipPath', {id: 'below-axis'}), 'rect', {x: 0, y: AXIS, width: scale.width, height});
   draw(draw(clips, 'clipPath', {id: 'right-of-labels'}), 'rect', {x: LABEL, y: 0, width: scale.width, height: height + ROW});
@@ -47,23 +76,72 @@ function drawColumns(svg, scale, height, cursor) {
   for (let scan = Math.ceil(scale.first / step) * step; scan <= scale.last; scan += step) {
     draw(inside, 'line', {x1: scale.x(scan), x2: scale.x(scan), y1: AXIS, y2: height, class: 'grid'});
   }
-  draw(inside, 'rect', {x: scale.x(cursor - 1), y: 0, width: Math.max(2, scale.zoom), height, class: 'cursor'});
+  drawn.column = draw(inside, 'rect', {y: 0, width: Math.max(2, scale.zoom), height, class: 'cursor'});
 }
 
-function drawAxis(svg, scale, cursor, height) {
+function drawAxis(svg, scale, height, drawn) {
   draw(svg, 'rect', {x: 0, y: 0, width: LABEL, height: AXIS, class: 'corner'});
   draw(svg, 'text', {x: 8, y: 16, class: 'axis'}, 'after scan');
-  draw(svg, 'text', {x: LABEL - 8, y: 16, class: 'axis at', 'text-anchor': 'end'}, cursor);
+  drawn.at = draw(svg, 'text', {x: LABEL - 8, y: 16, class: 'axis at', 'text-anchor': 'end'});
   const inside = draw(svg, 'g', {'clip-path': 'url(#right-of-labels)'});
   const step = scale.step();
   for (let scan = Math.max(step, Math.floor(scale.first / step) * step); scan <= scale.last; scan += step) {
     draw(inside, 'text', {x: (scale.x(scan - 1) + scale.x(scan)) / 2, y: 16, class: 'axis', 'text-anchor': 'middle'}, scan);
   }
   draw(svg, 'line', {x1: LABEL, x2: LABEL, y1: 0, y2: height, class: 'edge'});
+  drawn.measure = draw(svg, 'g', {'clip-path': 'url(#right-of-labels)', class: 'measure'});
+}
+
+// From the mark's edge to the cursor's: a value that a scan changed has its edge where the scan's column begins.
+function drawMeasure(view) {
+  const {scale, cursor, mark, drawn} = view, group = drawn.measure;
+  group.replaceChildren();
+  if (!mark) return;
+  const from = scale.x(mark.scan - 1), to = scale.x(cursor - 1), y = AXIS - 4;
+  for (const x of [from, to]) draw(group, 'line', {x1: x, x2: x, y1: y - 6, y2: drawn.height, class: 'limit'});
+  draw(group, 'path', {d: `M${from - 5} 2h10l-5 8z`, class: 'flag'});
+  if (from === to) return;
+  const side = to > from ? 1 : -1;
+  draw(group, 'path', {d: `M${from} ${y}H${to}M${to - 6 * side} ${y - 3}L${to} ${y}l${-6 * side} 3`, class: 'span'});
+  const text = spanWords(view, cursor - mark.scan), width = text.length * 6.5 + 8, middle = (from + to) / 2;
+  if (Math.abs(to - from) < width + 14) return;
+  draw(group, 'rect', {x: middle - width / 2, y: 1, width, height: AXIS - 8, class: 'side'});
+  draw(group, 'text', {x: middle, y: 13, 'text-anchor': 'middle', class: 'axis at'}, text);
+}
+
+// A number of scans, with the seconds that they take in the run of the chosen row.
+function spanWords(view, scans) {
+  const {scan_time: time} = runs[view.row < 0 ? 0 : view.rows[view.row].run];
+  const count = Math.abs(scans), seconds = String(Number((count * time / 100).toFixed(2)));
+  return `${count} scan${count === 1 ? '' : 's'}, ${seconds} s`;
+}
+
+// The edges of a row in rising order: the scans in which its value is another than before, or in which a call began or ended.
+function edgesOf(row) {
+  const scans = new Set(), run = runs[row.run];
+  if (row.kind === 'calls') {
+    for (const {began, ended} of row.calls) for (const at of [began, ended]) if (at && at[0]) scans.add(at[0]);
+    return [...scans].sort((one, other) => one - other);
+  }
+  const changes = (run.values[row.node] || {})[row.reference] || [];
+  for (let place = 0; place < changes.length; place += 2) {
+    // Before the first scan everything is 0.
+    if (place || changes[1]) scans.add(changes[place]);
+  }
+  return [...scans];
+}
+
+// What happened in a row at a scan, in words.
+function edgeWords(row, scan) {
+  if (!row || row.kind === 'head' || !edgesOf(row).includes(scan)) return `scan ${scan}`;
+  if (row.kind === 'calls') return `a call of node ${row.node} in scan ${scan}`;
+  const told = [scan - 1, scan].map(one => valueAt(runs[row.run], row.node, row.reference, one));
+  const numbers = told.map(one => (one === null ? '–' : numberOf(row.node, row.reference, one)));
+  return `${row.reference} ${numbers.join('→')}${unitOf(row.node, row.reference)} in scan ${scan}`;
 }
 
 function drawRow(plot, view, row, y) {
-  const {scale, cursor} = view;
+  const {scale} = view;
   if (row.kind === 'head') {
     draw(plot, 'rect', {x: 0, y, width: scale.width, height: ROW, class: 'head'});
     draw(plot, 'text', {x: 8, y: y + 17, class: 'name'}, row.text);
@@ -71,7 +149,7 @@ function drawRow(plot, view, row, y) {
   }
   const run = runs[row.run];
   const inside = draw(plot, 'g', {'clip-path': 'url(#right-of-labels)'});
-  drawLabel(plot, view, row, run, y);
+  drawLabel(plot, view, row, y);
   if (row.kind === 'calls') {
     drawCalls(inside, view, row, run, y);
     return;
@@ -87,21 +165,23 @@ function drawRow(plot, view, row, y) {
   draw(plot, 'line', {x1: 0, x2: scale.width, y1: y + ROW, y2: y + ROW, class: 'under'});
 }
 
-function drawLabel(plot, view, row, run, y) {
-  const side = isPair ? ' ' + data.pair.sides[row.run] : '';
-  const group = draw(plot, 'g', {class: 'label'});
+function drawLabel(plot, view, row, y) {
+  const side = isPair ? ' ' + data.pair.sides[row.run] : '', isChosen = row === view.rows[view.row];
+  const group = draw(plot, 'g', {class: isChosen ? 'label chosen' : 'label'});
   draw(group, 'rect', {x: 0, y, width: LABEL, height: ROW, class: 'side'});
+  if (isChosen) draw(group, 'path', {d: `M0 ${y + 6}l6 7l-6 7z`, class: 'flag'});
   if (row.kind === 'calls') {
     draw(group, 'text', {x: 8, y: y + 17, class: 'name'}, 'calls' + side);
     return;
   }
-  const value = valueAt(run, row.node, row.reference, view.cursor);
   const name = draw(group, 'text', {x: 8, y: y + 17, class: 'name link'}, row.reference + side);
-  name.addEventListener('click', () => view.find(row.reference));
-  draw(group, 'text', {
-    x: LABEL - 8, y: y + 17, 'text-anchor': 'end', class: 'value' + (value ? ' on' : ''),
+  pressable(name, byKey => view.find(row.reference, byKey));
+  const named = draw(group, 'g', {});
+  const value = draw(group, 'text', {
+    x: LABEL - 8, y: y + 17, 'text-anchor': 'end', class: 'value',
     'data-node': row.node, 'data-reference': row.reference, 'data-run': row.run,
-  }, value === null ? '–' : value);
+  });
+  view.drawn.labels.push({row, y, named, value});
 }
 
 // A discrete: a line that is high or low, filled below where it is on. Narrow fills are drawn as one.
@@ -153,8 +233,9 @@ function drawBand(plot, scale, span, left, right, y, row) {
   const d = `M${left} ${middle}L${left + slant} ${top}H${right - slant}L${right} ${middle}L${right - slant} ${low}H${left + slant}Z`;
   draw(plot, 'path', {d, class: 'band', ...marksOf(row, span)});
   const seenLeft = Math.max(left, LABEL), seenRight = Math.min(right, scale.width);
-  if (seenRight - seenLeft > 8 + String(span.value).length * 7) {
-    draw(plot, 'text', {x: (seenLeft + seenRight) / 2, y: y + 17, class: 'number', 'text-anchor': 'middle'}, span.value);
+  const number = numberOf(row.node, row.reference, span.value);
+  if (seenRight - seenLeft > 8 + number.length * 7) {
+    draw(plot, 'text', {x: (seenLeft + seenRight) / 2, y: y + 17, class: 'number', 'text-anchor': 'middle'}, number);
   }
 }
 

@@ -150,7 +150,7 @@ pub record LeavesBridge (alone_bridge alone_ring : Bool) (n : ℕ) (list new_lis
   pub none_waits : calls_waiting n new_ring ≡ []
   pub gone : WentOn alone_bridge (is_by n) given_list (Gone n ∷ []) new_list
 
--- What comes behind the last entry of a turn: nothing after a Pass.
+-- What comes after the last entry of a turn: nothing after a Pass.
 abbrev pub LeavesIf : Bool → Bool → Bool → ℕ → List BridgeEntry → List BridgeEntry
     → List RingEntry → List RingEntry → Type 0
 LeavesIf true alone_bridge alone_ring n list new_list ring new_ring =
@@ -176,7 +176,7 @@ pub record EndsEndTurn (alone_bridge alone_ring : Bool) (plan : BridgePlan) (net
 
 -- ---- The whole.
 
--- There are some of these.
+-- Whether a list has an item.
 abbrev pub are_some : {E : Type 0} → List E → Bool
 are_some [] = false
 are_some (e ∷ es) = true

@@ -43,7 +43,7 @@ module _ {B P R Q : Type 0} (b : bridge_sides.Ghosts B P) (r : ring_sides.Ghosts
   TurningBetween n bridge ring =
       EndTurning n (b.bridge bridge) (b.known bridge) (r.side ring) (r.known ring)
 
-  -- It took this frame, to which nothing was done yet.
+  -- A worker of a bridge's end took a frame, to which nothing was done yet.
   abbrev pub TakingBetween : ℕ → Frame → B → R → Type 0
   TakingBetween n f bridge ring =
       EndTaking n f (b.bridge bridge) (b.known bridge) (r.side ring) (r.known ring)
@@ -58,7 +58,7 @@ module _ {B P R Q : Type 0} (b : bridge_sides.Ghosts B P) (r : ring_sides.Ghosts
     pub station : BridgeStep b n bridge bridge'
     pub node : RingStep r n ring ring'
 
-  -- Both lists went on by what is due.
+  -- A part of a turn at both, the bridge and the ring: both lists went on by what is due.
   abbrev pub PartOver : ℕ → (List BridgeEntry → List RingEntry → Type 0) → B → B → R → R → Type 0
   PartOver n Due bridge bridge' ring ring' = PartOf b.alone r.alone (is_by n) n Due
       (b.known bridge) (b.known bridge') (r.known ring) (r.known ring')
@@ -106,7 +106,8 @@ module _ {B P R Q : Type 0} (b : bridge_sides.Ghosts B P) (r : ring_sides.Ghosts
       (InOrder (EndGivesUp n) (due_calls (r.side ring).net n (r.known ring) paths))
       bridge bridge' ring ring'
 
-  -- Those of the paths that an array chooses were.
+  -- The calls of the paths that an array chooses were given up and finished, in order, where that
+  -- was due.
   abbrev pub GivesUp : ℕ → List Bool → B → B → R → R → Type 0
   GivesUp n chosen bridge bridge' ring ring' =
       GivesUpBy n (chosen_paths chosen) bridge bridge' ring ring'

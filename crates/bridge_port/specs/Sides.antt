@@ -27,7 +27,7 @@ abbrev pub EndAddsNothing : {S : Type 0} → Bool → (S → List BridgeEntry) �
 EndAddsNothing alone known side old new =
     WentOn alone (is_by side) (known old) [] (known new)
 
--- Entries of the other end came, and then what was due behind them, with this frame; no frame
+-- Entries of the other end came, and then what was due after them, with this frame; no frame
 -- exactly where nothing was due.
 pub record MakesDue (alone : Bool) (side : ℕ) (due : List BridgeEntry → Option BridgeEntry)
     (IsItsFrame : List BridgeEntry → Frame → Type 0) (old new : List BridgeEntry)

@@ -33,7 +33,7 @@ HoldingEndsAreThere =
     → StandsEnd side station net ring → Holds net ring side
     → end_has_left side station ≡ false
 
--- A bridge stands on both of its rings behind a hold by one of its ends, as the other end stood.
+-- A bridge stands on both of its rings after a hold by one of its ends, as the other end stood.
 pub record StandsBehindHolds (old new : BridgeStationIs) (ring new_ring : KeptRing)
     (net : NetPlan) (entries : List RingEntry) : Type 0 where
   pub left : HeldByEnd old.bridge.plan.left old new ring new_ring
@@ -51,7 +51,7 @@ BridgesStandBehindHolds =
     (entries : List RingEntry) → IsBridgePlan old.bridge.plan
     → StandsBehindHolds old new ring new_ring net entries
 
--- Both ends of a bridge are complete, each on the ring of its network.
+-- A bridge is complete: each of its two ends is, on the ring of its network.
 pub record IsCompleteBetween (station : BridgeStationIs) (left_net : NetPlan)
     (left_ring : List RingEntry) (right_net : NetPlan) (right_ring : List RingEntry)
     : Type 0 where

@@ -18,7 +18,7 @@ pub fn holding_ends_are_there()
     ensures { HoldingEndsAreThere }
 {}
 
-/// A bridge stands on both of its rings behind a hold by one of its ends.
+/// A bridge stands on both of its rings after a hold by one of its ends.
 pub fn bridges_stand_behind_holds()
     ensures { BridgesStandBehindHolds }
 {}

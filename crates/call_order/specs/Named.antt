@@ -1,4 +1,4 @@
--- What stands behind what on the one order of a ring of a joint history and of the stations there,
+-- What stands after what on the one order of a ring of a joint history and of the stations there,
 -- by the names of calls. This project's own.
 use Rattle.std.specs.Prelude.{◌≡◌, ◌⊎◌, ℕ, List, [], ◌∷◌, ◌++◌, map, filter_map, Some, None}
 use Rattle.std.specs.List.{cons_option, flat_map, Contains, AllByRecursion as Each}
@@ -92,7 +92,7 @@ Order = List (Event StationEntry RingEntry)
 abbrev pub own_in : ℕ → Order → List RingEntry
 own_in n front = own_of maker n (on_ring front)
 
--- Each Request that the node posted stands behind the entry that asked it, of its name, by its
+-- Each Request that the node posted stands after the entry that asked it, of its name, by its
 -- route and with its bytes.
 abbrev pub PostsFollowAsks : ℕ → Order → Type 0
 PostsFollowAsks n order = (before after : Order) (f : Frame)
@@ -100,14 +100,14 @@ PostsFollowAsks n order = (before after : Order) (f : Frame)
     → Contains (flat_map asks_in (at_station n before))
     (record { id = f.id; route = frame_route f; pdu = f.pdu })
 
--- Each answer of the station stands behind the Take of its request, of its name, addresses and
+-- Each answer of the station stands after the Take of its request, of its name, addresses and
 -- bytes.
 abbrev pub AnswersFollowTakes : ℕ → Order → Type 0
 AnswersFollowTakes n order = (before after : Order) (e : StationEntry) (answer : Answered)
     → order ≡ before ++ AtStation n e ∷ after → answers_in e ≡ answer ∷ []
     → Contains (flat_map takes_in (own_in n before)) (item_of answer)
 
--- So does each answer of the port to a request for statistics.
+-- Each answer of the port to a request for statistics stands after the Take of that request.
 abbrev pub PortAnswersFollowTakes : ℕ → Order → Type 0
 PortAnswersFollowTakes n order = (before after : Order) (r : RingEntry) (answer : Answered)
     → order ≡ before ++ AtRing r ∷ after → maker r ≡ n → port_answers_in r ≡ answer ∷ []
@@ -120,26 +120,26 @@ pub record Carries (f : Frame) (answers : List Answered) : Type 0 where
   pub call : answer.id ≡ f.id
   pub reply : answer.reply ≡ Some f.pdu
 
--- Each Reply that the node posted stands behind its answer, by the station or by the port.
+-- Each Reply that the node posted stands after its answer, by the station or by the port.
 abbrev pub ReplyPostsFollowAnswers : ℕ → Order → Type 0
 ReplyPostsFollowAnswers n order = (before after : Order) (f : Frame)
     → order ≡ before ++ AtRing (Post n f) ∷ after → f.kind ≡ Reply
     → Carries f (flat_map answers_in (at_station n before))
     ⊎ Carries f (flat_map port_answers_in (own_in n before))
 
--- It stands behind the Take of the request of its call, too.
+-- Each Reply that the node posted stands after the Take of the request of its call.
 abbrev pub ReplyPostsFollowTakes : ℕ → Order → Type 0
 ReplyPostsFollowTakes n order = (before after : Order) (f : Frame)
     → order ≡ before ++ AtRing (Post n f) ∷ after → f.kind ≡ Reply
     → TookCall (on_ring before) n f.id
 
--- Each end of a call stands behind what ended it, of its name.
+-- Each end of a call stands after what ended it, of its name.
 abbrev pub EndsFollowOvers : ℕ → Order → Type 0
 EndsFollowOvers n order = (before after : Order) (e : StationEntry) (id : CallId)
     → order ≡ before ++ AtStation n e ∷ after → ends_in e ≡ id ∷ []
     → Contains (flat_map overs_in (own_in n before)) id
 
--- Each Request that was taken stands behind its Post by the caller, and each Reply behind a Post of
+-- Each Request that was taken stands after its Post by the caller, and each Reply after a Post of
 -- it.
 abbrev pub TakesFollowPosts : Order → Type 0
 TakesFollowPosts order = (before after : Order) (n : ℕ) (f : Frame)
@@ -151,7 +151,7 @@ ReplyTakesFollowPosts order = (before after : Order) (n : ℕ) (f : Frame)
     → order ≡ before ++ AtRing (Take n f) ∷ after → f.kind ≡ Reply
     → (by : ℕ) × Contains (on_ring before) (Post by f)
 
--- So stand the entries of all calls of some stations on a ring.
+-- The entries of all calls of some stations stand in order on a ring.
 pub record NamesStandInOrder (stations : List (Log StationEntry)) (order : Order)
     : Type 0 where
   pub posts : Each (λ (log : Log StationEntry). PostsFollowAsks log.node order) stations
@@ -166,12 +166,12 @@ pub record NamesStandInOrder (stations : List (Log StationEntry)) (order : Order
   pub takes : TakesFollowPosts order
   pub reply_takes : ReplyTakesFollowPosts order
 
--- A Reply that was taken stands behind its Post by an end of a bridge.
+-- A Reply that was taken stands after its Post by an end of a bridge.
 abbrev pub FollowsPostByEnd : List ℕ → List RingEntry → Frame → Type 0
 FollowsPostByEnd ends before f = (by : ℕ) × Contains ends by × Contains before (Post by f)
 
--- Each Reply that is taken stands behind its Post by the node that took its Request, to which the
--- caller had posted it, where that is a station's; else behind its Post by an end of a bridge.
+-- Each Reply that is taken stands after its Post by the node that took its Request, to which the
+-- caller had posted it, where that is a station's; else after its Post by an end of a bridge.
 abbrev pub ReplyTakesFollowTargets : List ℕ → Order → Type 0
 ReplyTakesFollowTargets ends order = (before after : Order) (n : ℕ) (f : Frame)
     → order ≡ before ++ AtRing (Take n f) ∷ after → f.kind ≡ Reply
@@ -185,13 +185,15 @@ pub record IsRingOf (plant : Plant) (scans : ℕ) (joint : Joint) (ring : RingLo
   pub tied : IsJoint joint
   pub there : Contains joint.rings ring
 
--- They do on the one order of each ring and of the stations on its network.
+-- The entries of all calls stand in order on the one order of each ring and of the stations on its
+-- network.
 abbrev pub CallsStandInOrder : Type 0
 CallsStandInOrder = (plant : Plant) (scans : ℕ) (joint : Joint) (ring : RingLog)
     → IsRingOf plant scans joint ring → (one : RingIsInOneOrder plant joint ring)
     → NamesStandInOrder (stations_on plant ring.network joint) one.order
 
--- And the Replies on it come from the targets of their calls, or from ends of bridges there.
+-- Replies on the one order of a ring come from the targets of their calls, or from ends of bridges
+-- there.
 abbrev pub RepliesComeFromTargets : Type 0
 RepliesComeFromTargets = (plant : Plant) (scans : ℕ) (joint : Joint) (ring : RingLog)
     → IsRingOf plant scans joint ring → (one : RingIsInOneOrder plant joint ring)

@@ -1,5 +1,5 @@
-//! In which order the entries of a call stand, by its name: asked, posted, taken, answered, replied
-//! to, and ended.
+//! A consequence of the one order in time that each run has, on which nothing else stands: in which
+//! order the entries of a call are, by its name: asked, posted, taken, answered, replied to, ended.
 #![tactic(auto)]
 
 mod laws;

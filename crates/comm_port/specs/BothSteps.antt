@@ -60,12 +60,13 @@ module _ {M P R Q : Type 0} (m : ram_sides.Ghosts M P) (r : ring_sides.Ghosts R 
   TurningBetween n ram ring waiting =
       Turning n [] (m.side ram) (m.known ram) (r.side ring) (r.known ring) waiting
 
-  -- It still has to make the calls from a place on.
+  -- A worker stands between its controller and the ring, and still has to make the calls from a
+  -- place on.
   abbrev pub Owes : ℕ → List Call → ℕ → M → R → List (Option Frame) → Type 0
   Owes n calls at ram ring waiting =
       Owing n (calls_from calls at) (m.side ram) (m.known ram) (r.side ring) (r.known ring) waiting
 
-  -- It took this frame, to which nothing was done yet.
+  -- A worker took a frame, to which nothing was done yet.
   abbrev pub TakingBetween : ℕ → Frame → M → R → List (Option Frame) → Type 0
   TakingBetween n f ram ring waiting =
       Taking n f (m.side ram) (m.known ram) (r.side ring) (r.known ring) waiting
@@ -90,7 +91,7 @@ module _ {M P R Q : Type 0} (m : ram_sides.Ghosts M P) (r : ring_sides.Ghosts R 
     pub station : NotesNothing m.alone m.known m.reserved ram ram'
     pub node : AddsNothing r.alone r.known r.room n ring ring'
 
-  -- Both lists went on by what is due.
+  -- A part of a turn at both, the controller and the ring: both lists went on by what is due.
   abbrev pub PartOver : ℕ → (List Entry → List RingEntry → Type 0) → M → M → R → R → Type 0
   PartOver n Due ram ram' ring ring' = PartOf m.alone r.alone is_ours n Due
       (m.known ram) (m.known ram') (r.known ring) (r.known ring')
@@ -140,7 +141,7 @@ module _ {M P R Q : Type 0} (m : ram_sides.Ghosts M P) (r : ring_sides.Ghosts R 
       (InOrder IsGivenUp (due_calls (r.side ring).net n (r.known ring) (path ∷ [])))
       ram ram' ring ring'
 
-  -- Those of the chosen paths were, in order, where that was due.
+  -- The calls of the chosen paths were given up, in order, where that was due.
   abbrev pub GivesUp : ℕ → List Bool → M → M → R → R → Type 0
   GivesUp n chosen ram ram' ring ring' = PartOver n
       (InOrder IsGivenUp (due_calls (r.side ring).net n (r.known ring) (chosen_paths chosen)))

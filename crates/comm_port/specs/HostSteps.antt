@@ -21,11 +21,11 @@ module _ {R Q : Type 0} (r : ring_sides.Ghosts R Q) where
   abbrev pub HostTurningAt : ℕ → HostIs → R → Type 0
   HostTurningAt n host ring = HostTurning n host (r.side ring) (r.known ring)
 
-  -- It does after a step, on the side before it.
+  -- A worker stands between its host and the ring after a step, on the side before it.
   abbrev pub HostTurningAfter : ℕ → HostIs → R → R → Type 0
   HostTurningAfter n host old new = HostTurning n host (r.side old) (r.known new)
 
-  -- It took this frame, to which nothing was done yet.
+  -- A host's worker took a frame, to which nothing was done yet.
   abbrev pub HostTakingAt : ℕ → Frame → HostIs → R → Type 0
   HostTakingAt n f host ring = HostTaking n f host (r.side ring) (r.known ring)
 
@@ -33,7 +33,7 @@ module _ {R Q : Type 0} (r : ring_sides.Ghosts R Q) where
   abbrev pub HostTiesAt : ℕ → HostIs → R → Type 0
   HostTiesAt n host ring = HostTies n host (r.side ring) (r.known ring)
 
-  -- They do after a step, on the side before it.
+  -- The host and the ring agree after a step, on the side before it.
   abbrev pub HostTiesAfter : ℕ → HostIs → R → R → Type 0
   HostTiesAfter n host old new = HostTies n host (r.side old) (r.known new)
 
@@ -77,12 +77,14 @@ module _ {R Q : Type 0} (r : ring_sides.Ghosts R Q) where
   GivesUpBy n paths host host' ring ring' = GivesUpDue r.alone (r.side ring).net n paths
       host.history host'.history (r.known ring) (r.known ring')
 
-  -- That of a path was, if the path is to be looked at.
+  -- The call of a path was given up and answered with its word, if the path is to be looked at and
+  -- the call may be given up.
   abbrev pub GivesUpIf : ℕ → Bool → ℕ → HostIs → HostIs → R → R → Type 0
   GivesUpIf n wanted path host host' ring ring' =
       GivesUpBy n (wanted_path wanted path) host host' ring ring'
 
-  -- Those of the paths that an array chooses were.
+  -- Of the calls on the paths that an array chooses each that may be given up was given up and
+  -- answered.
   abbrev pub GivesUpWhich : ℕ → List Bool → HostIs → HostIs → R → R → Type 0
   GivesUpWhich n which host host' ring ring' =
       GivesUpBy n (chosen_paths which) host host' ring ring'

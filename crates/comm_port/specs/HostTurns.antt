@@ -162,7 +162,7 @@ ServesKind Request n f entries = ServesRequest (is_for_stats f) n f entries
 abbrev pub ServesFrame : ℕ → Frame → List RingEntry → Type 0
 ServesFrame n f entries = ServesKind f.kind n f entries
 
--- What came of a frame behind its Take.
+-- What came of a frame after its Take.
 pub record ServesTaken (alone : Bool) (n : ℕ) (f : Frame) (list new_list : List HostEntry)
     (ring new_ring : List RingEntry) : Type 0 where
   pub rest : List RingEntry
@@ -170,7 +170,7 @@ pub record ServesTaken (alone : Bool) (n : ℕ) (f : Frame) (list new_list : Lis
   pub grew : Grew alone (is_of n) ring rest new_ring
   pub notes : new_list ≡ list ++ host_notes_of f
 
--- These frames were served in their order.
+-- A host's node served some frames in their order.
 pub record ServesFrames (alone : Bool) (n : ℕ) (frames : List Frame)
     (list new_list : List HostEntry) (ring new_ring : List RingEntry) : Type 0 where
   pub parts : List (List RingEntry)
@@ -189,7 +189,7 @@ pub record ServesInbox (alone : Bool) (net : NetPlan) (n : ℕ)
 abbrev pub ask_entry_of : Frame → HostEntry
 ask_entry_of f = Ask f.id (frame_route f) f.pdu
 
--- These Requests were made and posted in their order: each was the one that was due behind those
+-- A host made and posted some Requests in their order: each was the one that was due after those
 -- before it, which is the next of the plan, on the least free path.
 pub record AsksInOrder (alone : Bool) (n : ℕ) (plan : HostPlan) (hold : ℕ) (asks : List Frame)
     (list new_list : List HostEntry) (ring new_ring : List RingEntry) : Type 0 where

@@ -11,7 +11,7 @@ use Rattle.comm_port.specs.Parts.{InOrder}
 abbrev pub IsAnswered : ℕ → Frame → List Entry → List RingEntry → Type 0
 IsAnswered n f noted done = IsServed n f noted (Take n f ∷ done)
 
--- These are left of the frames that lay in an inbox; all before them were served.
+-- Of the frames that lay in an inbox these are left; all before them were served.
 abbrev pub ServesOn : ℕ → List Frame → List Frame → List Entry → List RingEntry → Type 0
 ServesOn n start left noted done = (served : List Frame) × (start ≡ served ++ left)
     × InOrder (IsServed n) served noted done

@@ -38,6 +38,7 @@ pub trait RingSide {
     /// For how many entries it keeps memory; told only where nobody else writes.
     ghost room: { Self → ℕ };
 
+    /// Puts a frame in the node's outbox, to be sent when it holds the token.
     fn post(&mut self, node: u8, frame: Frame) -> Result<(), RingNo>
         requires serves { MayWrite (side self.old).writer node }
         requires member { IsMember (side self.old).net node }
@@ -51,6 +52,7 @@ pub trait RingSide {
             (post_no (ring_after (side self.old).net (known self.new)) node frame) result }
         ensures same { side self.new ≡ side self.old };
 
+    /// Sends the first frame of the node's outbox, and answers what the node heard.
     fn send(&mut self, node: u8) -> Result<Heard, RingNo>
         requires serves { MayWrite (side self.old).writer node }
         requires member { IsMember (side self.old).net node }
@@ -74,6 +76,7 @@ pub trait RingSide {
             (turn_no (ring_after (side self.old).net (known self.new)) node) result }
         ensures same { side self.new ≡ side self.old };
 
+    /// The node's own port does an operation for its station, and answers what came of it.
     fn local(&mut self, node: u8, id: CallId, op: LocalOp) -> Result<MstrResult, RingNo>
         requires serves { MayWrite (side self.old).writer node }
         requires member { IsMember (side self.old).net node }
@@ -85,6 +88,7 @@ pub trait RingSide {
             (free_no (ring_after (side self.old).net (known self.new)) node) result }
         ensures same { side self.new ≡ side self.old };
 
+    /// Ends a call that has waited or failed, and answers the error word that its caller gets.
     fn give_up(&mut self, id: CallId) -> Result<u16, RingNo>
         requires serves { MayWrite (side self.old).writer id.node }
         requires member { IsMember (side self.old).net id.node }
@@ -135,6 +139,7 @@ pub trait RingSide {
         ensures legal { IsLegalRing (side self.old).net (known self.new) }
         ensures same { side self.new ≡ side self.old };
 
+    /// Passes the token on, saying whether the station is done.
     fn pass(&mut self, node: u8, done: bool) -> Result<(), RingNo>
         requires serves { MayWrite (side self.old).writer node }
         requires member { IsMember (side self.old).net node }

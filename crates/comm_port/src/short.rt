@@ -5,7 +5,7 @@ use ring_core::RingNo;
 use std::alloc::AllocError;
 
 /// Memory is short. A turn's calls on the ring are refused for nothing else. It is made here alone,
-/// from a want of memory.
+/// where memory ran out.
 #[derive(Debug, Drop)]
 pub struct Short {
     made: (),

@@ -1,6 +1,6 @@
 -- No two answers are due for a command and an input.
 use Rattle.std.proofs.Common.{◌≡◌, ◌≢◌, ℕ, ◌+◌, ◌-◌, ◌^◌, ◌<◌, ◌≤◌, Bool, true, false, List, []}
-use Rattle.std.proofs.Common.{◌∷◌, ◌++◌, length, take, drop, All, inl, inr, ⊎_elim, Option, Some}
+use Rattle.std.proofs.Common.{◌∷◌, ◌++◌, length, take, drop, All, ◌⊎◌, inl, inr, ⊎_elim, Option, Some}
 use Rattle.std.proofs.Common.{None, refl, sym, ap, ap₂, subst, ◌∙◌, arith, append_assoc}
 use Rattle.std.proofs.Common.{length-append}
 use Rattle.std.specs.Prelude.{min, Result, Ok, Err}
@@ -27,15 +27,16 @@ use Rattle.joint_law.specs.declared.verdict.Spot.{Spot}
 use Rattle.joint_law.specs.declared.verdict.Verdict.TheVariants.{Legal, Illegal}
 use Rattle.one_run.specs.OneRun.{IsRunOf, OneSerialRun}
 use Rattle.summary_text.specs.Summary.{summary}
+use Rattle.flow_text.specs.Power.{flow}
 use Rattle.command_answers.specs.declared.status.Status.{Status}
 use Rattle.command_words.specs.declared.words.Command.{Command}
-use Rattle.command_words.specs.declared.words.Command.TheVariants.{Do, Gen, Session}
+use Rattle.command_words.specs.declared.words.Command.TheVariants.{Do, Flow, Gen, Session}
 use Rattle.command_words.specs.declared.words.Task.{Task}
 use Rattle.command_answers.specs.Cut.{CanCut, IsCutBefore, journal_mark, port_mark}
 use Rattle.command_answers.specs.Judged.{IsIllegalAt, IsNoRun, IsRunRead, wrong_line_text}
 use Rattle.command_answers.specs.Judged.{spot_text}
 use Rattle.command_answers.specs.Due.{Due, IsDueOf, IsDueWith, IsFile, IsHistory, IsIllegal}
-use Rattle.command_answers.specs.Due.{IsSessionDue, IsShown, IsTaskDue, IsTaskFile}
+use Rattle.command_answers.specs.Due.{IsSessionDue, IsShown, IsTaskFile, has_journal}
 use Rattle.command_answers.specs.Due.{IsWholeSerialRun, illegal_text, judges, plan_at, task_text}
 use Rattle.command_answers.specs.OneDue.{OneDue}
 
@@ -102,6 +103,8 @@ file-one (Session node scans) input file behind file' behind' is is' =
       same.0,
       is.bytes ∙ ap (drop (length port_mark + 1)) same.1 ∙ sym is'.bytes,
     )
+file-one (Flow first last) input file behind file' behind' is is' =
+    cut-one journal_mark input file behind file' behind' is is'
 
 -- ---- the first wrong line
 
@@ -291,20 +294,19 @@ shown-or_illegal laws reads plant scans behind text_of one other sound shown ill
     (subst (λ reads. IsHistory reads plant scans behind shown.joint) illegal.reads_it
     shown.history) illegal.breaks
 
--- so for a task with a plant one thing is due
-task-one : DueLaws → (task : Task) (scans : ℕ) (plant : Plant) (behind : List ℕ) (one other : Due)
-    → IsPlant plant
-    → IsTaskDue task scans plant behind one → IsTaskDue task scans plant behind other → one ≡ other
-task-one laws task scans plant behind one other sound (inl shown) (inl also) =
-    shown-one laws (judges task) plant scans behind (task_text task plant) one other sound shown
-    also
-task-one laws task scans plant behind one other sound (inl shown) (inr illegal) =
-    absurd (shown-or_illegal laws (judges task) plant scans behind (task_text task plant) one other
-    sound shown illegal)
-task-one laws task scans plant behind one other sound (inr illegal) (inl shown) =
-    absurd (shown-or_illegal laws (judges task) plant scans behind (task_text task plant) other one
-    sound shown illegal)
-task-one laws task scans plant behind one other sound (inr illegal) (inr also) =
+-- so for the text of one joint history, or of a journal that is illegal, one thing is due
+either-one : DueLaws → (reads : Bool) (plant : Plant) (scans : ℕ) (behind : List ℕ)
+    (text_of : Joint → List ℕ) (one other : Due) → IsPlant plant
+    → IsShown reads plant scans behind text_of one ⊎ IsIllegal reads plant scans behind one
+    → IsShown reads plant scans behind text_of other ⊎ IsIllegal reads plant scans behind other
+    → one ≡ other
+either-one laws reads plant scans behind text_of one other sound (inl shown) (inl also) =
+    shown-one laws reads plant scans behind text_of one other sound shown also
+either-one laws reads plant scans behind text_of one other sound (inl shown) (inr illegal) =
+    absurd (shown-or_illegal laws reads plant scans behind text_of one other sound shown illegal)
+either-one laws reads plant scans behind text_of one other sound (inr illegal) (inl shown) =
+    absurd (shown-or_illegal laws reads plant scans behind text_of other one sound shown illegal)
+either-one laws reads plant scans behind text_of one other sound (inr illegal) (inr also) =
     let same = illegal-one laws plant sound scans behind illegal.spot also.spot
     illegal.breaks also.breaks in
     due-is one other (illegal.status ∙ sym also.status)
@@ -324,11 +326,14 @@ with-one : DueLaws → (command : Command) (plant : Plant) (behind : List ℕ) (
     → IsPlant plant
     → IsDueWith command plant behind one → IsDueWith command plant behind other → one ≡ other
 with-one laws (Do task scans) plant behind one other sound due due' =
-    task-one laws task scans plant behind one other sound due due'
+    either-one laws (judges task) plant scans behind (task_text task plant) one other sound due due'
 with-one laws (Gen number scans) plant behind one other sound due due' =
     shown-one laws false plant scans [] (summary plant) one other sound due due'
 with-one laws (Session node scans) plant behind one other sound due due' =
     session-one (plan_at node plant.controllers) scans plant behind one other due due'
+with-one laws (Flow first last) plant behind one other sound due due' =
+    either-one laws (has_journal behind) plant last behind (flow plant first last) one other sound
+    due due'
 
 -- and so it is with a plant file
 of-one : DueLaws → (command : Command) (file behind : List ℕ) (read : Result Plant Refusal)

@@ -1,6 +1,6 @@
 -- What is due for a command and an input: a status, and the text that goes with it. This project's
 -- own.
-use Rattle.std.specs.Prelude.{◌≡◌, ℕ, codes, Bool, true, false, ◌⊎◌, ◌==◌, List, [], ◌++◌}
+use Rattle.std.specs.Prelude.{◌≡◌, ℕ, codes, Bool, true, false, ◌⊎◌, ◌==◌, List, [], ◌∷◌, ◌++◌}
 use Rattle.std.specs.Prelude.{find, map, Option, Some, None, Result, Ok, Err, string_bytes}
 use Rattle.plant_types.specs.declared.fault.PlantFault.{PlantFault}
 use Rattle.plant_types.specs.declared.fault.Place.{Place}
@@ -28,13 +28,14 @@ use Rattle.panel_text.specs.Panel.{panel}
 use Rattle.panel_session.specs.Serving.{frame_request, numbered_frames, requests_taken}
 use Rattle.panel_session.specs.Session.{bench_history, bench_text}
 use Rattle.summary_text.specs.Summary.{summary}
+use Rattle.flow_text.specs.Power.{flow}
 use Rattle.command_answers.specs.declared.answered.Answer.{Answer}
 use Rattle.command_answers.specs.declared.judging.Judged.{Judged}
 use Rattle.command_answers.specs.declared.judging.Judged.TheVariants.{Whole, Illegal}
 use Rattle.command_answers.specs.declared.status.Status.{Status}
 use Rattle.command_answers.specs.declared.status.Status.TheVariants as ends
 use Rattle.command_words.specs.declared.words.Command.{Command}
-use Rattle.command_words.specs.declared.words.Command.TheVariants.{Do, Gen, Session}
+use Rattle.command_words.specs.declared.words.Command.TheVariants.{Do, Flow, Gen, Session}
 use Rattle.command_words.specs.declared.words.Task.{Task}
 use Rattle.command_words.specs.declared.words.Task.TheVariants.{Run, Trace, Check, Replay}
 use Rattle.command_answers.specs.Cut.{IsCut, IsCutAtPort}
@@ -71,8 +72,9 @@ abbrev pub reads_input : Command → Bool
 reads_input (Do task scans) = true
 reads_input (Gen number scans) = false
 reads_input (Session node scans) = true
+reads_input (Flow first last) = true
 
--- Whether a task takes the joint history of a journal behind the plant file, and not that of a run.
+-- Whether a task takes the joint history of a journal after the plant file, and not that of a run.
 abbrev pub judges : Task → Bool
 judges Run = false
 judges Trace = false
@@ -85,16 +87,17 @@ abbrev pub IsTaskFile : Bool → List ℕ → List ℕ → List ℕ → Type 0
 IsTaskFile true input file journal = IsCut input file journal
 IsTaskFile false input file journal = (file ≡ input) × (journal ≡ [])
 
--- The plant file of a command, and what stands behind it: a journal, or the bytes of a port; for a
+-- The plant file of a command, and what stands after it: a journal, or the bytes of a port; for a
 -- number the file that it stands for.
 abbrev pub IsFile : Command → List ℕ → List ℕ → List ℕ → Type 0
 IsFile (Do task scans) input file behind = IsTaskFile (judges task) input file behind
 IsFile (Gen number scans) input file behind = (file ≡ plant_text number) × (behind ≡ [])
 IsFile (Session node scans) input file behind = IsCutAtPort input file behind
+IsFile (Flow first last) input file behind = IsCut input file behind
 
 -- The joint history is that of the plant's serial run, and a complete run: legal, with the laws
 -- between its lists kept, and complete; the entries of each ring and of the stations on it have one
--- order in time, in which each stands behind its cause; and each bridge is in time with the nodes
+-- order in time, in which each stands after its cause; and each bridge is in time with the nodes
 -- of its ends.
 pub record IsWholeSerialRun (plant : Plant) (scans : ℕ) (joint : Joint) : Type 0 where
   pub serial : IsSerial plant scans joint
@@ -122,9 +125,9 @@ task_text Trace plant joint = journal joint ++ panel plant joint
 task_text Check plant joint = codes "legal\n"
 task_text Replay plant joint = panel plant joint
 
--- What is due with a plant that is accepted: this text of a joint history that is that of the
--- journal or of the run, in which each call takes effect at its target at most once, and once if it
--- reports success, and whose journal tells all of it.
+-- A plant's run is shown: a joint history, that of the journal or of the run, in which each call
+-- takes effect at its target at most once, and exactly once if it reports success, whose journal
+-- tells all of it, and of which this is the text.
 pub record IsShown (reads : Bool) (plant : Plant) (scans : ℕ) (behind : List ℕ)
     (text_of : Joint → List ℕ) (what : Due)
     : Type 0 where
@@ -178,13 +181,28 @@ IsSessionDue None scans plant port what = what ≡ no_controller
 IsSessionDue (Some plan) scans plant port what =
     IsSessionShown (fixed_of plant scans plan) port what
 
--- What is due with a plant that is accepted: for a task, for the summary of a run, or a session.
+-- Whether a journal stands behind a plant file.
+abbrev pub has_journal : List ℕ → Bool
+has_journal [] = false
+has_journal (byte ∷ bytes) = true
+
+-- What is due for what conducted from one scan to another, the last of the run: what conducted in
+-- the run of the journal, if there is one, or else in the serial run; or the line of an illegal
+-- journal.
+abbrev pub IsFlowDue : ℕ → ℕ → Plant → List ℕ → Due → Type 0
+IsFlowDue first last plant behind what =
+    IsShown (has_journal behind) plant last behind (flow plant first last) what
+    ⊎ IsIllegal (has_journal behind) plant last behind what
+
+-- What is due with a plant that is accepted: for a task, for the summary of a run, a session, or
+-- for what conducted.
 abbrev pub IsDueWith : Command → Plant → List ℕ → Due → Type 0
 IsDueWith (Do task scans) plant behind what = IsTaskDue task scans plant behind what
 IsDueWith (Gen number scans) plant behind what =
     IsShown false plant scans [] (summary plant) what
 IsDueWith (Session node scans) plant behind what =
     IsSessionDue (plan_at node plant.controllers) scans plant behind what
+IsDueWith (Flow first last) plant behind what = IsFlowDue first last plant behind what
 
 -- What is due with a plant file that has a fault: its refusal.
 abbrev pub refused : Refusal → Due
@@ -195,7 +213,8 @@ abbrev pub IsDueOf : Command → List ℕ → Result Plant Refusal → Due → T
 IsDueOf command behind (Ok plant) what = IsDueWith command plant behind what
 IsDueOf command behind (Err fault) what = what ≡ refused fault
 
--- This status and this text are due for a command and an input.
+-- A status and a text are due for a command and an input: the input is a plant file and what comes
+-- after it, and they are due by what that file reads as.
 pub record IsDue (command : Command) (input : List ℕ) (what : Due) : Type 0 where
   pub file : List ℕ
   pub behind : List ℕ
@@ -204,7 +223,7 @@ pub record IsDue (command : Command) (input : List ℕ) (what : Due) : Type 0 wh
 
 -- What is due for a live run of a plant: the journal and the panel of a complete run, in which no
 -- node left because its Passes were spent, the entries of each ring and of the stations on it have
--- one order in time, each behind its cause, and each bridge is in time with the nodes of its ends.
+-- one order in time, each after its cause, and each bridge is in time with the nodes of its ends.
 pub record IsLiveShown (scans : ℕ) (plant : Plant) (what : Due) : Type 0 where
   pub joint : Joint
   pub whole : IsWholeRun plant scans joint
@@ -221,6 +240,7 @@ abbrev pub IsLiveDueOf : ℕ → Result Plant Refusal → Due → Type 0
 IsLiveDueOf scans (Ok plant) what = IsLiveShown scans plant what
 IsLiveDueOf scans (Err fault) what = what ≡ refused fault
 
--- This status and this text are due for a live run of so many scans and an input.
+-- A status and a text are due for a live run of so many scans and an input, by what the plant file
+-- reads as.
 abbrev pub IsLiveDue : ℕ → List ℕ → Due → Type 0
 IsLiveDue scans input what = IsLiveDueOf scans (plant_of Two input) what

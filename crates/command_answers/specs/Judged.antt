@@ -59,7 +59,7 @@ pub record IsNoRun (plant : Plant) (scans : ℕ) (bytes spot : List ℕ) : Type 
   pub breaks : IsSpot plant scans joint there
   pub text : spot ≡ spot_text there
 
--- This spot shows that the bytes are not the journal of a complete run.
+-- A spot shows that the bytes are not the journal of a complete run.
 abbrev pub IsIllegalAt : Plant → ℕ → List ℕ → List ℕ → Type 0
 IsIllegalAt plant scans bytes spot = IsNoJournal bytes spot ⊎ IsNoRun plant scans bytes spot
 

@@ -15,7 +15,7 @@ use Rattle.command_words.specs.declared.words.Task.TheVariants.{Trace, Check, Re
 use Rattle.command_answers.specs.Cut.{IsCut}
 use Rattle.command_answers.specs.Due.{Due, IsDue, IsLiveDue}
 
--- This status and this text are due for a command and an input, and nothing else is.
+-- A status and a text are due for a command and an input, and nothing else is.
 pub record IsOnlyDue (command : Command) (input : List ℕ) (what : Due) : Type 0 where
   pub due : IsDue command input what
   pub only : (other : Due) → IsDue command input other → other ≡ what

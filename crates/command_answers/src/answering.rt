@@ -15,6 +15,7 @@ ghost use Rattle.command_answers.specs.Due.{refused, task_text};
 
 use crate::answered::Answer;
 use crate::cutting::{cut, cut_at_port};
+use crate::flows::answer_flow;
 use crate::judging::{Judged, judge_journal};
 use crate::sessions::answer_session;
 use crate::status::Status;
@@ -47,7 +48,7 @@ pub fn refused(alloc: Global, fault: PlantFault, place: Place) -> Result<Answer,
     })
 }
 
-fn illegal(alloc: Global, spot: &str) -> Result<Answer, AllocError>
+pub(crate) fn illegal(alloc: Global, spot: &str) -> Result<Answer, AllocError>
     ensures { IfOk result (λ answer. as_due answer ≡ illegal_at spot.now) }
 {
     let text = format!(in alloc; "illegal {spot}")?;
@@ -58,7 +59,7 @@ fn illegal(alloc: Global, spot: &str) -> Result<Answer, AllocError>
 }
 
 /// The journal of a joint history tells all of it. A call made for the prover alone.
-fn journal_tells_all(plant: &Plant, joint: &Joint)
+pub(crate) fn journal_tells_all(plant: &Plant, joint: &Joint)
     requires plant { CanRunPlant plant.now }
     requires joint { IsLegalJoint plant.now most_scans joint.now }
     ensures { IsJournalOf joint.now (journal joint.now) }
@@ -213,6 +214,7 @@ fn answer_with(
         Command::Do { task, scans } => answer_task(alloc, task, scans, plant, behind),
         Command::Gen { scans, .. } => answer_summary(alloc, scans, plant),
         Command::Session { node, scans } => answer_session(alloc, node, scans, plant, behind),
+        Command::Flow { first, last } => answer_flow(alloc, first, last, plant, behind),
     }
 }
 
@@ -266,6 +268,10 @@ pub fn answer_to(alloc: Global, command: Command, input: &[u8]) -> Result<Answer
         Command::Session { .. } => {
             let (file, port) = cut_at_port(input);
             answer_over(alloc, command, file, port)
+        }
+        Command::Flow { .. } => {
+            let (file, journal) = cut(input);
+            answer_over(alloc, command, file, journal)
         }
     }
 }

@@ -4,6 +4,7 @@
 mod answered;
 mod answering;
 mod cutting;
+mod flows;
 mod judging;
 mod laws;
 mod sessions;

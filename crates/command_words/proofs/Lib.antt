@@ -2,3 +2,4 @@ mod OneNumber
 mod Positionals
 mod Spelled
 mod TwoNumbers
+mod SpelledFlow

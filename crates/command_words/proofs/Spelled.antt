@@ -4,7 +4,7 @@ use Rattle.std.proofs.Common.{ap, sym, refl, ◌∙◌, true≢false}
 use Rattle.std.specs.Prelude.{IfOk, Result, bytes_eq, codes, false, true}
 use Rattle.plant_types.specs.Limits.{most_address}
 use Rattle.command_words.specs.declared.words.Command.{Command}
-use Rattle.command_words.specs.declared.words.Command.TheVariants.{Do, Gen, Session}
+use Rattle.command_words.specs.declared.words.Command.TheVariants.{Do, Flow, Gen, Session}
 use Rattle.command_words.specs.declared.words.Task.{Task}
 use Rattle.command_words.specs.declared.words.Task.TheVariants.{Run, Trace, Check, Replay}
 use Rattle.command_words.specs.Words.{AreNumberAndScans, AreScans, ReadsJust, SpellsBehind}
@@ -47,6 +47,18 @@ session-no-task Trace named = differ (codes "session") (task_name Trace) refl re
 session-no-task Check named = differ (codes "session") (task_name Check) refl refl named
 session-no-task Replay named = differ (codes "session") (task_name Replay) refl refl named
 
+pub flow-no-task : (task : Task) → codes "flow" ≡ task_name task → ⊥
+flow-no-task Run named = differ (codes "flow") (task_name Run) refl refl named
+flow-no-task Trace named = differ (codes "flow") (task_name Trace) refl refl named
+flow-no-task Check named = differ (codes "flow") (task_name Check) refl refl named
+flow-no-task Replay named = differ (codes "flow") (task_name Replay) refl refl named
+
+pub flow-no-gen : codes "flow" ≡ codes "gen" → ⊥
+flow-no-gen named = differ (codes "flow") (codes "gen") refl refl named
+
+pub flow-no-session : codes "flow" ≡ codes "session" → ⊥
+flow-no-session named = differ (codes "flow") (codes "session") refl refl named
+
 gen-no-session : codes "gen" ≡ codes "session" → ⊥
 gen-no-session named = differ (codes "gen") (codes "session") refl refl named
 
@@ -61,6 +73,20 @@ gen_made (Some both) = Some (Gen both.0 both.1)
 abbrev pub session_made : Option (ℕ × ℕ) → Option Command
 session_made None = None
 session_made (Some both) = Some (Session both.0 both.1)
+
+no-flow-task : (task : Task) (read : Option ℕ) (first last : ℕ)
+    → task_made task read ≡ Some (Flow first last) → ⊥
+no-flow-task task None first last e = absurd (cc)
+no-flow-task task (Some n) first last e = absurd (cc)
+
+no-flow-gen : (read : Option (ℕ × ℕ)) (first last : ℕ) → gen_made read ≡ Some (Flow first last) → ⊥
+no-flow-gen None first last e = absurd (cc)
+no-flow-gen (Some both) first last e = absurd (cc)
+
+no-flow-session : (read : Option (ℕ × ℕ)) (first last : ℕ)
+    → session_made read ≡ Some (Flow first last) → ⊥
+no-flow-session None first last e = absurd (cc)
+no-flow-session (Some both) first last e = absurd (cc)
 
 task-is : (task other : Task) (read : Option ℕ) (scans : ℕ)
     → task_made task read ≡ Some (Do other scans)
@@ -95,6 +121,10 @@ Spells-task task behind read reads (Gen number scans) = (
 Spells-task task behind read reads (Session node scans) = (
   λ e. absurd ((only-tasks task read node scans).1 e),
   λ spells. absurd (session-no-task task spells.named),
+)
+Spells-task task behind read reads (Flow first last) = (
+  λ e. absurd (no-flow-task task read first last e),
+  λ spells. absurd (flow-no-task task spells.named),
 )
 
 gen-is : (read : Option (ℕ × ℕ)) (number scans : ℕ) → gen_made read ≡ Some (Gen number scans)
@@ -132,6 +162,10 @@ Spells-gen behind read reads (Session node scans) = (
   λ e. absurd ((only-summaries read Run node scans).1 e),
   λ spells. absurd (gen-no-session (sym spells.named)),
 )
+Spells-gen behind read reads (Flow first last) = (
+  λ e. absurd (no-flow-gen read first last e),
+  λ spells. absurd (flow-no-gen spells.named),
+)
 
 session-is : (read : Option (ℕ × ℕ)) (node scans : ℕ)
     → session_made read ≡ Some (Session node scans) → read ≡ Some (node, scans)
@@ -151,6 +185,10 @@ pub Spells-session : (behind : List (List ℕ)) (read : Option (ℕ × ℕ))
 Spells-session behind read reads (Do task scans) = (
   λ e. absurd ((only-sessions read task 0 scans).0 e),
   λ spells. absurd (session-no-task task (sym spells.named)),
+)
+Spells-session behind read reads (Flow first last) = (
+  λ e. absurd (no-flow-session read first last e),
+  λ spells. absurd (flow-no-session spells.named),
 )
 Spells-session behind read reads (Gen number scans) = (
   λ e. absurd ((only-sessions read Run number scans).1 e),

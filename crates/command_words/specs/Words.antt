@@ -6,7 +6,7 @@ use Rattle.plant_types.specs.Limits.{most_scans}
 use Rattle.plant_types.specs.Plans.{IsFromTo, IsNode}
 use Rattle.plant_gen.specs.Text.{IsPlantNumber}
 use Rattle.command_words.specs.declared.words.Command.{Command}
-use Rattle.command_words.specs.declared.words.Command.TheVariants.{Do, Gen, Session}
+use Rattle.command_words.specs.declared.words.Command.TheVariants.{Do, Flow, Gen, Session}
 use Rattle.command_words.specs.declared.words.Task.{Task}
 use Rattle.command_words.specs.declared.words.Task.TheVariants.{Run, Trace, Check, Replay}
 
@@ -50,18 +50,21 @@ abbrev pub command_name : Command → List ℕ
 command_name (Do task scans) = task_name task
 command_name (Gen number scans) = codes "gen"
 command_name (Session node scans) = codes "session"
+command_name (Flow first last) = codes "flow"
 
 -- The numbers of a command, in decimal digits with no sign and no leading zero.
 abbrev pub command_numbers : Command → List (List ℕ)
 command_numbers (Do task scans) = decimal scans ∷ []
 command_numbers (Gen number scans) = decimal number ∷ decimal scans ∷ []
 command_numbers (Session node scans) = decimal node ∷ decimal scans ∷ []
+command_numbers (Flow first last) = decimal first ∷ decimal last ∷ []
 
 -- The numbers of a command are in their ranges.
 abbrev pub IsCommandInRange : Command → Type 0
 IsCommandInRange (Do task scans) = IsNumberOfScans scans
 IsCommandInRange (Gen number scans) = IsPlantNumber number × IsNumberOfScans scans
 IsCommandInRange (Session node scans) = IsNode node × IsNumberOfScans scans
+IsCommandInRange (Flow first last) = IsFromTo 1 last first × IsNumberOfScans last
 
 -- A command of this name, and behind the name its numbers, among which one `--` may stand.
 pub record SpellsBehind (name : List ℕ) (behind : List (List ℕ)) (command : Command)

@@ -2,6 +2,7 @@
 #![tactic(auto)]
 
 mod arguments;
+mod flows;
 mod words;
 
 pub use words::{Command, Task, command_of, live_scans};

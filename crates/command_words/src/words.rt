@@ -4,6 +4,7 @@ ghost use Rattle.command_words.specs.Words.{ReadsJust, SpellsBehind, SpellsComma
 ghost use Rattle.command_words.specs.Words.{SpellsLiveBehind, task_name};
 
 use crate::arguments::{number_and_scans_of, scans_of};
+use crate::flows::flow_behind;
 use plant_types::NODE_LIMIT;
 use std::alloc::{AllocError, Global};
 
@@ -36,6 +37,9 @@ pub enum Command {
     /// So many scans of the controller with this node, 1 to 64, alone on a bench, and what the port
     /// behind the plant's file asks of it.
     Session { node: u8, scans: u32 },
+    /// What conducted from one scan to another, both 1 to 2000, in the run of so many scans of the
+    /// plant of the input, or in that of the journal behind its file.
+    Flow { first: u32, last: u32 },
 }
 
 /// The task of a name.
@@ -98,6 +102,7 @@ fn command_named(
     match name {
         "gen" => gen_behind(alloc, behind),
         "session" => session_behind(alloc, behind),
+        "flow" => flow_behind(alloc, behind),
         _ => match task_of(name) {
             Some(task) => task_behind(alloc, task, behind),
             None => Ok(None),

@@ -29,6 +29,7 @@ use Rattle.controller_core.specs.Controller.{reply_to, state_of, store_of}
 use Rattle.controller_core.specs.Controller.{stepped, uncollected, collecting}
 use Rattle.controller_core.specs.Controller.{has_started}
 use Rattle.controller_core.specs.Following.{HasWords, MayFollow, followed, followed_step}
+use Rattle.controller_core.specs.Conducted.{conducted_at, conducted_if, step_conducts}
 use Rattle.controller_core.proofs.Keeping.{scan_steps-quiet, told_entry, off_told, peer_told}
 use Rattle.controller_core.proofs.Keeping.{IsTold}
 
@@ -133,6 +134,18 @@ due_of v e step is may =
     let due : due_step v ≡ Some step =
     ap (λ n. if n == 0 then first_step (left_of f h) else None) fits.0 ∙ ap first_step left in
     ap (entry_for v) due ∙ ap Some (entry_is f (state_of v) e step is fits.1)
+
+entry_for-reserved : (v : ControllerIs) (due : Option ScanStep)
+    → entry_for (record v { reserved = true }) due ≡ entry_for v due
+entry_for-reserved v None = refl
+entry_for-reserved v (Some step) = refl
+
+-- what the entry conducts that is due, once its scan is reserved
+pub conducts_due : (v : ControllerIs) (e : Entry) → due_entry v ≡ Some e
+    → step_conducts (record v { reserved = true }) ≡ conducted_at v.fixed (state_of v) e
+conducts_due v e is =
+    let w : ControllerIs = record v { reserved = true } in
+    ap (conducted_if w) (entry_for-reserved v (due_step v) ∙ is)
 
 -- ---- what the communication does
 

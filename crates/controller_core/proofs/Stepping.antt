@@ -19,7 +19,8 @@ use Rattle.controller_core.specs.Scans.{scans_from}
 use Rattle.controller_core.specs.Controller.{ControllerIs}
 use Rattle.controller_core.specs.Controller.{answered, due_step, first_step, grown, left_of}
 use Rattle.controller_core.specs.Controller.{state_of}
-use Rattle.controller_core.specs.Controller.{has_ended, is_none, made, step_end, stepped}
+use Rattle.controller_core.specs.Controller.{entry_for, has_ended, is_none, made, step_end, stepped}
+use Rattle.controller_core.specs.Conducted.{conducted_at, conducted_if, step_conducts}
 use Rattle.controller_core.specs.Kept.{IsKept}
 use Rattle.controller_core.proofs.Keeping.{IsNext, due_first, due_none}
 use Rattle.controller_core.proofs.Places.{not_done, scans-whole}
@@ -63,6 +64,27 @@ step_made f m n h at r step v is k goes lt next after =
     → Type 0 = λ u. (stepped u ≡ grown w (entry_of f (state_is m) step ∷ [])
     (r && not (closes_scan step n.stop))) × (step_end u ≡ ends.Did step) × (has_ended u ≡ false) in
     subst P is (one ∙ two ∙ three, ap (answered (state_of w).stop) due, ap is_none due)
+
+-- what the step that is due conducts
+pub conducts_made : (f : Fixed) (m : Machine) (h : List Entry) (at : ScanPlace) (r : Bool)
+    (step : ScanStep) (v : ControllerIs)
+    → record { fixed = f; history = h; reserved = r } ≡ v → IsKept f m h at → m.stop ≡ 0
+    → m.gone < f.scans → IsNext f m at step
+    → step_conducts v ≡ conducted_at f (state_is m) (entry_of f (state_is m) step)
+conducts_made f m h at r step v is k goes lt next =
+    let w : ControllerIs = record { fixed = f; history = h; reserved = r } in
+    let due : due_step w ≡ Some step = goes_due f m h at r k goes
+    ∙ due_first f m h at step k lt next in
+    let one : step_conducts w ≡ conducted_at f (replay f h) (entry_of f (replay f h) step) =
+    ap (λ o. conducted_if w (entry_for w o)) due in
+    let two = ap (λ (t : ControllerState). conducted_at f t (entry_of f t step)) (sym k.state) in
+    let P : ControllerIs → Type 0 = λ u. step_conducts u
+    ≡ conducted_at f (state_is m) (entry_of f (state_is m) step) in
+    subst P is (one ∙ two)
+
+-- nothing conducts where no step is due
+pub conducts_none : (v : ControllerIs) → due_step v ≡ None → step_conducts v ≡ []
+conducts_none v none = ap (λ o. conducted_if v (entry_for v o)) none
 
 pub step_none : (f : Fixed) (m : Machine) (h : List Entry) (at : ScanPlace) (r : Bool)
     (v : ControllerIs)

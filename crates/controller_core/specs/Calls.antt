@@ -17,7 +17,7 @@ use Rattle.controller_core.specs.declared.call.CallKind.TheVariants as kinds
 abbrev pub net_request : List ℕ → Request → CallKind
 net_request route request = kinds.Net route (spelling_of request)
 
--- What a block asks for: registers are written and read from the address behind which they stand;
+-- What a block asks for: registers are written and read from the address after which they stand;
 -- statistics of another node are a request too; all else the own station does itself.
 abbrev pub kind_of : MstrAsk → CallKind
 kind_of (asks.Write route start words) =

@@ -83,7 +83,7 @@ abbrev pub first_step : List ScanStep → Option ScanStep
 first_step [] = None
 first_step (step ∷ steps) = Some step
 
--- What is due in all scans behind the steps of a history. This project's own.
+-- What is due in all scans after the steps of a history. This project's own.
 abbrev pub left_of : Fixed → List Entry → List ScanStep
 left_of fixed history = drop (length (scan_steps history)) (all_due fixed)
 
@@ -97,7 +97,7 @@ abbrev pub grown : ControllerIs → List Entry → Bool → ControllerIs
 grown v added reserved =
     record { fixed = v.fixed; history = v.history ++ added; reserved = reserved }
 
--- The stop code behind a step. This project's own.
+-- The stop code after a step. This project's own.
 abbrev pub stop_after : ControllerIs → ScanStep → ℕ
 stop_after v step = (apply v.fixed (state_of v) (entry_of v.fixed (state_of v) step)).stop
 
@@ -136,7 +136,7 @@ is_none (Some step) = false
 abbrev pub has_ended : ControllerIs → Bool
 has_ended v = is_none (due_step v)
 
--- There is no power. This project's own.
+-- A controller is without power. This project's own.
 abbrev pub is_off : ControllerIs → Bool
 is_off v = not (state_of v).powered
 

@@ -71,13 +71,13 @@ is_of_failure entries.Dark = true
 is_of_failure (entries.Off id request) = true
 is_of_failure _ = false
 
--- There is power behind a history, it never failed, and no entry is of a failure.
+-- Power never failed in a history: it is on after it, and no entry is of a failure.
 pub record HasKeptPower (fixed : Fixed) (history : List Entry) : Type 0 where
   pub powered : (replay fixed history).powered ≡ true
   pub failures : (replay fixed history).failures ≡ 0
   pub entries : AllByRecursion (λ entry. is_of_failure entry ≡ false) history
 
--- This holds of a legal history where the plan keeps its power.
+-- Where the plan keeps its power, no legal history has a failure, and power is on after it.
 abbrev pub KeptPowerIsOn : Type 0
 KeptPowerIsOn = (fixed : Fixed) (history : List Entry) → KeepsPower fixed.plan
     → IsLegal fixed history → HasKeptPower fixed history

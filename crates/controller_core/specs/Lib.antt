@@ -10,6 +10,7 @@ pub mod Notes
 pub mod NotedLines
 pub mod Run
 pub mod Following
+pub mod Conducted
 pub mod Laws
 pub mod Parts
 pub mod StateView

@@ -105,7 +105,7 @@ pub record Solves (segment : ℕ) (old new : Machine) : Type 0 where
   pub clock : new.clock ≡ old.clock
   pub sound : IsSound new
 
--- The stop code behind the solve of a segment. This project's own.
+-- The stop code after the solve of a segment. This project's own.
 abbrev pub stop_by : SolveEnd → ℕ → ℕ
 stop_by ends.Done stop = stop
 stop_by ends.Watchdog stop = watchdog_stop

@@ -28,14 +28,14 @@ gone_line plan scan values =
     line_text scan plan.node
     (if ends_off (power_in plan scan) then codes " OFF" else noted_texts plan.panel values)
 
--- The lines of so many scans that are gone behind others, by the values from theirs on.
+-- The lines of so many scans that are gone after others, by the values from theirs on.
 unfoldable pub gone_lines : ControllerPlan → ℕ → ℕ → List ℕ → List (List ℕ)
 gone_lines plan before zero values = []
 gone_lines plan before (suc count) values =
     gone_line plan (before + 1) values
     ∷ gone_lines plan (before + 1) count (drop (length plan.panel) values)
 
--- The line of the scan in which a controller stopped, if it did, behind those that are gone.
+-- The line of the scan in which a controller stopped, if it did, after those that are gone.
 abbrev pub stopped_lines : ControllerPlan → ℕ → ℕ → List (List ℕ)
 stopped_lines plan gone stop =
     if stop == 0

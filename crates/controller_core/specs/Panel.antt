@@ -50,7 +50,7 @@ told_of plan step s =
     else codes " STOP " ++ decimal s.stop
 
 -- The number of the scan that is over: it is gone, or the controller stopped in it, and it is the
--- one behind those that are gone. This project's own.
+-- one after those that are gone. This project's own.
 abbrev pub scan_over : ControllerState → ℕ
 scan_over s = if s.stop == 0 then s.gone else s.gone + 1
 
@@ -76,7 +76,7 @@ lines_from fixed s (entry ∷ entries) =
 abbrev pub panel_lines : Fixed → List Entry → List (List ℕ)
 panel_lines fixed history = lines_from fixed (start fixed.plan) history
 
--- Whether what a step answered was the last event of its scan, by the state behind it. This
+-- Whether what a step answered was the last event of its scan, by the state after it. This
 -- project's own.
 abbrev pub has_line : StepEnd → ControllerState → Bool
 has_line (ends.Did step) s = closes_scan step s.stop

@@ -28,7 +28,7 @@ pub record IsPlaced (fixed : Fixed) (made : List ScanStep) (gone : ℕ) (at : Sc
   pub place : place_behind before ≡ at
   pub steps : made ≡ scans_from fixed 1 gone ++ before
 
--- What is left of the scan behind those that are gone, where these steps were made in all. This
+-- What is left of the scan after those that are gone, where these steps were made in all. This
 -- project's own.
 abbrev pub left_in_scan : Fixed → ℕ → List ScanStep → List ScanStep
 left_in_scan fixed gone made = drop (length made) (scans_from fixed 1 (gone + 1))
@@ -47,12 +47,12 @@ is_done scans _ gone = false
 abbrev pub is_over : ℕ → ℕ → ScanPlace → ℕ → Bool
 is_over stop scans at gone = if stop == 0 then is_done scans at gone else true
 
--- A step after which its scan is over, by the stop code behind it: its last one, or a solve that
+-- A step after which its scan is over, by the stop code after it: its last one, or a solve that
 -- stopped the controller. This project's own.
 abbrev pub closes_scan : ScanStep → ℕ → Bool
 closes_scan (steps.Solve row) stop = not (stop == 0)
 closes_scan step stop = ends_scan step
 
--- How many scans are gone behind a step. This project's own.
+-- How many scans are gone after a step. This project's own.
 abbrev pub gone_after : ScanStep → ℕ → ℕ
 gone_after step gone = if ends_scan step then gone + 1 else gone

@@ -41,12 +41,12 @@ use std::marker::Model;
 /// One controller with the history of its events. This project's own.
 pub struct Controller {
     alloc: Global,
-    machine: Machine,
-    at: ScanPlace,
-    history: Vec<Entry>,
+    pub(crate) machine: Machine,
+    pub(crate) at: ScanPlace,
+    pub(crate) history: Vec<Entry>,
     /// The values of the panel at the last event of each scan that is over.
-    values: Vec<u16>,
-    reserved: bool,
+    pub(crate) values: Vec<u16>,
+    pub(crate) reserved: bool,
 }
 
 impl Model for Controller {
@@ -81,7 +81,7 @@ impl Drop for Controller {
 }
 
 /// One more entry, for which there is room: takes no memory.
-fn note(history: &mut Vec<Entry>, entry: Entry)
+pub(crate) fn note(history: &mut Vec<Entry>, entry: Entry)
     requires { vec_len history.old < vec_capacity history.old }
     ensures items { history.new.items ≡ history.old.items ++ entry ∷ [] }
     ensures room { vec_len history.new ≡ vec_len history.old + 1 }
@@ -91,7 +91,7 @@ fn note(history: &mut Vec<Entry>, entry: Entry)
 }
 
 /// Whether all scans are gone.
-fn is_done(scans: u32, at: ScanPlace, gone: u32) -> bool
+pub(crate) fn is_done(scans: u32, at: ScanPlace, gone: u32) -> bool
     ensures { result ≡ is_done scans at gone }
 {
     match at {
@@ -111,8 +111,8 @@ fn is_over(stop: u16, scans: u32, at: ScanPlace, gone: u32) -> bool
     }
 }
 
-/// Whether the room of a scan is kept behind a step.
-fn keeps_room(reserved: bool, step: ScanStep, stop: u16) -> bool
+/// Whether the room of a scan is kept after a step.
+pub(crate) fn keeps_room(reserved: bool, step: ScanStep, stop: u16) -> bool
     ensures { result ≡ (reserved && not (closes_scan step stop)) }
 {
     if closes_scan(step, stop) {
@@ -398,7 +398,7 @@ impl Controller {
         ensures went_on { ControllerWentOn Maker.Communication (collect_entries result)
             self.old self.new }
     {
-        // What is left of a scan keeps its room behind this entry.
+        // What is left of a scan keeps its room after this entry.
         let most = self.longest_scan() + 1;
         self.history.try_reserve(most)?;
         let calls = self.machine.uncollected(self.alloc)?;

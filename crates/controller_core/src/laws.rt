@@ -63,7 +63,7 @@ pub fn calls_follow()
     finishes_end_one_call();
 }
 
-/// A legal history of a plan that keeps its power never lacks it.
+/// In a legal history of a plan that keeps its power, power is always on.
 pub fn kept_power_is_on()
     ensures { KeptPowerIsOn }
 {

@@ -11,6 +11,7 @@ mod following;
 mod laws;
 mod machine;
 mod notes;
+mod noting;
 mod parts;
 mod state;
 

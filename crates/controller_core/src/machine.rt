@@ -44,15 +44,15 @@ const WATCHDOG_STOP: u16 = 1;
 /// The store of a controller and all that its events change beside it.
 pub(crate) struct Machine {
     pub(crate) fixed: Fixed,
-    ladder: Ladder,
-    bank: MstrBank,
+    pub(crate) ladder: Ladder,
+    pub(crate) bank: MstrBank,
     cop: Cop,
-    ram: PackedRam,
+    pub(crate) ram: PackedRam,
     /// The discretes as the last scan ended or failed.
-    past: PackedRam,
-    clock: Clock,
+    pub(crate) past: PackedRam,
+    pub(crate) clock: Clock,
     /// The networks that are left to the watchdog.
-    watch: Watch,
+    pub(crate) watch: Watch,
     /// How many input exchanges each drop had, by its number.
     exchanges: Vec<u32>,
     /// How many scans are gone.
@@ -85,8 +85,8 @@ impl Drop for Machine {
     }
 }
 
-/// The stop code behind a solve.
-fn stop_behind(end: SolveEnd, stop: u16) -> u16
+/// The stop code after a solve.
+pub(crate) fn stop_behind(end: SolveEnd, stop: u16) -> u16
     ensures { result ≡ stop_by end stop }
 {
     match end {
@@ -171,7 +171,7 @@ impl Machine {
         self.fixed.plan.panel.as_slice()
     }
 
-    /// Notes the values of the panel behind a step, if that is the last of its scan. Takes no
+    /// Notes the values of the panel after a step, if that is the last of its scan. Takes no
     /// memory.
     pub(crate) fn note_panel(&self, step: ScanStep, values: &mut Vec<u16>)
         requires sound { IsSound self.now }
@@ -232,7 +232,7 @@ impl Machine {
     }
 
     /// Whether the control of a row is on, if it has one.
-    fn is_on(&self, control: Option<Ref>) -> bool
+    pub(crate) fn is_on(&self, control: Option<Ref>) -> bool
         requires { HasControl self.now.ram control }
         ensures { result ≡ control_is_on self.now.ram control }
     {

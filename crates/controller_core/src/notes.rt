@@ -30,7 +30,7 @@ impl Drop for Notes {
     }
 }
 
-/// Whether a step is the last of its scan, by the stop code behind it.
+/// Whether a step is the last of its scan, by the stop code after it.
 pub(crate) fn closes_scan(step: ScanStep, stop: u16) -> bool
     ensures { result ≡ closes_scan step stop }
 {

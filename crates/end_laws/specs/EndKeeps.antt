@@ -26,7 +26,7 @@ abbrev pub IsQuietSinceDone : List RingEntry → Type 0
 IsQuietSinceDone list = (before between : List RingEntry) (node : ℕ) (words : List ℕ)
     → EndsDone list before node words between → All IsQuiet between
 
--- None of its calls is out since.
+-- An end has no call out where its node's list ends with done Passes.
 abbrev pub HasNoneOutSinceDone : BridgePlan → List BridgeEntry → ℕ → List RingEntry → Type 0
 HasNoneOutSinceDone plan list side own_list =
     (before between : List RingEntry) (node : ℕ) (words : List ℕ)

@@ -25,7 +25,7 @@ EndsStartKeep = (plan : BridgePlan) (net : NetPlan) (side : ℕ) (list : List Br
     (ring : List RingEntry) → made_at_end side list ≡ [] → own side ring ≡ []
     → EndKeepsOn plan net side list ring false
 
--- A hold of the token by a bridge's end keeps it.
+-- A hold of the token by a bridge's end keeps all that its turns keep.
 abbrev pub EndTurnsKeepOn : Type 0
 EndTurnsKeepOn =
     (alone_bridge alone_ring : Bool) (plan : BridgePlan) (net : NetPlan) (side : ℕ)
@@ -46,7 +46,7 @@ EndTurnsSpendNothing =
     → HoldsEndTurn alone_bridge alone_ring plan net side false list new_list ring new_ring left
     → NoneSpent (own side ring) → NoneSpent (own side new_ring)
 
--- Entries of other nodes keep it.
+-- Entries of other nodes keep all that an end's turns keep.
 abbrev pub EndOthersKeepOn : Type 0
 EndOthersKeepOn =
     (plan : BridgePlan) (net : NetPlan) (side : ℕ) (list : List BridgeEntry)
@@ -54,7 +54,7 @@ EndOthersKeepOn =
     → EndKeepsOn plan net side list ring left
     → EndKeepsOn plan net side list (ring ++ more) left
 
--- Entries of the other end of the bridge keep it.
+-- Entries of the other end of the bridge keep all that an end's turns keep.
 abbrev pub EndsAcrossKeepOn : Type 0
 EndsAcrossKeepOn =
     (plan : BridgePlan) (net : NetPlan) (side : ℕ) (list more : List BridgeEntry)

@@ -1,4 +1,4 @@
--- Which entry of a bridge's list for one of its ends stands behind which entry of that end's node
+-- Which entry of a bridge's list for one of its ends stands after which entry of that end's node
 -- on its ring, as counts. This project's own.
 use Rattle.std.specs.Prelude.{ℕ, ◌+◌, ◌≤◌, Bool, true, false}
 use Rattle.bridge_relay.specs.declared.entry.BridgeEntry.{BridgeEntry}

@@ -9,7 +9,7 @@ use Rattle.end_times.specs.EndCauses.{EndNoted, EndDone, no_end_notes, no_end_de
 use Rattle.end_times.specs.EndCauses.{end_deed, AreEndCaused}
 
 -- After these counts, some merge of a bridge's entries at an end and of those of the end's node
--- has each entry behind its cause.
+-- has each entry after its cause.
 abbrev pub EndInTimeAfter : EndNoted → EndDone → List BridgeEntry → List RingEntry → Type 0
 EndInTimeAfter s d noted done = InTimeFrom end_note end_deed AreEndCaused s d noted done
 
@@ -18,6 +18,6 @@ abbrev pub EndInTime : ℕ → List BridgeEntry → List RingEntry → Type 0
 EndInTime side list ring_own =
     EndInTimeAfter no_end_notes no_end_deeds (made_at_end side list) ring_own
 
--- The same, where the node's entries stand among those of the whole ring.
+-- A bridge's list is in time, for one of its ends, with what this end's node did on the whole ring.
 abbrev pub IsEndInTime : ℕ → List BridgeEntry → List RingEntry → Type 0
 IsEndInTime side list ring = EndInTime side list (own side ring)

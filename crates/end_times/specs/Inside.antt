@@ -1,4 +1,4 @@
--- What stands behind what inside a bridge's own list, as counts. This project's own.
+-- What stands after what inside a bridge's own list, as counts. This project's own.
 use Rattle.std.specs.Prelude.{◌≡◌, ℕ, ◌+◌, ◌≤◌, List, ◌++◌}
 use Rattle.plant_types.specs.declared.net.BridgePlan.{BridgePlan}
 use Rattle.plant_types.specs.Plans.{IsBridgePlan}
@@ -22,7 +22,7 @@ pub record IsOrderedInside (near far : EndNoted) : Type 0 where
   pub ends : near.ended ≤ near.sent_on
   pub gives : near.given_back + far.sent_on ≤ near.accepted + far.ended
 
--- So it is in each front of a legal list, for either end.
+-- In each front of a legal list of a bridge, for either end, nothing came before its cause.
 abbrev pub BridgesKeepOrder : Type 0
 BridgesKeepOrder = (plan : BridgePlan) (list before after : List BridgeEntry) (side : ℕ)
     → IsBridgePlan plan → IsBridgeHistory plan list → IsEnd plan side → list ≡ before ++ after

@@ -1,4 +1,4 @@
-//! Ends of bridges in time: which entry of a bridge's list for one of its ends stands behind which
+//! Ends of bridges in time: which entry of a bridge's list for one of its ends stands after which
 //! entry of the end's node on its ring, and inside that list; and what keeps the two in time.
 #![tactic(auto)]
 

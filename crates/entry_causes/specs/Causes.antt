@@ -1,4 +1,4 @@
--- The one table of causes: which entry of a station's list or of the ring stands behind which.
+-- The one table of causes: which entry of a station's list or of the ring stands after which.
 -- A kind of entry that comes later is one row more of `notings` or `doings`. This project's own.
 use Rattle.std.specs.Prelude.{ℕ, zero, suc, ◌+◌, ◌≤◌, ◌==◌, max, Bool, true, false, List, []}
 use Rattle.std.specs.Prelude.{◌∷◌, ◌++◌, map}
@@ -191,7 +191,7 @@ deed d e = tally done_next d (doings e)
 
 -- ---- What waits for what.
 
--- How many Replies may be posted: in the order of the Requests taken, each behind its answer, by
+-- How many Replies may be posted: in the order of the Requests taken, each after its answer, by
 -- the station or by the port, until one is missing; none to what came without power.
 abbrev pub ready : List Bool → List Bool → ℕ → ℕ
 ready [] answers port = 0

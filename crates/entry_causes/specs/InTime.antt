@@ -12,7 +12,7 @@ use Rattle.entry_causes.specs.Causes.{note_entry}
 use Rattle.entry_causes.specs.Causes.{note_host, deed, AreCaused}
 
 -- A controller's list, a host's, or that of either, is in time with what its node did: some merge
--- of the two has each entry behind its cause.
+-- of the two has each entry after its cause.
 abbrev pub InTime : List Entry → List RingEntry → Type 0
 InTime list own = InTimeFrom note_entry deed AreCaused no_notes no_deeds list own
 
@@ -26,7 +26,7 @@ StationInTime list own = InTimeFrom note deed AreCaused no_notes no_deeds list o
 abbrev pub IsInTime : List RingEntry → Log StationEntry → Type 0
 IsInTime ring log = StationInTime log.entries (own_of maker log.node ring)
 
--- Stations that are each in time have one order with the ring, in which each entry stands behind
+-- Stations that are each in time have one order with the ring, in which each entry stands after
 -- its cause.
 abbrev pub StationsHaveOneOrder : Type 0
 StationsHaveOneOrder = (ring : List RingEntry) (logs : List (Log StationEntry))

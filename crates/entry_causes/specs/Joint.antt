@@ -22,7 +22,7 @@ use Rattle.joint_history.specs.Nets.{noted_on_rings}
 abbrev pub controller_log : ControllerLog → Log StationEntry
 controller_log log = record { node = log.node; entries = map ByController log.entries }
 
--- The same of a host.
+-- The list of a host, under its node.
 abbrev pub host_log : HostLog → Log StationEntry
 host_log log = record { node = log.node; entries = map ByHost log.entries }
 
@@ -42,14 +42,15 @@ stations_on plant network joint =
     (logs_on (λ plan. plan.network) network plant.controllers joint.controllers)
     ++ map host_log (logs_on (λ plan. plan.network) network plant.hosts joint.hosts)
 
--- There is one order of all entries of a ring and of the stations on its network, in which each
--- stands behind its cause.
+-- A ring and the stations on its network have one order in time of all their entries, in which each
+-- stands after its cause.
 abbrev pub RingIsInOneOrder : Plant → Joint → RingLog → Type 0
 RingIsInOneOrder plant joint ring =
     HasOneOrder maker note deed AreCaused no_notes no_deeds ring.entries
     (stations_on plant ring.network joint)
 
--- There is one for each ring of a plant's joint history.
+-- Each ring of a joint history and the stations on its network have one order in time, in which
+-- each entry stands after its cause.
 abbrev pub IsInOneOrder : Plant → Joint → Type 0
 IsInOneOrder plant joint = All (RingIsInOneOrder plant joint) joint.rings
 
@@ -60,12 +61,13 @@ IsControllerInTime ring log = InTime log.entries (own log.node ring)
 abbrev pub IsHostInTime : List RingEntry → HostLog → Type 0
 IsHostInTime ring log = HostInTime log.entries (own log.node ring)
 
--- Each station of a joint history is.
+-- Each station of a joint history is in time with its node on the ring.
 pub record StationsAreInTime (joint : Joint) : Type 0 where
   pub controllers : All (IsControllerInTime (noted_on_rings joint)) joint.controllers
   pub hosts : All (IsHostInTime (noted_on_rings joint)) joint.hosts
 
--- Then each ring is in one order, where it is a plant's, whose nodes are apart.
+-- Where each station is in time with its node, each ring of a plant has one order with its
+-- stations.
 abbrev pub JointIsInOneOrder : Type 0
 JointIsInOneOrder = (plant : Plant) (scans : ℕ) (joint : Joint) → IsPlant plant
     → IsLegalJoint plant scans joint → StationsAreInTime joint → IsInOneOrder plant joint

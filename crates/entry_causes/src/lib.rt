@@ -1,5 +1,5 @@
 //! The one table of causes: which entry of a controller's, a host's or the ring's list stands
-//! behind which, and what follows for an order of all of them.
+//! after which, and what follows for an order of all of them.
 #![tactic(auto)]
 
 mod laws;

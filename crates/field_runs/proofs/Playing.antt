@@ -28,10 +28,11 @@ use Rattle.field_runs.specs.Scan.{brought_to, stepped_with, told_first, told_beh
 use Rattle.field_runs.specs.Scan.{rest_of, scanned}
 use Rattle.field_runs.specs.Told.{NamesRow, IsTold, AreTold, Agrees}
 use Rattle.field_runs.specs.Played.{behind_scans, AreScansTold, IsPlayed, ScansAreFieldRuns}
+use Rattle.field_runs.specs.Played.{brings_to, one_if, reads_drop, told_in, told_to, with_script}
 use Rattle.field_runs.proofs.Runs.{run_steps, run-stopped, after-more, same-run, full-same}
 use Rattle.field_runs.proofs.Runs.{step-same, run_fixed, Steps}
 use Rattle.field_runs.proofs.Settling.{all-get}
-use Rattle.field_runs.proofs.Scripts.{names_drop, names, one_if, told_to, told_in, Fits, played_drop}
+use Rattle.field_runs.proofs.Scripts.{Fits}
 use Rattle.field_runs.proofs.Scripts.{all-played, input-played}
 
 -- a drop that can be counted
@@ -69,7 +70,7 @@ stopped-steps fixed rows t (step ∷ due) is =
 module _ (fixed : Fixed) (told : List (List ℕ)) (all : AreScansTold fixed.plan told)
     (ranges : (row : ℕ) → InRange (input_of (row_of fixed.plan row))) where
   abbrev drops : List IoDrop
-  drops = map (played_drop fixed.plan told) fixed.plan.drops
+  drops = map (with_script fixed.plan told) fixed.plan.drops
 
   abbrev run : Fixed
   run = run_fixed fixed.plan fixed.scan_time fixed.watchdog fixed.scans drops
@@ -166,7 +167,7 @@ module _ (fixed : Fixed) (told : List (List ℕ)) (all : AreScansTold fixed.plan
       }
 
   in-keeps : (drop : Option ℕ) (n : ℕ) (s t : ControllerState) (left : ℕ → List ℕ) → Agrees s t
-      → Waits s (λ d. one_if (names_drop drop d) n ++ left d) → NamesRow fixed.plan drop n
+      → Waits s (λ d. one_if (reads_drop drop d) n ++ left d) → NamesRow fixed.plan drop n
       → InRange drop
       → Kept (read_in drops drop s) (brought_to fixed.plan.drops drop n t) left
   in-keeps None n s t left r w fits range = record { agrees = r; waits = w }
@@ -212,7 +213,7 @@ module _ (fixed : Fixed) (told : List (List ℕ)) (all : AreScansTold fixed.plan
       in-keeps (input_of (row_of fixed.plan row)) (told_first rows) s t
       (left_of due (rest_of rows) later) r
       (waits-left s (left_of (steps.In row ∷ due) rows later) _
-      (λ d. append_assoc (one_if (names fixed.plan d (steps.In row)) (told_first rows))
+      (λ d. append_assoc (one_if (brings_to fixed.plan d (steps.In row)) (told_first rows))
       (told_to fixed.plan d due (rest_of rows)) (later d)) w)
       is (ranges row)
   step-keeps (steps.Solve row) due rows s t later r w is = record {
@@ -348,7 +349,6 @@ module _ (fixed : Fixed) (told : List (List ℕ)) (all : AreScansTold fixed.plan
 
   pub plays : KeptPowerStays → KeepsPower fixed.plan → IsPlayed fixed told
   plays stays keeps = record {
-    played = played;
     plays = record { others = refl; drops = all-played fixed.plan told fixed.plan.drops };
     same = λ scans few.
         subst (λ (q : ControllerState). Agrees q

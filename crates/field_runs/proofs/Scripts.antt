@@ -18,34 +18,11 @@ use Rattle.traffic_cop.specs.Exchange.{exchanged_by, row_at}
 use Rattle.field_runs.specs.Field.{IsPlayedBy}
 use Rattle.field_runs.specs.Scan.{told_first, told_behind}
 use Rattle.field_runs.specs.Told.{rows_in, rows_for, NamesRow, IsTold, AreTold}
-use Rattle.field_runs.specs.Played.{AreScansTold}
+use Rattle.field_runs.specs.Played.{AreScansTold, brings_to, one_if, or_own, reads_drop, row_in}
+use Rattle.field_runs.specs.Played.{script_of, told_in, told_to, with_script}
 use Rattle.field_runs.proofs.Runs.{get-some, get-within, min-up}
 
 -- ---- what is told for a drop
-
--- whether a step brings a row to the drop of this number
-abbrev pub names_drop : Option ℕ → ℕ → Bool
-names_drop None d = false
-names_drop (Some x) d = x == d
-
-abbrev pub names : ControllerPlan → ℕ → ScanStep → Bool
-names plan d (steps.In row) = names_drop (input_of (row_of plan row)) d
-names plan d step = false
-
--- what is told for one step, if it is the drop's
-abbrev pub one_if : Bool → ℕ → List ℕ
-one_if true n = n ∷ []
-one_if false n = []
-
--- the rows that are told for a drop in steps
-unfoldable pub told_to : ControllerPlan → ℕ → List ScanStep → List ℕ → List ℕ
-told_to plan d [] rows = []
-told_to plan d (step ∷ due) rows =
-    one_if (names plan d step) (told_first rows) ++ told_to plan d due (told_behind step rows)
-
--- and in scans
-abbrev pub told_in : ControllerPlan → ℕ → List (List ℕ) → List ℕ
-told_in plan d told = flat_map (told_to plan d (full_scan plan)) told
 
 -- a number of a row of a drop
 abbrev pub Fits : ControllerPlan → ℕ → ℕ → Type 0
@@ -57,12 +34,12 @@ all-both P [] ys a b = b
 all-both P (x ∷ xs) ys a b = (a.0, all-both P xs ys a.1 b)
 
 fits-drop : (plan : ControllerPlan) (d n : ℕ) (drop : Option ℕ) → NamesRow plan drop n
-    → names_drop drop d ≡ true → Fits plan d n
+    → reads_drop drop d ≡ true → Fits plan d n
 fits-drop plan d n None told is = absurd (let no' : false ≡ true = is in cc)
 fits-drop plan d n (Some x) told is = subst (λ q. Fits plan q n) (eqb-true x d is) told
 
 fits-step : (plan : ControllerPlan) (d n : ℕ) (step : ScanStep) → IsTold plan step n
-    → names plan d step ≡ true → Fits plan d n
+    → brings_to plan d step ≡ true → Fits plan d n
 fits-step plan d n steps.Begin told is = absurd (let no' : false ≡ true = is in cc)
 fits-step plan d n (steps.In row) told is = fits-drop plan d n (input_of (row_of plan row)) told is
 fits-step plan d n (steps.Solve row) told is = absurd (let no' : false ≡ true = is in cc)
@@ -81,9 +58,9 @@ fits-told : (plan : ControllerPlan) (d : ℕ) (due : List ScanStep) (rows : List
 unfolding told_to
 fits-told plan d [] rows told = tt
 fits-told plan d (step ∷ due) rows told =
-    all-both (Fits plan d) (one_if (names plan d step) (told_first rows))
+    all-both (Fits plan d) (one_if (brings_to plan d step) (told_first rows))
     (told_to plan d due (told_behind step rows))
-    (fits-one plan d (told_first rows) (names plan d step)
+    (fits-one plan d (told_first rows) (brings_to plan d step)
     (fits-step plan d (told_first rows) step told.0))
     (fits-told plan d due (told_behind step rows) told.1)
 
@@ -95,17 +72,6 @@ fits-scans plan d (rows ∷ told) all =
     (fits-told plan d (full_scan plan) rows all.0) (fits-scans plan d told all.1)
 
 -- ---- a script of what is told
-
-abbrev pub row_in : List ScriptRow → ℕ → Option ScriptRow
-row_in script n = slice_get script (n - 1)
-
--- a script that is told, or its own where none is
-abbrev pub or_own : List ScriptRow → List ScriptRow → List ScriptRow
-or_own script [] = script
-or_own script (row ∷ rows) = row ∷ rows
-
-abbrev pub script_of : List ScriptRow → List ℕ → List ScriptRow
-script_of script numbers = or_own script (filter_map (row_in script) numbers)
 
 or-own-some : (script rows : List ScriptRow) (i : ℕ) → i < length rows → or_own script rows ≡ rows
 or-own-some script [] i h = absurd (omega (arith, h))
@@ -201,12 +167,7 @@ some-own script [] h = h
 some-own script (x ∷ rows) h = omega arith
 
 module _ (plan : ControllerPlan) (told : List (List ℕ)) where
-  -- a drop with a script of what is told
-  abbrev pub played_drop : IoDrop → IoDrop
-  played_drop drop =
-      record drop { script = script_of drop.script (told_in plan drop.number told) }
-
-  pub all-played : (drops : List IoDrop) → AllZip IsPlayedBy drops (map played_drop drops)
+  pub all-played : (drops : List IoDrop) → AllZip IsPlayedBy drops (map (with_script plan told) drops)
   all-played [] = tt
   all-played (drop ∷ drops) = (
     record {
@@ -220,17 +181,17 @@ module _ (plan : ControllerPlan) (told : List (List ℕ)) where
     all-played drops,
   )
 
-  named-by : (x : IoDrop) (o p : Option IoDrop) (b : Bool) → p ≡ option_map played_drop o
-      → (if b then Some (played_drop x) else p) ≡ option_map played_drop (if b then Some x else o)
+  named-by : (x : IoDrop) (o p : Option IoDrop) (b : Bool) → p ≡ option_map (with_script plan told) o
+      → (if b then Some (with_script plan told x) else p) ≡ option_map (with_script plan told) (if b then Some x else o)
   named-by x o p true is = refl
   named-by x o p false is = is
 
   named-played : (drops : List IoDrop) (d : ℕ)
-      → drop_named (map played_drop drops) d ≡ option_map played_drop (drop_named drops d)
+      → drop_named (map (with_script plan told) drops) d ≡ option_map (with_script plan told) (drop_named drops d)
   unfolding drop_named
   named-played [] d = refl
   named-played (x ∷ drops) d =
-      named-by x (drop_named drops d) (drop_named (map played_drop drops) d) (x.number == d)
+      named-by x (drop_named drops d) (drop_named (map (with_script plan told) drops) d) (x.number == d)
       (named-played drops d)
 
   number-by : (x y : IoDrop) (o : Option IoDrop) (d : ℕ) (b : Bool) → (x.number == d) ≡ b
@@ -251,7 +212,7 @@ module _ (plan : ControllerPlan) (told : List (List ℕ)) where
   module _ (all : AreScansTold plan told) (d n : ℕ) (done rest : List ℕ)
       (is : told_in plan d told ≡ done ++ n ∷ rest) (fits : Fits plan d n) (m : Contents) where
     input-by : (found : Option IoDrop) → drop_named plan.drops d ≡ found
-        → exchanged_in (option_map played_drop found) (length done + 1) m ≡ exchanged_in found n m
+        → exchanged_in (option_map (with_script plan told) found) (length done + 1) m ≡ exchanged_in found n m
     input-by None at = refl
     input-by (Some x) at =
         let number : x.number ≡ d = number-named plan.drops d x at in
@@ -263,7 +224,7 @@ module _ (plan : ControllerPlan) (told : List (List ℕ)) where
         (fits-scans plan d told all))
         (fits.0, subst (λ k. n ≤ k) rows fits.1))
 
-    pub input-played : input_after (map played_drop plan.drops) d (length done + 1) m
+    pub input-played : input_after (map (with_script plan told) plan.drops) d (length done + 1) m
         ≡ input_after plan.drops d n m
     input-played =
         ap (λ (o : Option IoDrop). exchanged_in o (length done + 1) m) (named-played plan.drops d)

@@ -32,7 +32,7 @@ AlikeStatesStay =
     → IsSettled fixed.plan t → s.stop ≡ 0 → IsAlike s t
     → IsAlike (scanned fixed rows s) (scanned fixed rows t)
 
--- A controller without message blocks starts settled, and has settled behind each scan that did not
+-- A controller without message blocks starts settled, and has settled after each scan that did not
 -- stop it.
 pub record ScansSettle : Type 0 where
   pub starts : (plan : ControllerPlan) → IsSettled plan (start plan)

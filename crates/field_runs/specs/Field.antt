@@ -23,7 +23,7 @@ pub record PlaysInField (plan played : ControllerPlan) : Type 0 where
   pub others : played ≡ record plan { drops = played.drops }
   pub drops : AllZip IsPlayedBy plan.drops played.drops
 
--- The state of a controller that is alone behind its first scans, so many of them, or behind its
+-- The state of a controller that is alone after its first scans, so many of them, or after its
 -- stop.
 abbrev pub state_after : ControllerPlan → ℕ → ℕ → ℕ → ControllerState
 state_after plan scan_time watchdog scans =

@@ -28,7 +28,7 @@ abbrev pub told_first : List ℕ → ℕ
 told_first [] = 1
 told_first (row ∷ rows) = row
 
--- Those that are told behind a step: an input exchange takes one.
+-- The rows that are told after a step: an input exchange takes one.
 abbrev pub rest_of : List ℕ → List ℕ
 rest_of [] = []
 rest_of (row ∷ rows) = rows
@@ -37,7 +37,7 @@ abbrev pub told_behind : ScanStep → List ℕ → List ℕ
 told_behind (steps.In row) rows = rest_of rows
 told_behind step rows = rows
 
--- The state behind steps, as long as the controller goes on.
+-- The state after steps, as long as the controller goes on.
 unfoldable pub behind_steps : Fixed → List ℕ → ControllerState → List ScanStep → ControllerState
 behind_steps fixed rows s [] = s
 behind_steps fixed rows s (step ∷ due) =
@@ -45,7 +45,7 @@ behind_steps fixed rows s (step ∷ due) =
     then behind_steps fixed (told_behind step rows) (stepped_with fixed (told_first rows) s step) due
     else s
 
--- The state behind a whole scan, or a stop in it, in which the input exchanges bring these rows, one
+-- The state after a whole scan, or a stop in it, in which the input exchanges bring these rows, one
 -- after another.
 abbrev pub scanned : Fixed → List ℕ → ControllerState → ControllerState
 scanned fixed rows s = behind_steps fixed rows s (full_scan fixed.plan)

@@ -35,7 +35,7 @@ abbrev pub IsTold : ControllerPlan → ScanStep → ℕ → Type 0
 IsTold plan (steps.In row) number = NamesRow plan (input_of (row_of plan row)) number
 IsTold plan step number = Unit {0}
 
--- So are all that are told for steps.
+-- What is told for each of these steps is a row of its drop, where the step is an input exchange.
 abbrev pub AreTold : ControllerPlan → List ScanStep → List ℕ → Type 0
 AreTold plan [] rows = Unit {0}
 AreTold plan (step ∷ due) rows =

@@ -21,13 +21,15 @@ use Rattle.field_runs.specs.Alike.{AlikeStatesStay, IsAlike, IsSettled, ScansSet
 use Rattle.field_runs.specs.Field.{PlaysInField, state_after}
 use Rattle.field_runs.specs.Scan.{behind_steps, scanned, stepped_with, told_behind, told_first}
 use Rattle.field_runs.specs.Played.{behind_scans, AreScansTold, ScansAreFieldRuns}
+use Rattle.field_runs.specs.Played.{with_scripts}
 use Rattle.field_runs.specs.Told.{Agrees, FieldRunsAreScans}
 use Rattle.field_runs.proofs.Playing.{stopped-steps}
-use Rattle.field_search.specs.Covered.{AsksAlike, CoversHoldInField, IsAlone, StandsFor, TellAll}
+use Rattle.field_search.specs.Covered.{AsksAlike, CoversHoldInField, CoversReachAll, HasAlike}
+use Rattle.field_search.specs.Covered.{IsAlone, StandsFor, TellAll}
 use Rattle.field_search.specs.Covered.{leads_to, starts_at}
 use Rattle.field_search.specs.Found.{EachTells, PathsAreRuns}
 
-alike-then : (s t u : ControllerState) → IsAlike s t → IsAlike t u → IsAlike s u
+pub alike-then : (s t u : ControllerState) → IsAlike s t → IsAlike t u → IsAlike s u
 alike-then s t u a b = record {
   references = a.references ∙ b.references;
   edges = a.edges ∙ b.edges;
@@ -178,6 +180,18 @@ module _ (stay : AlikeStatesStay) (runs : FieldRunsAreScans) (settle : ScansSett
       asks (state_after played fixed.scan_time fixed.watchdog scans) (states k.key) k.stands.alike
       ∙ covers.good scans k.key k.among below
 
+pub covers-reach : AlikeStatesStay → FieldRunsAreScans → ScansSettle → CoversReachAll
+covers-reach stay runs settle fixed states rows count asked bound keys depth alone tell asks covers
+    played scans plays below =
+    let k = has-key stay runs settle fixed states rows count asked bound keys depth alone tell asks
+    covers played plays scans below in
+    record {
+      place = k.among.place;
+      key = k.key;
+      is_there = k.among.is_there;
+      alike = k.stands.alike;
+    }
+
 pub covers-hold : AlikeStatesStay → FieldRunsAreScans → ScansSettle → CoversHoldInField
 covers-hold stay runs settle fixed states rows count asked bound keys depth alone tell asks covers
     played scans plays below =
@@ -233,12 +247,13 @@ paths-run stay scans settle fixed states rows count path key alone tells r =
     let whole : take (length path) (map rows path) ≡ map rows path =
     ap (λ n. take n (map rows path)) (sym long) ∙ took-all (map rows path) in
     record {
-      played = played.played;
       plays = played.plays;
-      alike = alike-then _ (behind_scans fixed (map rows path) (start fixed.plan)) (states key)
-          (subst (λ (l : List (List ℕ)). IsAlike (state_after played.played fixed.scan_time
-          fixed.watchdog (length path)) (behind_scans fixed l (start fixed.plan))) whole
-          (agrees-alike _ _ same))
+      alike = subst (λ n. IsAlike (state_after (with_scripts fixed.plan (map rows path))
+          fixed.scan_time fixed.watchdog n) (states key)) (sym long)
+          (alike-then _ (behind_scans fixed (map rows path) (start fixed.plan)) (states key)
+          (subst (λ (l : List (List ℕ)). IsAlike (state_after (with_scripts fixed.plan
+          (map rows path)) fixed.scan_time fixed.watchdog (length path))
+          (behind_scans fixed l (start fixed.plan))) whole (agrees-alike _ _ same))
           (lead-alike stay settle fixed states rows count alone path r.first key
-          (start fixed.plan) (λ goes. settle.starts fixed.plan) r.is_first r.leads_on);
+          (start fixed.plan) (λ goes. settle.starts fixed.plan) r.is_first r.leads_on));
     }

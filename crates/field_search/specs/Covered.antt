@@ -1,5 +1,5 @@
 -- Keys of states that cover a field. All of it is this project's own.
-use Rattle.std.specs.Prelude.{◌≡◌, ◌<◌, ℕ, Bool, false, List, Option}
+use Rattle.std.specs.Prelude.{◌≡◌, ◌<◌, ℕ, Bool, false, List, Option, Some, slice_get}
 use Rattle.plant_types.specs.declared.plan.ControllerPlan.{ControllerPlan}
 use Rattle.plant_types.specs.Plans.{KeepsPower}
 use Rattle.scan_order.specs.Due.{full_scan}
@@ -34,7 +34,7 @@ pub record StandsFor (plan : ControllerPlan) (s kept : ControllerState) : Type 0
   pub alike : IsAlike s kept
   pub settled : kept.stop ≡ 0 → IsSettled plan kept
 
--- A key of the start, and a move from a key to one of a state behind a scan with its rows, where
+-- A key of the start, and a move from a key to one of a state after a scan with its rows, where
 -- keys stand for states.
 abbrev pub starts_at : Fixed → (List ℕ → ControllerState) → List ℕ → Type 0
 starts_at fixed states key = StandsFor fixed.plan (start fixed.plan) (states key)
@@ -49,7 +49,7 @@ abbrev pub AsksAlike : (ControllerState → Bool) → Type 0
 AsksAlike asked = (s t : ControllerState) → IsAlike s t → asked s ≡ asked t
 
 -- Where keys cover what fewer moves than a bound lead to, and something is so of none of their
--- states, it is so of no state behind fewer scans of a run of the field.
+-- states, it is so of no state after fewer scans of a run of the field.
 abbrev pub CoversHoldInField : Type 0
 CoversHoldInField =
     (fixed : Fixed) (states : List ℕ → ControllerState) (rows : ℕ → List ℕ) (count : ℕ)
@@ -59,3 +59,23 @@ CoversHoldInField =
     bound keys depth
     → (played : ControllerPlan) (scans : ℕ) → PlaysInField fixed.plan played → IsBelow bound scans
     → asked (state_after played fixed.scan_time fixed.watchdog scans) ≡ false
+
+-- A key of a list stands for a state that is alike this one.
+pub record HasAlike (states : List ℕ → ControllerState) (keys : List (List ℕ))
+    (s : ControllerState) : Type 0 where
+  pub place : ℕ
+  pub key : List ℕ
+  pub is_there : slice_get keys place ≡ Some key
+  pub alike : IsAlike s (states key)
+
+-- Where keys cover what fewer moves than a bound lead to, each state behind fewer scans of a run of
+-- the field is alike that of a key.
+abbrev pub CoversReachAll : Type 0
+CoversReachAll =
+    (fixed : Fixed) (states : List ℕ → ControllerState) (rows : ℕ → List ℕ) (count : ℕ)
+    (asked : ControllerState → Bool) (bound : Option ℕ) (keys : List (List ℕ)) (depth : ℕ → ℕ)
+    → IsAlone fixed.plan → TellAll fixed rows count → AsksAlike asked
+    → Covers (starts_at fixed states) count (leads_to fixed states rows) (λ key. asked (states key))
+    bound keys depth
+    → (played : ControllerPlan) (scans : ℕ) → PlaysInField fixed.plan played → IsBelow bound scans
+    → HasAlike states keys (state_after played fixed.scan_time fixed.watchdog scans)

@@ -1,5 +1,5 @@
 //! What keys that cover a field say of it.
-ghost use Rattle.field_search.specs.Covered.{CoversHoldInField};
+ghost use Rattle.field_search.specs.Covered.{CoversHoldInField, CoversReachAll};
 ghost use Rattle.field_search.specs.Found.{PathsAreRuns};
 
 use field_runs::{alike_states_stay, field_runs_are_scans, scans_are_field_runs, scans_settle};
@@ -13,7 +13,16 @@ pub fn covers_hold_in_the_field()
     scans_settle();
 }
 
-/// What moves lead to, a run of the field comes to.
+/// Each state of a run of a field is alike that of one of the keys that cover it.
+pub fn covers_reach_all()
+    ensures { CoversReachAll }
+{
+    alike_states_stay();
+    field_runs_are_scans();
+    scans_settle();
+}
+
+/// What moves lead to, the run of the field with their rows as scripts comes to.
 pub fn paths_are_runs()
     ensures { PathsAreRuns }
 {

@@ -3,4 +3,4 @@
 
 mod laws;
 
-pub use laws::{covers_hold_in_the_field, paths_are_runs};
+pub use laws::{covers_hold_in_the_field, covers_reach_all, paths_are_runs};

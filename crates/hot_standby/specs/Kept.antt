@@ -5,7 +5,7 @@ use Rattle.controller_core.specs.Controller.{ControllerIs, state_of}
 use Rattle.whole_scan.specs.Scans.{IsBetweenScans}
 use Rattle.hot_standby.specs.Part.{scans_made}
 
--- No scan of the controller is running, and it has so many behind it.
+-- No scan of the controller is running, and it has done so many.
 pub record HoldsScans (v : ControllerIs) (scans : ℕ) : Type 0 where
   pub between : IsBetweenScans v
   pub rests : v.reserved ≡ false

@@ -20,7 +20,7 @@ BeginsOnce [] = ⊥
 BeginsOnce (first ∷ rest) =
     (begins_scan first ≡ true) × All (λ entry. begins_scan entry ≡ false) rest
 
--- The scans that a state has behind it: those that are gone, and the one in which it stopped.
+-- The scans that a state has done: those that are gone, and the one in which it stopped.
 abbrev pub scans_made : ControllerState → ℕ
 scans_made s = s.gone + (if s.stop == 0 then 0 else 1)
 
@@ -28,18 +28,18 @@ scans_made s = s.gone + (if s.stop == 0 then 0 else 1)
 abbrev pub scans_of : Fixed → List Entry → ℕ
 scans_of fixed history = scans_made (replay fixed history)
 
--- Behind a history these entries are one scan's part: the first begins a scan and no other does,
--- and the scan is over behind them, or the controller stopped in it.
+-- After a history these entries are one scan's part: the first begins a scan and no other does,
+-- and the scan is over after them, or the controller stopped in it.
 pub record IsOnePart (fixed : Fixed) (history entries : List Entry) : Type 0 where
   pub begins : BeginsOnce entries
   pub over : scans_of fixed (history ++ entries) ≡ scans_of fixed history + 1
 
--- These entries may come next: the history with them is legal, and they are one scan's part.
+-- Some entries may come next: the history with them is legal, and they are one scan's part.
 pub record MayComeNext (fixed : Fixed) (history entries : List Entry) : Type 0 where
   pub legal : IsLegal fixed (history ++ entries)
   pub part : IsOnePart fixed history entries
 
--- They may come next behind the history of a controller.
+-- Some entries may come next after the history of a controller.
 abbrev pub MayFollowAll : ControllerIs → List Entry → Type 0
 MayFollowAll v entries = MayComeNext v.fixed v.history entries
 
@@ -48,6 +48,6 @@ MayFollowAll v entries = MayComeNext v.fixed v.history entries
 abbrev pub MayComeAt : ControllerIs → ℕ → Entry → Type 0
 MayComeAt v place entry = (begins_scan entry ≡ (place == 0)) × MayFollow v entry
 
--- An entry stands behind a controller's history now.
+-- An entry stands after a controller's history now.
 abbrev pub HasTaken : ControllerIs → Entry → ControllerIs → Type 0
 HasTaken old entry new = new.history ≡ old.history ++ entry ∷ []

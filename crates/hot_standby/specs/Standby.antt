@@ -77,7 +77,7 @@ abbrev pub new_packets : List AnsweredPacket → List Packet
 new_packets answered = filter_map (λ one. packet_by one.packet one.taken) answered
 
 -- A standby is made of the packets that it took as New: its history is their entries, one packet
--- behind the other, their scans are 1, 2 and so on up to the scans that it holds, and the history
+-- after the other, their scans are 1, 2 and so on up to the scans that it holds, and the history
 -- is legal.
 pub record IsMadeOfNewPackets (v : StandbyIs) (answered : List AnsweredPacket) : Type 0 where
   pub history : v.history ≡ flat_map (λ packet. packet.entries) (new_packets answered)
@@ -85,7 +85,7 @@ pub record IsMadeOfNewPackets (v : StandbyIs) (answered : List AnsweredPacket) :
       ≡ range_with_len 1 (scans_held v)
   pub legal : IsLegal v.fixed v.history
 
--- So it is of every list of packets that a new standby takes.
+-- A new standby, whatever packets it takes, is made of those that it took as New.
 abbrev pub PacketsMakeTheHistory : Type 0
 PacketsMakeTheHistory = (fixed : Fixed) (answered : List AnsweredPacket) (v : StandbyIs)
     → TookAll (new_standby fixed) answered v → IsMadeOfNewPackets v answered

@@ -57,7 +57,7 @@ pub record ControllerIsComplete (fixed : Fixed) (entries : List Entry) : Type 0 
   pub collected : has_started_at fixed entries ≡ false
   pub finished : EndsEachCall (items_of entries)
 
--- An entry stands in a list, behind these and before those.
+-- An entry stands in a list, after these and before those.
 abbrev pub StandsIn : List RingEntry → List RingEntry → RingEntry → List RingEntry → Type 0
 StandsIn list before entry after = list ≡ before ++ entry ∷ after
 
@@ -155,7 +155,7 @@ IsCompleteLog plant scans rings plan log =
     ControllerIsCompleteOn (net_of plant log.node) (own_ring plant rings log.node) log.node
     (fixed_of plant scans plan) log.entries
 
--- So are the list of a host and its node.
+-- The list of a host and its node are complete, on the ring of its own network.
 abbrev pub IsCompleteHostLog : Plant → List RingLog → HostPlan → HostLog → Type 0
 IsCompleteHostLog plant rings plan log =
     HostIsCompleteOn (net_of plant log.node) (own_ring plant rings log.node) log.node plan
@@ -174,7 +174,7 @@ SaysDone (Pass n done words) = done ≡ true
 SaysDone _ = Unit {0}
 
 -- Where an end left as all was done it was quiet from the first of the done Passes on that stand in
--- an unbroken row before, and stayed so behind its Leave.
+-- an unbroken row before, and stayed so after its Leave.
 abbrev pub LeavesQuietly : List RingEntry → Type 0
 LeavesQuietly ring = (before between after : List RingEntry) (n m : ℕ) (words : List ℕ)
     → StandsIn ring (before ++ Pass m true words ∷ between) (Leave n AllDone) after
@@ -194,7 +194,7 @@ abbrev pub IsCompleteSide : Plant → List RingLog → BridgeLog → ℕ → Typ
 IsCompleteSide plant rings log side =
     EndIsComplete (net_of plant side) (own_ring plant rings side) log.entries side
 
--- Both ends of a bridge are.
+-- A bridge's list is complete: at each of its two ends it is, on the ring of that end's network.
 abbrev pub IsCompleteBridgeLog : Plant → List RingLog → BridgePlan → BridgeLog → Type 0
 IsCompleteBridgeLog plant rings plan log =
     IsCompleteSide plant rings log log.left × IsCompleteSide plant rings log log.right

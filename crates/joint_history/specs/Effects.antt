@@ -21,7 +21,7 @@ has_reply (Some reply) = true
 abbrev pub answers : CallId → Answered → Bool
 answers id answer = is_same_call answer.id id && has_reply answer.reply
 
--- How often it did.
+-- How often a station answered a call.
 abbrev pub answers_to : CallId → Items → ℕ
 answers_to id items = count_by (answers id) items.answers
 

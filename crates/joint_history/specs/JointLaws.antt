@@ -39,7 +39,7 @@ abbrev pub IsTiedSide : List RingEntry → BridgeLog → ℕ → Type 0
 IsTiedSide ring log side =
     TiedEnd (side_items side log.entries) (backs_of side log.entries) (own side ring)
 
--- So they do for both ends.
+-- A bridge's list with each of its ends, and that end's entries on its ring, keep the five laws.
 pub record IsTiedBridge (ring : List RingEntry) (log : BridgeLog) : Type 0 where
   pub left : IsTiedSide ring log log.left
   pub right : IsTiedSide ring log log.right

@@ -7,7 +7,7 @@ use Rattle.ring_core.specs.declared.entry.RingEntry.{RingEntry}
 use Rattle.joint_history.specs.declared.joint.RingLog.{RingLog}
 use Rattle.joint_history.specs.declared.joint.Joint.{Joint}
 
--- The entries of all rings, one ring behind the other. Each address stands once in a plant, so what a
+-- The entries of all rings, one ring after the other. Each address stands once in a plant, so what a
 -- node noted on the ring of its network is what it noted among these.
 abbrev pub entries_of_rings : List RingLog → List RingEntry
 entries_of_rings [] = []

@@ -20,7 +20,7 @@ fn add_copied(
     Ok(())
 }
 
-/// A copy of the entries of all rings, one ring behind the other.
+/// A copy of the entries of all rings, one ring after the other.
 pub fn noted_copied(alloc: Global, rings: &[RingLog]) -> Result<List<RingEntry>, AllocError>
     ensures { IfOk result (λ noted. noted ≡ entries_of_rings rings.now) }
 {

@@ -53,13 +53,13 @@ pub record IsNodeDone (given : List Bool) (fails : ℕ) (b : List RingEntry) : T
   pub fits : EachAllows (NodeAllows given) b
   pub noticed : HasNoticed fails b
 
--- There is power behind an entry, or none.
+-- Whether there is power after an entry.
 abbrev pub powered_next : Bool → Entry → Bool
 powered_next powered Begin = true
 powered_next powered Fail = false
 powered_next powered _ = powered
 
--- There is power behind these entries, or none.
+-- Whether there is power after some entries.
 abbrev pub powered_from : Bool → List Entry → Bool
 powered_from powered [] = powered
 powered_from powered (e ∷ es) = powered_from (powered_next powered e) es
@@ -120,7 +120,7 @@ abbrev pub IsControllerDoneOn : ℕ → Standing → ControllerLog → Bool → 
 IsControllerDoneOn scans on log is_done = log.node ≡ on.node
     → IsControllerDone scans on.status log is_done (own_entries on)
 
--- Each controller of this node was.
+-- Each controller of this node was done.
 abbrev pub AreControllersDoneOn : ℕ → Standing → List ControllerLog → List Bool → Type 0
 AreControllersDoneOn scans on logs done =
     AreControllersDone scans logs done on.node on.status (own_entries on)
@@ -130,7 +130,7 @@ abbrev pub IsHostNodeDoneOn : HostPlan → Standing → HostLog → Bool → Typ
 IsHostNodeDoneOn plan on log is_done = log.node ≡ on.node
     → IsHostNodeDone plan on.status log is_done (own_entries on)
 
--- Each host of this node was.
+-- Each host of this node was done.
 abbrev pub AreHostNodesDoneOn : List HostPlan → Standing → List HostLog → List Bool → Type 0
 AreHostNodesDoneOn plans on logs done =
     AreHostNodesDone plans logs done on.node on.status (own_entries on)
@@ -139,7 +139,7 @@ AreHostNodesDoneOn plans on logs done =
 abbrev pub IsEndDoneOn : Standing → List BridgeEntry → ℕ → Type 0
 IsEndDoneOn on list side = side ≡ on.node → IsEndDone on.status list side (own_entries on)
 
--- So was each end of a bridge.
+-- Each end of a bridge was done, if it is this node.
 abbrev pub AreEndsDoneOn : Standing → BridgeLog → Type 0
 AreEndsDoneOn on log =
     IsEndDoneOn on log.entries log.left × IsEndDoneOn on log.entries log.right

@@ -12,7 +12,7 @@ abbrev pub IsLogEnd : Law → ℕ → Bound → Option ℕ → Type 0
 IsLogEnd law node s None = s.node ≡ node → KeepsLaw law s
 IsLogEnd law node s (Some place) = (s.node ≡ node) × BreaksLaw law s (place + 1)
 
--- All stations with this address do, or one of them breaks it.
+-- All stations with this address keep a law, or one of them breaks it.
 abbrev pub IsLogsEnd : Law → ℕ → List Bound → Option ℕ → Type 0
 IsLogsEnd law node stations None = All (λ (s : Bound). s.node ≡ node → KeepsLaw law s) stations
 IsLogsEnd law node stations (Some place) =
@@ -30,7 +30,7 @@ pub record IsBreak (law : Law) (stations : List Bound) (spot : Spot) : Type 0 wh
 abbrev pub AllKeep : Law → List Bound → Type 0
 AllKeep law stations = All (λ (s : Bound). s.node < addresses → KeepsLaw law s) stations
 
--- All keep it, or one of them breaks it.
+-- All stations keep a law, or it is broken at the first address at which it is.
 abbrev pub IsNodesEnd : Law → List Bound → Option Spot → Type 0
 IsNodesEnd law stations None = AllKeep law stations
 IsNodesEnd law stations (Some spot) = IsBreak law stations spot

@@ -16,7 +16,7 @@ pub record ArePlacesOn (rings : List RingLog) (own : List (List (List ℕ))) : T
   pub each : (k : ℕ) (d : RingLog) → k < length rings
       → ArePlaces (get_or rings k d).entries (get_or own k [])
 
--- A node noted something on one ring at most: where it did so on one it noted nothing behind that.
+-- A node noted something on one ring at most: where it did so on one it noted nothing after that.
 abbrev pub IsOnOne : ℕ → List RingLog → Type 0
 IsOnOne node rings = (before after : List RingLog) (ring : RingLog)
     → rings ≡ before ++ ring ∷ after
@@ -28,7 +28,8 @@ pub record AreOnRings (joint : Joint) (on : OnRings) : Type 0 where
   pub one : (node : ℕ) → IsOnOne node on.rings.now
   pub noted_is : entries_of_rings on.rings.now ≡ noted_on_rings joint
 
--- These are the entries of a node on its ring, and all of its entries among these.
+-- A node's ring and its places there: the entries at these places are all that the ring has of the
+-- node, and all that was noted of it.
 pub record IsOfNode (noted : List RingEntry) (node : ℕ) (of : OfNode) : Type 0 where
   pub places : AreOfNode of.ring.now node of.places.now
   pub own_is : own node of.ring.now ≡ own node noted

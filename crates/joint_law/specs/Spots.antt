@@ -132,7 +132,7 @@ pub record LawSpot (plant : Plant) (scans : ℕ) (joint : Joint) (law : Law) (no
 abbrev pub IsCompleteEndAt : Plant → List RingLog → ℕ → BridgeLog → ℕ → Type 0
 IsCompleteEndAt plant rings node log side = side ≡ node → IsCompleteSide plant rings log side
 
--- So is each end of a bridge.
+-- Each end of a bridge is complete, if it is at this address.
 abbrev pub AreCompleteEndsAt : Plant → List RingLog → ℕ → BridgeLog → Type 0
 AreCompleteEndsAt plant rings node log =
     IsCompleteEndAt plant rings node log log.left × IsCompleteEndAt plant rings node log log.right

@@ -32,7 +32,7 @@ pub(crate) struct Followed<'a> {
     pub hosts_done: &'a [bool],
 }
 
-/// A node on the ring of its network: its entries there, and where it stands behind them.
+/// A node on the ring of its network: its entries there, and where it stands after them.
 #[derive(Clone, Copy)]
 struct Standing<'a> {
     ring: &'a [RingEntry],
@@ -54,7 +54,7 @@ fn node_is_done(alloc: Global, on: Standing, given: Given, fails: usize) -> Resu
     notices(alloc, on.ring, on.places, fails)
 }
 
-/// Whether there is power behind these entries.
+/// Whether there is power after these entries.
 fn is_powered(entries: &[Entry]) -> bool
     ensures { result ≡ powered_from true entries.now }
 {

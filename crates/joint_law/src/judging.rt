@@ -70,7 +70,7 @@ fn spot_from_laws(
     }
 }
 
-/// The first spot of legal lists of all stations and bridges: in a ring's list, or behind those.
+/// The first spot of legal lists of all stations and bridges: in a ring's list, or after those.
 fn spot_from_rings(
     alloc: Global,
     plant: &Plant,
@@ -103,7 +103,7 @@ fn spot_from_rings(
     }
 }
 
-/// The first spot of legal lists of all stations: in a bridge's list, or behind those.
+/// The first spot of legal lists of all stations: in a bridge's list, or after those.
 fn spot_from_bridges(
     alloc: Global,
     plant: &Plant,
@@ -129,7 +129,7 @@ fn spot_from_bridges(
     }
 }
 
-/// The first spot of legal lists of the controllers: in a host's list, or behind those.
+/// The first spot of legal lists of the controllers: in a host's list, or after those.
 fn spot_from_hosts(
     alloc: Global,
     plant: &Plant,

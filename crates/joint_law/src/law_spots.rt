@@ -238,7 +238,7 @@ pub(crate) fn laws_spot(
     law_spot(alloc, Law::Downs, joint, on)
 }
 
-/// The rings as one: a copy of the entries of all, one ring behind the other.
+/// The rings as one: a copy of the entries of all, one ring after the other.
 fn joined(alloc: Global, rings: &[RingLog]) -> Result<List<RingLog>, AllocError>
     ensures { IfOk result (IsJoined rings.now) }
 {

@@ -42,7 +42,7 @@ abbrev pub route_or_dash : List ℕ → List ℕ
 route_or_dash [] = codes "-"
 route_or_dash (to ∷ rest) = route_text (to ∷ rest)
 
--- An address behind a point.
+-- An address after a point.
 abbrev pub behind_point : ℕ → List ℕ
 behind_point address = codes "." ++ decimal address
 

@@ -103,7 +103,7 @@ abbrev pub named_text : List ℕ → Frame → List ℕ
 named_text letter frame =
     letter ++ codes " " ++ id_text frame.id ++ codes " " ++ hex_bytes frame.pdu
 
--- A frame that is posted: the route of a Request is its target, and the addresses behind that.
+-- A frame that is posted: the route of a Request is its target, and the addresses after that.
 abbrev pub sent_text : FrameKind → Frame → List ℕ
 sent_text Request frame = request_text frame.id (frame_route frame) frame.pdu
 sent_text Reply frame = named_text (codes "R") frame
@@ -153,7 +153,7 @@ ring_line (ring.Leave node cause) =
     codes "LE " ++ decimal node ++ codes " " ++ cause_text cause ++ codes "\n"
 ring_line (ring.Join node) = codes "JN " ++ decimal node ++ codes "\n"
 
--- A line has no line feed but the one behind it.
+-- A line has no line feed but the one after it.
 abbrev pub line_feed : ℕ
 line_feed = 10
 

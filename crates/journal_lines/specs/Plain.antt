@@ -37,12 +37,12 @@ abbrev pub IsPlainEntry : Entry → Type 0
 IsPlainEntry (Collect calls) = (calls ≢ []) × All IsPlainCall calls
 IsPlainEntry _ = Unit {0}
 
--- So has the request of a host.
+-- The route of a host's request has an address at least.
 abbrev pub IsPlainHostEntry : HostEntry → Type 0
 IsPlainHostEntry (Ask id route pdu) = route ≢ []
 IsPlainHostEntry _ = Unit {0}
 
--- And so has a request that a bridge sends on.
+-- The route of a request that a bridge sends on has an address at least.
 abbrev pub IsPlainBridgeEntry : BridgeEntry → Type 0
 IsPlainBridgeEntry (Forward side old id route request) = route ≢ []
 IsPlainBridgeEntry _ = Unit {0}

@@ -89,7 +89,7 @@ pub(crate) fn push_words(text: &mut String, words: &[u16]) -> Result<(), AllocEr
     }
 }
 
-/// Addresses, each behind a point.
+/// Addresses, each after a point.
 fn push_behind(text: &mut String, addresses: &[u8]) -> Result<(), AllocError>
     ensures { OnOk result (string_bytes text.new ≡ string_bytes text.old
         ++ flat_map behind_point addresses.now) }
@@ -100,7 +100,7 @@ fn push_behind(text: &mut String, addresses: &[u8]) -> Result<(), AllocError>
     Ok(())
 }
 
-/// A route by its first address and those behind it.
+/// A route by its first address and those after it.
 pub(crate) fn push_way(text: &mut String, to: u8, rest: Route) -> Result<(), AllocError>
     ensures { OnOk result (string_bytes text.new ≡ string_bytes text.old
         ++ route_text (to ∷ rest)) }

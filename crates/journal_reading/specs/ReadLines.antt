@@ -92,7 +92,7 @@ unfoldable pub read_calls : List ℕ → Option (List Call)
 read_calls text = read_parts read_call 32 text
 
 -- A request that was served with its reply, one with its route, one that is posted, and a request
--- or a reply alone: each behind its name.
+-- or a reply alone: each after its name.
 unfoldable pub read_served : List ℕ → Option (CallId × (List ℕ × List ℕ))
 read_served text = read_pair read_id (read_pair read_pdu read_pdu 32) 32 text
 
@@ -242,7 +242,7 @@ unfoldable pub read_sent : List ℕ → Option Frame
 read_sent text = read_first sent_forms None text
 
 -- The bytes of a Request that is taken, and the route on which it is still to go, if that stands
--- behind them.
+-- after them.
 abbrev pub read_going : List ℕ × List ℕ → Option (List ℕ × List ℕ)
 read_going parts = do
   pdu ← read_pdu parts.0

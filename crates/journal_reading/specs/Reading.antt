@@ -27,20 +27,20 @@ abbrev pub Reads : {A V : Type 0} → (A → V) → Result A LineFault → Optio
 Reads view (Ok value) read = read ≡ Some (view value)
 Reads view (Err fault) read = Refuses fault read
 
--- What stands before the first byte of its kind, and behind it.
+-- What stands before the first byte of its kind, and after it.
 unfoldable pub cut : ℕ → List ℕ → Option (List ℕ × List ℕ)
 cut at [] = None
 cut at (byte ∷ bytes) =
     if byte == at then Some ([], bytes)
     else (cut at bytes >>= λ parts. Some (byte ∷ parts.0, parts.1))
 
--- What stands behind a prefix.
+-- What stands after a prefix.
 unfoldable pub behind : List ℕ → List ℕ → Option (List ℕ)
 behind [] text = Some text
 behind (byte ∷ front) [] = None
 behind (byte ∷ front) (first ∷ text) = if first == byte then behind front text else None
 
--- What is read of a value, or else otherwise; and behind the first prefix of a table.
+-- What is read of a value, or else otherwise; and after the first prefix of a table.
 abbrev pub read_or : {A V : Type 0} → Option A → (A → Option V) → Option V → Option V
 read_or (Some value) read other = read value
 read_or None read other = other

@@ -27,7 +27,7 @@ impl From<AllocError> for LineFault {
     }
 }
 
-/// What stands before the first byte of its kind, and behind it.
+/// What stands before the first byte of its kind, and after it.
 pub fn parted(text: &[u8], at: u8) -> Option<(&[u8], &[u8])>
     ensures { option_map (λ parts. (parts.0.now, parts.1.now)) result ≡ cut at text.now }
 {
@@ -47,7 +47,7 @@ pub fn cut(text: &[u8], at: u8) -> Result<(&[u8], &[u8]), LineFault>
     }
 }
 
-/// What stands behind a prefix.
+/// What stands after a prefix.
 pub fn behind<'a>(text: &'a [u8], front: &str) -> Option<&'a [u8]>
     ensures { option_map (λ rest. rest.now) result ≡ behind front.now text.now }
 {

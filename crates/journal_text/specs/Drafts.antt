@@ -174,7 +174,7 @@ abbrev pub ReadsAt : {V : Type 0} → ℕ → Result V JournalFault → Option V
 ReadsAt number (Ok value) read = read ≡ Some value
 ReadsAt number (Err fault) read = StopsAt number fault read
 
--- A joint history is read where its last line is, and nothing stands behind it.
+-- A joint history is read where its last line is, and nothing stands after it.
 abbrev pub ending : Draft → List ℕ → Option Joint
 ending (drafts.End joint) [] = Some joint
 ending _ _ = None

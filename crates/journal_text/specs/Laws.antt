@@ -19,7 +19,7 @@ OneHistoryOfAText =
     → one ≡ other
 
 -- Bytes have one journal in front: where two journals begin the same bytes, they tell one joint
--- history, and the same stands behind them.
+-- history, and the same stands after them.
 abbrev pub OneJournalInFront : Type 0
 OneJournalInFront =
     (one other : Joint) (front other_front behind other_behind : List ℕ)

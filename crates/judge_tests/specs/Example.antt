@@ -14,11 +14,11 @@ controller_plan = idle_controller 1 0 (record { scan = 2; row = 0; dark = 0 } �
 abbrev pub host_plan : HostPlan
 host_plan = asking_host 0 (1 ∷ [])
 
--- Their network.
+-- The network of the example.
 abbrev pub net_plan : NetPlan
 net_plan = net_with 0 (1 ∷ 2 ∷ []) []
 
--- The plant.
+-- The plant of the example.
 abbrev pub example_plant : Plant
 example_plant = record {
   scan_time = 10;

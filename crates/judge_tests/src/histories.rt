@@ -37,7 +37,7 @@ enum Change {
     NoAnswer,
     NoEnd,
     NoLeave,
-    /// A second scan, in which power fails behind the reply, and nobody notices.
+    /// A second scan, in which power fails after the reply, and nobody notices.
     Unnoticed,
     /// A second scan, in which power fails before the request comes.
     Failing,

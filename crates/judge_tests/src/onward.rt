@@ -51,7 +51,7 @@ fn hosts(alloc: Global, asked: &Asked<'_>) -> Result<List<HostLog>, AllocError> 
     Ok(logs)
 }
 
-/// The Request, with these addresses behind node 1.
+/// The Request, with these addresses after node 1.
 fn request(alloc: Global, asked: &Asked<'_>, rest: Route) -> Result<Frame, AllocError> {
     Ok(Frame {
         kind: FrameKind::Request,
@@ -114,7 +114,7 @@ fn rings(
     Ok(logs)
 }
 
-/// The law that is broken where node 1 takes a request with these addresses behind it.
+/// The law that is broken where node 1 takes a request with these addresses after it.
 fn broken(
     alloc: Global,
     asked: &Asked<'_>,

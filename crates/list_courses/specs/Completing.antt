@@ -38,7 +38,7 @@ HasNoticed fails b = list_any is_ended b ≡ true → fails ≡ latest_down b
 abbrev pub given_in : List Answered → List Bool
 given_in answers = map is_some (replies_in answers)
 
--- The same of an answer, if there is one.
+-- Whether an answer of a station, if there is one, has a reply.
 abbrev pub given_if : Option Answered → List Bool
 given_if answer = given_in (cons_option answer [])
 
@@ -65,7 +65,7 @@ due_count (Plain id rest pdu ∷ ts) given =
     one_due (first_given given) + due_count ts (rest_given given)
 due_count (ForStats id pdu ∷ ts) given = 1 + due_count ts given
 
--- What is left of the answers of a station behind those to some requests.
+-- What is left of the answers of a station after those to some requests.
 abbrev pub left_given : List Taken → List Bool → List Bool
 left_given [] given = given
 left_given (Plain id rest pdu ∷ ts) given = left_given ts (rest_given given)

@@ -49,11 +49,11 @@ EndsOnce ends call = times_ended ends call ≡ 1
 abbrev pub once_of : ℕ → Option Bool
 once_of count = if count == 0 then None else Some (count == 1)
 
--- These ends were noted.
+-- A table says of each call that has ended whether it ended once, as in a list of ends.
 abbrev pub CountsEnds : List CallId → ByCall Bool → Type 0
 CountsEnds ends once = (q : CallId) → value_of_call once q ≡ once_of (times_ended ends q)
 
--- One more end was.
+-- A table of ended calls goes on by one end more.
 abbrev pub NotesEnd : ByCall Bool → CallId → ByCall Bool → Type 0
 NotesEnd old id new = (q : CallId) → value_of_call new q
     ≡ (if is_same_call id q then Some (is_none (value_of_call old id)) else value_of_call old q)

@@ -24,7 +24,7 @@ row_passed Loud true = Loud
 row_passed Left done = Left
 row_passed row false = Broken
 
--- A Leave as all was done is one behind the row, if that is quiet.
+-- A Leave as all was done is one after the row, if that is quiet.
 abbrev pub row_left : Row → Row
 row_left Broken = Broken
 row_left Quiet = Left
@@ -39,13 +39,13 @@ row_noted Quiet false = Loud
 row_noted Loud quiet = Loud
 row_noted Left quiet = Left
 
--- The row behind one entry more.
+-- The row after one entry more.
 abbrev pub row_next : Row → RingEntry → Row
 row_next row (Pass n done words) = row_passed row done
 row_next row (Leave n Ended) = row_left row
 row_next row e = row_noted row (is_quiet e)
 
--- The row behind these, from the one before.
+-- The row after these, from the one before.
 abbrev pub row_from : Row → List RingEntry → Row
 row_from row [] = row
 row_from row (e ∷ es) = row_from (row_next row e) es
@@ -54,7 +54,7 @@ row_from row (e ∷ es) = row_from (row_next row e) es
 abbrev pub done_row : List RingEntry → Row
 done_row b = row_from Broken b
 
--- An entry may follow on a row: behind a loud one no Leave as all was done, and behind such a Leave
+-- An entry may follow on a row: after a loud one no Leave as all was done, and after such a Leave
 -- what is quiet.
 abbrev pub MayFollow : Row → RingEntry → Type 0
 MayFollow Broken e = Unit {0}
@@ -62,6 +62,6 @@ MayFollow Quiet e = Unit {0}
 MayFollow Loud e = is_ended e ≡ false
 MayFollow Left e = is_quiet e ≡ true
 
--- So it is with an entry and those before it.
+-- An entry may follow on the row of those before it.
 abbrev pub LeaveAllows : List RingEntry → RingEntry → Type 0
 LeaveAllows before e = MayFollow (done_row before) e

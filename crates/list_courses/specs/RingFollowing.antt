@@ -6,7 +6,7 @@ use Rattle.ring_core.specs.declared.entry.RingEntry.{RingEntry}
 use Rattle.ring_core.specs.Bare.{BareMade, IsBehind, bare_net}
 use Rattle.ring_core.specs.Legal.{IsLegalRing, IsRingStep}
 
--- Behind some entries the ring made this one, which is a step.
+-- After some entries the ring made this one, which is a step.
 pub record RingMade (past : List RingEntry) (old : BareRing) (entry : RingEntry) (new : BareRing)
     : Type 0 where
   pub step : IsRingStep (bare_net old) past entry
@@ -17,7 +17,7 @@ abbrev pub RingFollowed : List RingEntry → BareRing → RingEntry → BareRing
 RingFollowed past old entry new true = RingMade past old entry new
 RingFollowed past old entry new false = IsRingStep (bare_net old) past entry → ⊥
 
--- A ring of this network is behind these entries, which are legal.
+-- A ring of this network is the one that these entries lead to, which are legal.
 pub record IsRingBehind (net : NetPlan) (entries : List RingEntry) (bare : BareRing) : Type 0 where
   pub net_is : bare_net bare ≡ net
   pub behind : IsBehind entries bare

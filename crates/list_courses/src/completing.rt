@@ -99,7 +99,7 @@ fn took(mut progress: Progress, due: u64) -> Progress
     progress
 }
 
-/// What a node has done behind an entry, with these answers left before and behind it.
+/// What a node has done after an entry, with these answers left before and after it.
 fn next(progress: Progress, given: &mut Given, entry: &RingEntry) -> Progress
     requires { IsShort progress }
     ensures next { result ≡ progress_next given.old.items progress entry.now }

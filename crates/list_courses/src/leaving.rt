@@ -17,7 +17,7 @@ enum Row {
     Broken,
     Quiet,
     Loud,
-    /// Its node left behind a quiet one, as all was done.
+    /// Its node left after a quiet one, as all was done.
     Left,
 }
 
@@ -33,7 +33,7 @@ fn is_quiet(entry: &RingEntry) -> bool
     }
 }
 
-/// The row behind a Pass.
+/// The row after a Pass.
 fn row_passed(row: Row, done: bool) -> Row
     ensures { result ≡ row_passed row done }
 {
@@ -45,7 +45,7 @@ fn row_passed(row: Row, done: bool) -> Row
     }
 }
 
-/// The row behind a Leave as all was done.
+/// The row after a Leave as all was done.
 fn row_left(row: Row) -> Row
     ensures { result ≡ row_left row }
 {
@@ -55,7 +55,7 @@ fn row_left(row: Row) -> Row
     }
 }
 
-/// The row behind any other entry.
+/// The row after any other entry.
 fn row_noted(row: Row, quiet: bool) -> Row
     ensures { result ≡ row_noted row quiet }
 {
@@ -65,7 +65,7 @@ fn row_noted(row: Row, quiet: bool) -> Row
     }
 }
 
-/// The row behind one entry more.
+/// The row after one entry more.
 fn row_next(row: Row, entry: &RingEntry) -> Row
     ensures { result ≡ row_next row entry.now }
 {
@@ -79,7 +79,7 @@ fn row_next(row: Row, entry: &RingEntry) -> Row
     }
 }
 
-/// Whether an entry may follow on a row: behind a loud one no Leave as all was done, and behind
+/// Whether an entry may follow on a row: after a loud one no Leave as all was done, and after
 /// such a Leave what is quiet.
 fn may_follow(row: Row, entry: &RingEntry) -> bool
     ensures { IsTrue result ↔ MayFollow row entry.now }
@@ -92,7 +92,7 @@ fn may_follow(row: Row, entry: &RingEntry) -> bool
 }
 
 /// Whether a node was quiet, where it left as all was done, from the first of the done Passes on
-/// that stand in an unbroken row before, and stayed so behind its Leave.
+/// that stand in an unbroken row before, and stayed so after its Leave.
 pub fn leaves_quietly(ring: &[RingEntry], places: &[usize]) -> bool
     requires { AreWithin ring.now places.now }
     ensures { IsTrue result ↔ LeavesQuietly (picked ring.now places.now) }

@@ -167,7 +167,7 @@ fn follow_join(ring: &mut BareRing, past: &[RingEntry], node: u8) -> bool
     true
 }
 
-/// Makes the call of an entry behind these entries, and answers whether the ring says the same.
+/// Makes the call of an entry after these entries, and answers whether the ring says the same.
 /// Where the answer is false, the entry isn't legal here.
 fn follow(
     alloc: Global,

@@ -15,7 +15,7 @@ fn status_left(cause: LeaveCause) -> NodeStatus
     }
 }
 
-/// Where a node stands behind one entry more of its own. One that asks to come in counts as in.
+/// Where a node stands after one entry more of its own. One that asks to come in counts as in.
 fn status_next(status: NodeStatus, entry: &RingEntry) -> NodeStatus
     ensures { result ≡ status_next status entry.now }
 {
@@ -26,7 +26,7 @@ fn status_next(status: NodeStatus, entry: &RingEntry) -> NodeStatus
     }
 }
 
-/// Where a member stands behind all its entries.
+/// Where a member stands after all its entries.
 pub fn status_by(ring: &[RingEntry], places: &[usize]) -> NodeStatus
     requires { AreWithin ring.now places.now }
     ensures { result ≡ status_by (picked ring.now places.now) }

@@ -43,7 +43,8 @@ pub record ClosedTo (gate : RingGate) (purse : Purse) (ring : RingLog) : Type 0 
   pub own : Owns maker pass ring.entries
   pub heard : All (StartsWith ring.entries) pass.heard
 
--- So it is of all rings.
+-- What was noted on each ring, as its gate was closed: a legal list of its network, of which all
+-- that came back had seen the beginning.
 abbrev pub AllClosed : List RingGate → List Purse → List RingLog → Type 0
 AllClosed [] [] [] = Unit {0}
 AllClosed (gate ∷ gates) (purse ∷ purses) (ring ∷ rings) =

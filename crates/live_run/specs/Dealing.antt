@@ -47,7 +47,7 @@ pub record CanDeal (gates : List RingGate) (purses : List Purse) (nodes : List �
   pub deals : AllZip (DealsAt dealt out) gates purses
   pub new : AreNew dealt nodes
 
--- They were dealt, and these are the sides.
+-- Passes of these numbers were dealt, and these are their sides.
 abbrev pub IsDealt : List RingGate → List Purse → List Purse → List ℕ → List Key → Type 0
 IsDealt gates old new nodes keys = (dealt : List ℕ) (out : List Key)
     → AllZip (DealsAt dealt out) gates old

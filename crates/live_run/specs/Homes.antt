@@ -20,7 +20,7 @@ Purse = Option (PassFacts RingEntry)
 abbrev pub is_ring_of : ℕ → RingGate → Bool
 is_ring_of network gate = gate.fixed.number == network
 
--- This is the gate of the ring of a network.
+-- A gate is that of the ring of a network.
 abbrev pub IsHomeOf : List RingGate → ℕ → RingGate → Type 0
 IsHomeOf gates network gate = find (is_ring_of network) gates ≡ Some gate
 

@@ -44,7 +44,7 @@ pub record IsBrought (gates : List RingGate) (purses : List Purse) (network node
   pub unused : pass.gate.opening ≡ []
   pub brought : HasBrought pass side
 
--- Both ends of a bridge brought back theirs.
+-- A bridge's workers brought back their passes, and both of its ends came to their ends.
 pub record IsBridgeBrought (plant : Plant) (gates : List RingGate) (purses : List Purse)
     (plan : BridgePlan) (log : BridgeLog) : Type 0 where
   pub legal : IsLegalBridgeLog plan log

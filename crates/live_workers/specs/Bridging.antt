@@ -34,13 +34,13 @@ pub record TendsOn {P Q : Type 0} (n : ℕ) (bridge : BridgeSideIs P) (list : Li
   pub unspent : NoneSpent (own n ring)
   pub keeps : EndKeepsOn bridge.plan side.net n list ring left
 
--- Both ends of a bridge are members of their networks.
+-- A bridge's two ends are members of their networks.
 abbrev pub AreEndsMembers : Plant → BridgePlan → Type 0
 AreEndsMembers plant plan = IsMember (net_of plant plan.left) plan.left
     × IsMember (net_of plant plan.right) plan.right
 
 module _ {B P R Q : Type 0} (b : bridge_sides.Ghosts B P) (r : ring_sides.Ghosts R Q) where
-  -- It stands there at these two sides.
+  -- A worker of a bridge's end stands between two turns at these two sides.
   abbrev pub TendsOver : ℕ → B → R → Bool → Type 0
   TendsOver n bridge ring left =
       TendsOn n (b.bridge bridge) (b.known bridge) (r.side ring) (r.known ring) left
@@ -54,7 +54,7 @@ abbrev pub bridge_side : GatedBridgeIs → BridgeSideIs (GateFacts BridgeEntry B
 bridge_side s = gate_side s.gate s.number
 
 module _ {R Q : Type 0} (r : ring_sides.Ghosts R Q) where
-  -- It stands there at a side over the bridge's gate.
+  -- A worker of a bridge's end stands between two turns at a side over the bridge's gate.
   abbrev pub TendsAt : ℕ → GatedBridgeIs → R → Bool → Type 0
   TendsAt n s ring left = TendsOn n (bridge_side s) s.seen (r.side ring) (r.known ring) left
 

@@ -23,7 +23,7 @@ module _ {R Q : Type 0} (r : ring_sides.Ghosts R Q) where
   TalksAt worker ram ring stage =
       TalksOn worker (ram_side ram.gate) ram.seen (r.side ring) (r.known ring) stage
 
-  -- It stands there before its first turn, at a gate through which nothing came.
+  -- A controller's worker stands before its first turn, at a gate through which nothing came.
   abbrev pub TalksFirst : WorkerIs → GateFacts Entry Fixed → R → Type 0
   TalksFirst worker gate ring =
       TalksOn worker (ram_side gate) gate.name.opening (r.side ring) (r.known ring) There

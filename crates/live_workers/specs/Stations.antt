@@ -51,7 +51,8 @@ pub record IsUnusedEnd {Q : Type 0} (plant : Plant) (node : ℕ) (side : RingSid
   pub writer : side.writer ≡ Some node
   pub nothing : known ≡ []
 
--- So it is, and the node is not the end of a bridge.
+-- A side of the ring of a station's node, which writes in its name alone and has seen nothing; the
+-- node is not the end of a bridge.
 pub record IsUnused {Q : Type 0} (plant : Plant) (node : ℕ) (side : RingSideIs Q)
     (known : List RingEntry) : Type 0 where
   pub unused : IsUnusedEnd plant node side known
@@ -84,7 +85,7 @@ pub record EndCameToEnd (plant : Plant) (plan : BridgePlan) (side : ℕ) (list :
   pub keeps : EndKeepsOn plan (net_of plant side) side list ring true
   pub unspent : NoneSpent (own side ring)
 
--- Both ends of a bridge came to their ends.
+-- A bridge came to its end: its list is legal, and each of its two ends came to its end.
 pub record BridgeCameToEnd (plant : Plant) (plan : BridgePlan) (log : BridgeLog)
     (left right : List RingEntry) : Type 0 where
   pub legal : IsLegalBridgeLog plan log
@@ -169,7 +170,7 @@ pub record IsBridgeFresh {S Q : Type 0} (side : S → RingSideIs Q) (known : S �
   pub right : IsUnusedEnd plant plan.right (side station.ring.right) (known station.ring.right)
   pub unlogged : station.log ≡ None
 
--- Those of these bridges have not.
+-- No station of these bridges has run.
 abbrev pub AreBridgesFresh : {S Q : Type 0} → (S → RingSideIs Q) → (S → List RingEntry) → Plant
     → List BridgePlan → List (Station (Ends S) BridgeLog) → Type 0
 AreBridgesFresh side known plant plans stations =

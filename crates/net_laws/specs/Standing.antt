@@ -13,17 +13,17 @@ status_left Ended = Gone
 status_left Spent = Gone
 status_left (Down number) = Away
 
--- Where a node stands behind one entry more of its own; one that asks to come in counts as in.
+-- Where a node stands after one entry more of its own; one that asks to come in counts as in.
 abbrev pub status_next : NodeStatus → RingEntry → NodeStatus
 status_next status (Leave n cause) = status_left cause
 status_next status (Join n) = In
 status_next status _ = status
 
--- Where it stands behind these, from where it stood.
+-- Where a node stands after these entries, from where it stood.
 abbrev pub status_from : NodeStatus → List RingEntry → NodeStatus
 status_from status [] = status
 status_from status (e ∷ es) = status_from (status_next status e) es
 
--- Where a member stands behind all its entries.
+-- Where a member stands after all its entries.
 abbrev pub status_by : List RingEntry → NodeStatus
 status_by entries = status_from In entries

@@ -20,7 +20,7 @@ frames_heard asked = map frame_asked asked
 abbrev pub own_frame : ℕ → Port → List AsciiFrame
 own_frame node port = filter (is_for node) (frame_of port.bytes ∷ [])
 
--- These frames are the next behind a history: their numbers go on behind its requests.
+-- The frames that come next after a history: their numbers go on after its requests.
 abbrev pub next_frames : List Entry → List Asked → List NumberedFrame
 next_frames history asked = numbered_on (request_count history + 1) (frames_heard asked)
 

@@ -62,7 +62,8 @@ pub record HasBegunScan (old new : ControllerIs) : Type 0 where
   pub made : front ++ rest ≡ scan_entries old
   pub legal : IsLegal new.fixed new.history
 
--- The same of the calls alone.
+-- Memory ran out while a controller's calls were given up: the entries made so far stand, which are
+-- the first of those that end the calls, and the history is legal.
 pub record HasBegunGivingUp (old new : ControllerIs) : Type 0 where
   pub front : List Entry
   pub rest : List Entry

@@ -53,7 +53,7 @@ takes_request entry = is_some (request_taken entry)
 abbrev pub requests_taken : List Entry → List NamedRequest
 requests_taken history = filter_map request_taken history
 
--- How many they are.
+-- How many requests a history has taken.
 abbrev pub request_count : List Entry → ℕ
 request_count history = length (requests_taken history)
 

@@ -23,7 +23,7 @@ pub record BenchScan : Type 0 where
 abbrev pub state_after : Fixed → ControllerState → List Entry → ControllerState
 state_after fixed s entries = fold (apply fixed) s entries
 
--- A scan is the last of a bench where none is left behind it, or the controller stopped in it.
+-- A scan is the last of a bench where none is left after it, or the controller stopped in it.
 abbrev pub ends_bench : ℕ → ControllerState → Bool
 ends_bench left s = (left == 0) || not (s.stop == 0)
 
@@ -31,7 +31,7 @@ ends_bench left s = (left == 0) || not (s.stop == 0)
 abbrev pub frames_now : Bool → List NumberedFrame → List NumberedFrame
 frames_now last frames = if last then frames else take 1 frames
 
--- One scan of the bench, behind which so many are left, from a state on.
+-- One scan of the bench, after which so many are left, from a state on.
 abbrev pub bench_scan : Fixed → ControllerState → ℕ → List NumberedFrame → BenchScan
 bench_scan fixed s left frames =
     let made = scan_made fixed s in
@@ -53,7 +53,7 @@ bench_scans fixed s (suc left) frames =
     scan ∷ (if ends_bench left after then []
     else bench_scans fixed (state_after fixed after scan.served) left (drop 1 frames))
 
--- The bench for a stream: in each scan the frame of its number is served, and behind the last one
+-- The bench for a stream: in each scan the frame of its number is served, and after the last one
 -- all that are left.
 abbrev pub bench : Fixed → List ℕ → List BenchScan
 bench fixed stream =

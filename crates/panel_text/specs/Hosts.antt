@@ -39,7 +39,7 @@ ask_line node number (Some result) =
     ++ host_result_text result ++ codes "\n"
 
 -- The line of an entry, if it is a request, where so many were made before it, by the entries
--- behind it.
+-- after it.
 abbrev pub entry_lines : ℕ → ℕ → List HostEntry → HostEntry → List ℕ
 entry_lines node number behind entry =
     flat_map (λ ask. ask_line node ask.0 (result_in behind ask.1.id))

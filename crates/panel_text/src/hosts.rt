@@ -56,7 +56,7 @@ fn push_ask(
 }
 
 /// Adds the line of an entry, if it is a request, and answers how many requests there are with it.
-/// What it came to is told by the entries behind it.
+/// What it came to is told by the entries after it.
 fn push_entry(
     alloc: Global,
     text: &mut String,

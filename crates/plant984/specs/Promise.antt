@@ -42,7 +42,7 @@ pub record AskedFor {C : Type 0} (Spells : List (List ℕ) → C → Type 0) (re
   pub input : List ℕ
   pub read : HasRead (reads command) left rest input
 
--- This status was due, and the text that was due with it was written.
+-- A status was due, and the text that was due with it was written.
 pub record Wrote (IsDueHere : Due → Type 0) (status : Status) (had has : Option (List ℕ))
     : Type 0 where
   pub what : Due
@@ -86,7 +86,7 @@ pub record BeforeAfter : Type 0 where
   pub before : Side
   pub after : Side
 
--- That of a value, of which these give the bytes and the count.
+-- A value before a call and after it, where functions give its bytes and its count of faults.
 abbrev pub before_after : {X : Type 0} → (X → Option (List ℕ)) → (X → ℕ) → X → X → BeforeAfter
 before_after bytes faults before after = record {
   before = side (bytes before) (faults before);
@@ -113,9 +113,9 @@ HasWrittenDue answered sink status =
     HasAnswered (λ what. IsOkAnd answered (λ answer. what ≡ as_due answer)) sink.before sink.after
     status
 
--- What a call promises by the status that it ends with, for commands that are spelled so, that
--- read an input or none, and for which this is due: what it read and wrote, and the cause of each
--- fault; and with which status it ends where the outside does not fail, unless memory runs out.
+-- A call keeps its promise by the status that it ends with, for commands that are so spelled, that
+-- read an input or none, and for what is due: what it read and wrote was due, each fault has its
+-- cause, and where the outside did not fail it ended as was due, or memory ran out.
 pub record KeepsPromise
     {C : Type 0} (Spells : List (List ℕ) → C → Type 0) (reads : C → Bool)
     (IsDueFor : C → List ℕ → Due → Type 0)

@@ -77,7 +77,7 @@ fn failing_at_a_write(
     }
 }
 
-// A call of the program: its words, what it reads, and what it writes to.
+/// A call of the program: its words, what it reads, and what it writes to.
 #[derive(Drop)]
 pub struct Call {
     pub words: Vec<String>,
@@ -121,12 +121,12 @@ fn failing_call(
     })
 }
 
-// The same where nothing fails.
+/// A call over this input, where nothing fails; 7 bytes are moved at a time.
 pub fn call_over(alloc: Global, line: &str, input: &[u8]) -> Result<Call, AllocError> {
     failing_call(alloc, line, input, &[], &[])
 }
 
-// How a call ended, and the sink that it wrote to.
+/// How a call ended, and the sink that it wrote to.
 #[derive(Drop)]
 pub struct Outcome {
     pub status: Status,
@@ -134,10 +134,12 @@ pub struct Outcome {
 }
 
 impl Outcome {
+    /// The bytes that the call wrote.
     pub fn written(&self) -> &[u8] {
         self.sink.bytes()
     }
 
+    /// Whether the call ended with this status and wrote this text.
     pub fn is(&self, status: Status, text: &str) -> bool {
         self.status == status && self.written() == text.as_bytes()
     }
@@ -153,13 +155,13 @@ fn outcome_of(alloc: Global, call: Call) -> Outcome {
     Outcome { status, sink }
 }
 
-// How a call over this input ends, where nothing fails.
+/// How a call over this input ends, where nothing fails.
 pub fn outcome_over(alloc: Global, line: &str, input: &[u8]) -> Result<Outcome, AllocError> {
     let call = call_over(alloc, line, input)?;
     Ok(outcome_of(alloc, call))
 }
 
-// Whether it ends with this status and this text.
+/// Whether a call of these words over this input ends with this status and this text.
 pub fn ends_so(
     alloc: Global,
     line: &str,

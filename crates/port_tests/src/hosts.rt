@@ -83,7 +83,7 @@ fn the_fifth_ask_waits_for_an_answer(rt: HostRuntime) -> Result<(), Fail> {
     Ok(())
 }
 
-/// Whether a host with one ask is done just behind its answer.
+/// Whether a host with one ask is done just after its answer.
 fn is_done_behind_the_answer(rt: &impl Abort, host: &mut Host) -> Result<bool, AllocError> {
     let before = host.is_done();
     let asked = asked(host, 1)?.is_some();

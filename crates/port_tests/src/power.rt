@@ -341,7 +341,7 @@ const fn at_begin(scan: u32, dark: u32) -> PowerRow {
 fn a_failure_before_anything(rt: HostRuntime) -> Result<(), Fail> {
     let alloc = rt.alloc();
     let power: (&[PowerRow], &[PowerRow]) = (&[at_begin(1, 0)], &[]);
-    // No power until the second scan: the node comes back behind a Pass of the other.
+    // No power until the second scan: the node comes back after a Pass of the other.
     assert!(rt;
         tells(
             &rt,

@@ -27,7 +27,7 @@ fn event_letter(entry: &Entry) -> u8 {
     }
 }
 
-/// Puts a letter for each event behind a text.
+/// Puts a letter for each event after a text.
 pub(crate) fn put_events(text: &mut Vec<u8>, entries: &[Entry]) -> Result<(), AllocError> {
     for entry in entries {
         text.push(event_letter(entry))?;
@@ -80,7 +80,7 @@ fn entry_letters(entry: &RingEntry) -> (u8, u8) {
     }
 }
 
-/// Puts the node and a letter for each entry behind a text.
+/// Puts the node and a letter for each entry after a text.
 pub(crate) fn put_entries(text: &mut Vec<u8>, entries: &[RingEntry]) -> Result<(), AllocError> {
     for entry in entries {
         let (node, letter) = entry_letters(entry);

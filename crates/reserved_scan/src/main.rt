@@ -1,5 +1,5 @@
 //! Makes one scan of each controller of a plant, whose memory was reserved before, and writes a
-//! line between the two. For the scripts of plants/, which refuse all memory behind that line.
+//! line between the two. For the scripts of plants/, which refuse all memory after that line.
 #![tactic(auto)]
 
 ghost use Rattle.std.specs.Prelude.{◌≤◌};
@@ -65,7 +65,7 @@ fn make_scans(controllers: &mut [Controller]) -> usize {
     count
 }
 
-/// Makes the scans up to a number, the last one behind a line that says that its memory is taken.
+/// Makes the scans up to a number, the last one after a line that says that its memory is taken.
 fn print_scans(rt: &impl Print, alloc: Global, plant: &Plant, number: u32) -> Result<()>
     requires plant { CanRunPlant plant.now }
     requires number { number ≤ most_scans }

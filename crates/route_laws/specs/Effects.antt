@@ -48,7 +48,7 @@ pub record IsTakenOnOnce (joint : Joint) (id : CallId) : Type 0 where
   pub accepted : accepts_of joint id ≤ 1
   pub forwarded : forwards_of joint id ≤ 1
 
--- So they do with each request.
+-- Bridges accept each request at most once, and send it on at most once.
 abbrev pub AreTakenOnOnce : Joint → Type 0
 AreTakenOnOnce joint = (id : CallId) → IsTakenOnOnce joint id
 

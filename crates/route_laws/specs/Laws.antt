@@ -52,13 +52,13 @@ OffsHaveNoEffect = InEachJoint OffsAreNoEffects
 abbrev pub AllEffectsAreRight : Type 0
 AllEffectsAreRight = InEachJoint EffectsAreRight
 
--- There is no bridge, and each call has its own name alone: its effects are those under that name.
+-- No bridge is there, and each call has its own name alone: its effects are those under that name.
 pub record HaveOwnNamesAlone (joint : Joint) : Type 0 where
   pub no_bridge : joint.bridges ≡ []
   pub one_name : (id : CallId) → names_on_way joint id ≡ id ∷ []
   pub same_effects : (id : CallId) → effects_on_way joint id ≡ effects joint id
 
--- So it is in each joint history of a plant of one network.
+-- In a plant of one network there is no bridge, and each call has its own name alone.
 abbrev pub WaysOfOneNetwork : Type 0
 WaysOfOneNetwork = (plant : Plant) (scans : ℕ) (joint : Joint) → IsPlant plant
     → length plant.nets ≡ 1 → IsLegalJoint plant scans joint → HaveOwnNamesAlone joint

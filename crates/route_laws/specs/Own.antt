@@ -62,13 +62,14 @@ pub data IsNoted (joint : Joint) (name : CallId) (left noted : List ℕ) : Type 
   AsMissed : (n : ℕ) (misses : NodeMisses joint n name noted)
       (left_is : left ≡ n ∷ []) → IsNoted joint name left noted
 
--- It is the request of the call, no byte of which was changed, and what was left of its route.
+-- What was noted is the request of the call, no byte of which was changed, and what was left of its
+-- route.
 pub record IsOfRequest (route request left noted : List ℕ) : Type 0 where
   pub way : List ℕ
   pub route_is : route ≡ way ++ left
   pub request_is : noted ≡ request
 
--- So is all that is noted of the request of a call, under whatever of its names.
+-- All that is noted of the request of a call, under whatever of its names, is of that request.
 abbrev pub RequestsAreOwn : Joint → Type 0
 RequestsAreOwn joint =
     (id : CallId) (route request : List ℕ) → Asks joint id route request
@@ -135,7 +136,7 @@ pub record IsOwnFinish (joint : Joint) (log : ControllerLog) (id : CallId) (resu
   pub named : call.id ≡ id
   pub came : CameBy joint id call.kind result
 
--- So is what a host noted, of one that it asked.
+-- A result that a host noted is what its own request came to.
 pub record IsOwnAnswer (joint : Joint) (log : HostLog) (id : CallId) (result : HostResult)
     : Type 0 where
   pub route : List ℕ
@@ -143,7 +144,7 @@ pub record IsOwnAnswer (joint : Joint) (log : HostLog) (id : CallId) (result : H
   pub asked : Contains log.entries (host_entries.Ask id route request)
   pub came : CameTo joint id route request (outcome_of result)
 
--- So is what an end of a bridge noted, of one that it sent on.
+-- A result that an end of a bridge noted is what the request came to that it sent on.
 pub record IsOwnRelay (joint : Joint) (log : BridgeLog) (side : ℕ) (id : CallId)
     (result : RelayResult) : Type 0 where
   pub old : CallId

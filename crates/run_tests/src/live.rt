@@ -110,7 +110,7 @@ fn push_words(words: &mut Vec<u16>, outcome: &MstrResult) -> Result<(), AllocErr
     Ok(())
 }
 
-/// Each controller's node, and behind it what its calls brought.
+/// Each controller's node, and after it what its calls brought.
 fn results(alloc: Global, joint: &Joint) -> Result<Vec<u16>, AllocError> {
     let mut words = Vec::new(alloc);
     for log in joint.controllers.as_slice() {
@@ -147,7 +147,7 @@ fn has_ended(rings: &[RingLog], node: u8) -> bool {
 struct Shown {
     /// The events of the scans of all controllers.
     events: Vec<u8>,
-    /// Each controller's node, and behind it what its calls brought.
+    /// Each controller's node, and after it what its calls brought.
     words: Vec<u16>,
     /// Both nodes left once, each as it had come to its end.
     ended: bool,

@@ -12,7 +12,7 @@ use plant_types::{
 };
 use std::alloc::{AllocError, Global};
 
-/// What a test changes of it.
+/// What a test changes of the plant `read_two`.
 #[derive(Clone, Copy)]
 pub struct Change {
     pub fates: &'static [Fate],
@@ -24,6 +24,7 @@ pub struct Change {
     pub power: &'static [PowerRow],
 }
 
+/// No change: each frame is delivered, node 5 is asked, and power never fails.
 pub const AS_IT_IS: Change = Change {
     fates: &[Fate::D],
     rotations: 2,
@@ -275,6 +276,7 @@ fn plant_of(
     })
 }
 
+/// The plant `read_two` with a change.
 pub fn read2(alloc: Global, change: Change) -> Result<Plant, AllocError>
     ensures runs { IfOk result CanRunPlant }
 {

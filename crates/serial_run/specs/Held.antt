@@ -205,7 +205,7 @@ turns_of net ring node failures left =
 abbrev pub failures_of : ControllerStation → ℕ
 failures_of station = (state_of station.controller).failures
 
--- Those that the node of a station has, on the ring of its network.
+-- A bound of the hold turns that the node of a station has before it, on the ring of its network.
 abbrev pub turns_in : KeptRing → ℕ → ℕ → Bool → ℕ
 turns_in ring node failures left = turns_of ring.net ring.history node failures left
 
@@ -217,7 +217,7 @@ abbrev pub host_turns : List RingStation → HostStation → ℕ
 host_turns rings station =
     turns_in (ring_on rings station.network) station.node 0 station.left
 
--- Those that the two ends of a bridge have.
+-- A bound of the hold turns that the two ends of a bridge have before them.
 abbrev pub end_turns : List RingStation → BridgeSite → ℕ → ℕ → ℕ
 end_turns rings site network side =
     turns_in (ring_on rings network) side 0 (end_has_left side site.station)
@@ -238,7 +238,7 @@ turns_left run =
 abbrev pub members_of_ring : RingStation → ℕ
 members_of_ring station = count_by (λ node. is_in_ring station.ring node) station.members
 
--- So many has a network, if it has a ring.
+-- How many nodes of a network are members of its ring; none where it has no ring.
 abbrev pub members_if : Option RingStation → ℕ
 members_if None = 0
 members_if (Some station) = members_of_ring station
@@ -246,7 +246,7 @@ members_if (Some station) = members_of_ring station
 abbrev pub members_in : Stations → ℕ → ℕ
 members_in run network = members_if (station_on run.rings.items network)
 
--- Both ends of a bridge have left.
+-- A bridge has left: both of its ends have.
 abbrev pub site_has_left : BridgeSite → Bool
 site_has_left site =
     end_has_left site.plan.left site.station && end_has_left site.plan.right site.station

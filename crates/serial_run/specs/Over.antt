@@ -34,7 +34,7 @@ pub record IsNotedRun (plant : Plant) (scans : ℕ) (noted : Noted) : Type 0 whe
   pub complete : IsComplete plant scans noted.joint
   pub notes : IsNoted plant noted
 
--- The same, with how many coils are on at its end.
+-- A serial run with what `IsNotedRun` says of it, and with how many coils are on at its end.
 pub record IsCountedRun (plant : Plant) (scans : ℕ) (counted : CountedRun) : Type 0 where
   pub run : IsNotedRun plant scans counted.noted
   pub coils : counted.coils ≡ coils_at_end plant counted.noted.joint

@@ -22,7 +22,7 @@ use Rattle.serial_run.specs.declared.order.Turn.{Turn}
 use Rattle.serial_run.specs.declared.order.Turn.TheVariants.{Hold, Visit, Away}
 use Rattle.serial_run.specs.Turns.{nothing_made, MakesTurns}
 
--- A controller's list behind its next whole scan, or behind the part of it up to a stop.
+-- A controller's list after its next whole scan, or after the part of it up to a stop.
 abbrev pub log_with_scan : Plant → ℕ → ControllerPlan × ControllerLog → ControllerLog
 log_with_scan plant scans of = record {
   node = of.1.node;
@@ -41,7 +41,7 @@ log_has_ended plant scans of = has_ended_at (fixed_of plant scans of.0) of.1.ent
 abbrev pub all_have_ended : Plant → ℕ → Joint → Bool
 all_have_ended plant scans joint = list_all (log_has_ended plant scans) (logged plant joint)
 
--- How many members of a network are in its ring behind these entries.
+-- How many members of a network are in its ring after these entries.
 abbrev pub members_on : NetPlan → List RingEntry → ℕ
 members_on net ring = count_by (λ node. is_in (status_at net ring node)) net.members
 
@@ -123,7 +123,7 @@ pub record IsRepetition (plant : Plant) (scans : ℕ) (old new : Joint) : Type 0
   pub visits : MakesTurns plant scans (visits_of plant) came_back visited
   pub rounds : MakesRounds plant scans (first_net plant).rotations visited new
 
--- A round behind the repetitions, as long as a node is not out of its ring.
+-- A round after the repetitions, as long as a node is not out of its ring.
 pub record IsLateRound (plant : Plant) (scans : ℕ) (old new : Joint) : Type 0 where
   pub goes_on : all_are_out plant scans old ≡ false
   pub round : MakesRound plant scans old new
@@ -140,7 +140,7 @@ pub record MakesLateRounds (plant : Plant) (scans : ℕ) (old new : Joint) : Typ
   pub rounds : IsChain (IsLateRound plant scans) old behind_each new
   pub out : all_are_out plant scans new ≡ true
 
--- Those rounds, and then the visits.
+-- The last part of the serial run: rounds until every node is out of its ring, and then the visits.
 pub record Finishes (plant : Plant) (scans : ℕ) (old new : Joint) : Type 0 where
   pub emptied : Joint
   pub rounds : MakesLateRounds plant scans old emptied

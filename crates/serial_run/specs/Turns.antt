@@ -120,7 +120,7 @@ abbrev pub with_noted_on : ℕ → List RingEntry → Joint → Joint
 with_noted_on network ring joint =
     record joint { rings = map (with_entries network ring) joint.rings }
 
--- A controller's list behind its due step; the same list where it has ended or stopped.
+-- A controller's list after its due step; the same list where it has ended or stopped.
 abbrev pub stepped_list : Fixed → List Entry → List Entry
 stepped_list fixed entries = (stepped (controller_at fixed entries)).history
 

@@ -53,7 +53,7 @@ pub struct CountedRun {
     pub coils: u128,
 }
 
-/// All stations of a plant behind its serial run.
+/// All stations of a plant after its serial run.
 fn over(alloc: Global, plant: &Plant, scans: u32) -> Result<Stations, AllocError>
     requires plant { CanRunPlant plant.now }
     requires scans { scans ≤ most_scans }

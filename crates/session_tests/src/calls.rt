@@ -39,7 +39,7 @@ const CASES: [Case; 5] = [
         events: 6,
         ended: 2,
     },
-    // 6103 is 24835 in decimal. The blocks show it, and start again in the scan behind.
+    // 6103 is 24835 in decimal. The blocks show it, and start again in the scan after.
     Case {
         top: "version = 1\n",
         power: "",
@@ -57,7 +57,7 @@ const CASES: [Case; 5] = [
         events: 15,
         ended: 4,
     },
-    // Power fails behind the solve in which they started.
+    // Power fails after the solve in which they started.
     Case {
         top: "version = 1\n",
         power: "power = [\"1 1 0\"]\n",

@@ -43,7 +43,7 @@ const ROWS: [(&str, &str); 14] = [
         ":01050001FF00FA\r\n:010100000001FD\r\n",
         "S 1 N 1 00001=0\n:01050001FF00FA\r\nS 2 N 1 00001=1\n:01010101FC\r\n",
     ),
-    // Those that are left are served behind the last scan.
+    // Those that are left are served after the last scan.
     (
         ":0107F8\r\n:0107F8\r\n:01050001FF00FA\r\n",
         "S 1 N 1 00001=0\n:01870177\r\nS 2 N 1 00001=0\n:01870177\r\n:01050001FF00FA\r\n",
@@ -65,7 +65,7 @@ fn frames_have_their_scans(rt: HostRuntime) -> Result<(), Fail> {
     Ok(())
 }
 
-/// So many zeros behind a colon, and then a frame.
+/// So many zeros after a colon, and then a frame.
 fn behind_zeros(alloc: Global, count: usize) -> Result<Vec<u8>, AllocError> {
     let mut stream = vec![in alloc; b'0'; count]?;
     stream.insert(0, b':')?;

@@ -1,4 +1,4 @@
-//! Frames that come where there is no power, and behind a stop.
+//! Frames that come where there is no power, and after a stop.
 use crate::benches::{Case, show};
 use std::test::Fail;
 
@@ -19,7 +19,7 @@ const OFF: [Case; 3] = [
         text: "S 1 N 1 00001=0\n:01050001FF00FA\r\nS 2 N 1 OFF\nS 3 N 1 OFF\nS 4 N 1 00001=1\n\
             :01010101FC\r\n",
     },
-    // What is left is served behind the last scan, also where there is no power then.
+    // What is left is served after the last scan, also where there is no power then.
     Case {
         plant: FAILING,
         scans: 2,

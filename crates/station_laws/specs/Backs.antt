@@ -21,11 +21,11 @@ abbrev pub marked_if : Bool → Option Bool
 marked_if true = Some true
 marked_if false = None
 
--- These names are those of the requests that were answered.
+-- A table marks the names of the requests that were answered, and no others.
 abbrev pub HasNames : List Answered → ByCall Bool → Type 0
 HasNames answers names = (q : CallId) → value_of_call names q ≡ marked_if (is_answered answers q)
 
--- One more is among the names, if there is one.
+-- A table of names goes on by one name more, if there is one.
 abbrev pub NotesName : ByCall Bool → Option Answered → ByCall Bool → Type 0
 NotesName old answer new = (q : CallId)
     → value_of_call new q

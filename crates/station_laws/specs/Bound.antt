@@ -64,7 +64,7 @@ side_bound ring log side = record {
   ring = own side ring;
 }
 
--- Both ends of a bridge.
+-- A bridge's two ends, each by the bridge's list.
 abbrev pub side_bounds : List RingEntry → BridgeLog → List Bound
 side_bounds ring log = side_bound ring log log.left ∷ side_bound ring log log.right ∷ []
 
@@ -118,7 +118,7 @@ answered_in_order answers ring = map (sorted_answer false) answers ++ port_items
 abbrev pub sorted_taken : Bool → List Taken → List Sorted
 sorted_taken statistics taken = map (sorted statistics) (items_for statistics taken)
 
--- The same of what a node took at these places.
+-- The items of what a node took at these places for a port, or for its station.
 abbrev pub taken_places : Bool → List RingEntry → List ℕ → List Sorted
 taken_places statistics ring places = sorted_taken statistics (taken_by (picked ring places))
 

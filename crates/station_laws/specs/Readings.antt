@@ -57,7 +57,7 @@ side_back_in side (bridge_entries.Back near id reply) =
     if near == side then Some (id, Some reply) else None
 side_back_in side _ = None
 
--- The same as a list of one, or of none.
+-- The call that an entry makes for an end of a bridge, or for a host, as a list of one or of none.
 abbrev pub side_calls_in : ℕ → BridgeEntry → List Called
 side_calls_in side e = cons_option (side_call_in side e) []
 
@@ -68,7 +68,7 @@ host_calls_in e = cons_option (host_call_in e) []
 abbrev pub replies_if : Option Answered → List (Option (List ℕ))
 replies_if answer = replies_in (cons_option answer [])
 
--- A route by its first address and those behind it, or none.
+-- A route by its first address and those after it, or none.
 abbrev pub route_by : Option (ℕ × List ℕ) → List ℕ
 route_by None = []
 route_by (Some parts) = parts.0 ∷ parts.1

@@ -21,13 +21,13 @@ abbrev pub items_for : Bool → List Taken → List RequestItem
 items_for true taken = stats_items taken
 items_for false taken = plain_items taken
 
--- What is left of the answers of a station behind those to some requests.
+-- What is left of the answers of a station after those to some requests.
 abbrev pub left_plain : List Taken → List (Option (List ℕ)) → List (Option (List ℕ))
 left_plain [] peers = peers
 left_plain (Plain id rest pdu ∷ ts) peers = left_plain ts (rest_of peers)
 left_plain (ForStats id pdu ∷ ts) peers = left_plain ts peers
 
--- What is left of the answers of a port behind those to some requests.
+-- What is left of the answers of a port after those to some requests.
 abbrev pub left_stats : List Taken → List (Option (List ℕ)) → List (Option (List ℕ))
 left_stats [] locals = locals
 left_stats (Plain id rest pdu ∷ ts) locals = left_stats ts locals
@@ -46,6 +46,6 @@ abbrev pub due_at : List RingEntry → List ℕ → List (Option (List ℕ)) →
     → List Item
 due_at ring places peers locals = due_replies (taken_by (picked ring places)) peers locals
 
--- The Replies that are due behind a node's entries, whose station gave such replies.
+-- The Replies that are due after a node's entries, whose station gave such replies.
 abbrev pub due_behind : List (Option (List ℕ)) → List RingEntry → List Item
 due_behind peers b = due_replies (taken_by b) peers (replies_in (port_answers b))

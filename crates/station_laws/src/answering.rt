@@ -25,7 +25,7 @@ use std::marker::Model;
 pub(crate) struct Served {
     statistics: bool,
     id: CallId,
-    /// The addresses behind the station, to which the request was still to go.
+    /// The addresses after the station, to which the request was still to go.
     rest: Route,
     request: Option<Pdu>,
 }

@@ -22,7 +22,7 @@ use std::marker::Model;
 #[derive(Drop)]
 pub(crate) struct Asking {
     id: CallId,
-    /// The first address of its route, and those behind it; none where it has no address.
+    /// The first address of its route, and those after it; none where it has no address.
     way: Option<(u8, Route)>,
     pdu: Pdu,
 }

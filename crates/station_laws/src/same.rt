@@ -42,7 +42,7 @@ pub fn same_result(one: &MstrResult, other: &MstrResult) -> bool
     }
 }
 
-/// Whether two routes are one, each by its first address and those behind it, or none.
+/// Whether two routes are one, each by its first address and those after it, or none.
 pub(crate) fn same_way(one: &Option<(u8, Route)>, other: &Option<(u8, Route)>) -> bool
     ensures { IsTrue result ↔ (route_by one.now ≡ route_by other.now) }
 {

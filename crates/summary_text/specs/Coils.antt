@@ -19,7 +19,7 @@ all_coils plan = map coil_at (range_with_len 1 plan.coils)
 abbrev pub store_at_end : Plant → ControllerPlan × ControllerLog → Contents
 store_at_end plant of = (replay (fixed_of plant most_scans of.0) of.1.entries).solving.map
 
--- How many coils of a controller are on there.
+-- How many coils of a controller are on at the end of its list.
 abbrev pub coils_by_log : Plant → ControllerPlan × ControllerLog → ℕ
 coils_by_log plant of = count_by (is_on (store_at_end plant of)) (all_coils of.0)
 

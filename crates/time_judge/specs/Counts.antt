@@ -40,7 +40,7 @@ done_is d requests = record {
   joined = d.joined;
 }
 
--- These are the counts, whatever the lists.
+-- Counts are those of a list, whatever the list.
 abbrev pub NotedAre : Noted → NotedCounts → Type 0
 NotedAre noted counts = noted_is counts noted.answers ≡ noted
 
@@ -121,7 +121,7 @@ walk_step w (Some true) answers port = station_step w (slice_get answers w.answe
 walk_step w (Some false) answers port =
     if nat_lt w.port port then Some (walked_on w 0 1 1) else None
 
--- It goes no further.
+-- A walk over Requests and answers goes no further.
 pub record IsWholeWalk (w : Walk) (requests answers : List Bool) (port : ℕ) : Type 0 where
   pub walk : IsWalk w requests answers port
   pub all_ready : w.ready ≡ ready requests answers port

@@ -18,7 +18,7 @@ pub record StandsStill (ring : List RingEntry) (log : Log StationEntry) (at : St
     pub node : at.node ≡ log.node
     pub up_to : AreInTimeUpTo log.node log.entries ring at.entries at.place
 
--- It is the first of these stations that is not in time.
+-- A station is the first of some that is not in time.
 pub record StandsStillFirst (ring : List RingEntry) (logs : List (Log StationEntry))
     (at : Standstill) : Type 0 where
   pub before : List (Log StationEntry)

@@ -22,7 +22,7 @@ pub struct Standstill {
     pub node: u8,
     /// How many entries of its list come before that; all of them where only the ring's waits.
     pub entries: usize,
-    /// How many entries of the rings do, one ring behind the other; all of them where only the
+    /// How many entries of the rings do, one ring after the other; all of them where only the
     /// station's waits.
     pub place: usize,
 }

@@ -55,7 +55,7 @@ fn answers_on<E: StationItem>(answers: &mut Vec<bool>, left: &[E]) -> Result<(),
     }
 }
 
-// What stands behind the first.
+// What stands after the first.
 fn rest_of<T>(list: &[T]) -> &[T]
     ensures { result.now ≡ drop 1 list.now }
 {

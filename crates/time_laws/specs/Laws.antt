@@ -26,7 +26,7 @@ TurnsStayInTime =
     → HoldsTurn alone_ram alone_ring fixed net n budget known new_known ring new_ring end
     → StaysInTime n known ring → StaysInTime n new_known new_ring
 
--- So does the turn of a node that is away.
+-- The turn of a node that is away keeps a controller's list in time with its node.
 abbrev pub AwayTurnsStayInTime : Type 0
 AwayTurnsStayInTime =
     (alone_ram alone_ring : Bool) (fixed : Fixed) (n : ℕ) (joined : Bool)
@@ -34,7 +34,7 @@ AwayTurnsStayInTime =
     → ComesBack alone_ram alone_ring fixed n known new_known ring new_ring joined
     → StaysInTime n known ring → StaysInTime n new_known new_ring
 
--- So does a visit of a controller whose node has left.
+-- A visit of a controller whose node has left keeps its list in time with its node.
 abbrev pub VisitsStayInTime : Type 0
 VisitsStayInTime =
     (alone_ram alone_ring : Bool) (fixed : Fixed) (net : NetPlan) (n : ℕ)
@@ -43,7 +43,7 @@ VisitsStayInTime =
     → VisitsEnd alone_ram alone_ring fixed net n known new_known ring new_ring
     → StaysInTime n known ring → StaysInTime n new_known new_ring
 
--- So does a host's hold.
+-- A hold of the token keeps a host's list in time with its node.
 abbrev pub HostTurnsStayInTime : Type 0
 HostTurnsStayInTime =
     (alone : Bool) (net : NetPlan) (n : ℕ) (plan : HostPlan) (budget left : Bool)

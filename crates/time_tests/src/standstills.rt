@@ -223,7 +223,7 @@ fn replies_before_answering(rt: HostRuntime) -> Result<(), Fail> {
 }
 
 // The reply of the port is none of the controller's: it may come before the controller's answer,
-// and the reply behind it may not.
+// and the reply after it may not.
 #[test]
 fn statistics_lend_nothing(rt: HostRuntime) -> Result<(), Fail> {
     let list = [
@@ -363,7 +363,7 @@ fn nothing_goes_by_before_it_comes(rt: HostRuntime) -> Result<(), Fail> {
     Ok(())
 }
 
-// No reply belongs to what went by; the reply behind it belongs to the next request.
+// No reply belongs to what went by; the reply after it belongs to the next request.
 #[test]
 fn what_goes_by_has_no_reply(rt: HostRuntime) -> Result<(), Fail> {
     let alloc = rt.alloc();
@@ -488,7 +488,7 @@ fn a_host_is_answered_too_soon(rt: HostRuntime) -> Result<(), Fail> {
     Ok(())
 }
 
-// A ring's entries stand behind those of the ring before it.
+// A ring's entries stand after those of the ring before it.
 #[test]
 fn two_rings_are_read_in_turn(rt: HostRuntime) -> Result<(), Fail> {
     let alloc = rt.alloc();

@@ -36,7 +36,7 @@ abbrev pub StartsKeep : Type 0
 StartsKeep = (fixed : Fixed) (net : NetPlan) (n : ℕ) (ring : List RingEntry) → own n ring ≡ []
     → KeepsOn fixed net n [] ring false
 
--- A hold of the token by a controller keeps it.
+-- A hold of the token by a controller keeps all that turns keep.
 abbrev pub TurnsKeepOn : Type 0
 TurnsKeepOn =
     (alone_ram alone_ring : Bool) (fixed : Fixed) (net : NetPlan) (n : ℕ) (budget : Bool)
@@ -45,7 +45,7 @@ TurnsKeepOn =
     → StandsTied fixed net n known ring → StandsTied fixed net n new_known new_ring
     → KeepsOn fixed net n known ring false → KeepsOn fixed net n new_known new_ring (leaves_out end)
 
--- So does the turn of a node that is away, which comes back or does not.
+-- The turn of a node that is away, whether it comes back or not, keeps all that turns keep.
 abbrev pub AwayTurnsKeepOn : Type 0
 AwayTurnsKeepOn =
     (alone_ram alone_ring : Bool) (fixed : Fixed) (net : NetPlan) (n : ℕ) (joined : Bool)
@@ -55,7 +55,7 @@ AwayTurnsKeepOn =
     → StandsTied fixed net n known ring → StandsTied fixed net n new_known new_ring
     → KeepsOn fixed net n known ring true → KeepsOn fixed net n new_known new_ring (not joined)
 
--- A visit of a controller whose node has left keeps it.
+-- A visit of a controller whose node has left keeps all that turns keep.
 abbrev pub VisitsKeepOn : Type 0
 VisitsKeepOn =
     (alone_ram alone_ring : Bool) (fixed : Fixed) (net : NetPlan) (n : ℕ)
@@ -64,7 +64,7 @@ VisitsKeepOn =
     → StandsTied fixed net n known ring → StandsTied fixed net n new_known new_ring
     → KeepsOn fixed net n known ring true → KeepsOn fixed net n new_known new_ring true
 
--- Events of the scan keep it, and so do entries of other nodes.
+-- Events of the scan and entries of other nodes keep all that turns keep.
 abbrev pub ScansKeepOn : Type 0
 ScansKeepOn =
     (fixed : Fixed) (net : NetPlan) (n : ℕ) (entries more : List Entry) (ring : List RingEntry)
@@ -94,7 +94,7 @@ abbrev pub HostStartsKeep : Type 0
 HostStartsKeep = (plan : HostPlan) (net : NetPlan) (ring : List RingEntry)
     → own plan.node ring ≡ [] → HostKeepsOn plan net [] ring false
 
--- A hold of the token by a host keeps it.
+-- A hold of the token by a host keeps all that turns keep.
 abbrev pub HostTurnsKeepOn : Type 0
 HostTurnsKeepOn =
     (alone : Bool) (net : NetPlan) (plan : HostPlan) (budget left : Bool)
@@ -163,7 +163,7 @@ LeavesWhenEnded =
     → IsLegal fixed new_known
     → (has_ended_at fixed new_known ≡ true) × (has_started_at fixed new_known ≡ false)
 
--- Events of the scan end with the scans: what is said of a list then is said of it behind them.
+-- Events of the scan end with the scans: what is said of a list then is said of it after them.
 abbrev pub EndedStays : Type 0
 EndedStays =
     (fixed : Fixed) (known new_known : List Entry) (alone : Bool) (added : List Entry)
@@ -191,7 +191,8 @@ TurnsSpendNothing =
     → HoldsTurn alone_ram alone_ring fixed net n false known new_known ring new_ring end
     → NoneSpent (own n ring) → NoneSpent (own n new_ring)
 
--- Nor as a node that was away comes back.
+-- As a node that was away comes back, in a host's hold and in a visit, no node leaves because its
+-- Passes are spent.
 abbrev pub AwayTurnsSpendNothing : Type 0
 AwayTurnsSpendNothing =
     (alone_ram alone_ring : Bool) (fixed : Fixed) (n : ℕ) (joined : Bool)

@@ -12,11 +12,11 @@ use Rattle.controller_core.specs.Controller.{state_of}
 abbrev pub scan_events : ControllerIs → List Entry
 scan_events v = entries_from v.fixed (state_of v) (due v.fixed.plan ((state_of v).gone + 1))
 
--- A controller's history behind its next whole scan; the same where it has ended.
+-- A controller's history after its next whole scan; the same where it has ended.
 abbrev pub with_scan : ControllerIs → List Entry
 with_scan v = if has_ended v then v.history else v.history ++ scan_events v
 
--- A controller stands between two scans: whole scans are left of what is due, from the one behind
+-- A controller stands between two scans: whole scans are left of what is due, from the one after
 -- those that are gone.
 pub record IsBetweenScans (v : ControllerIs) : Type 0 where
   pub many : ℕ

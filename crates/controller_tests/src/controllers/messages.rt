@@ -81,7 +81,7 @@ const READER: Plan = Plan {
     scans: 2,
 };
 
-/// The scan that starts the call leaves it active, and the one behind its words leaves success.
+/// The scan that starts the call leaves it active, and the one after its words leaves success.
 const READ: Case = Case {
     plan: READER,
     acts: &[

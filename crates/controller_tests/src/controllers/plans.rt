@@ -43,11 +43,13 @@ pub enum Piece {
     Sum(u8, u16, u16, Ref),
 }
 
+/// Coil 00001.
 pub const COIL_1: Ref = Ref {
     kind: RefKind::Coil,
     number: 1,
 };
 
+/// Coil 00002.
 pub const COIL_2: Ref = Ref {
     kind: RefKind::Coil,
     number: 2,

@@ -37,7 +37,7 @@ const FOLLOWERS: [Piece; 8] = [
 /// Another node switches coil 00001 on.
 const SWITCH_ON: &[u8] = &[5, 0, 0, 0xff, 0];
 
-/// Power fails behind Begin in scan 2, and scan 3 is dark: the coils fall, the latch holds. A
+/// Power fails after Begin in scan 2, and scan 3 is dark: the coils fall, the latch holds. A
 /// request has no reply then, and changes nothing.
 const FALLEN: Case = Case {
     plan: Plan {
@@ -116,7 +116,7 @@ const WATCHED: [Piece; 7] = [
     ),
 ];
 
-/// Power fails behind the solve of scan 1: the latch that it set counts as on before, and the
+/// Power fails after the solve of scan 1: the latch that it set counts as on before, and the
 /// counter has seen its input.
 const KEPT: Case = Case {
     plan: Plan {

@@ -26,7 +26,7 @@ pub const THRICE: Plan = Plan {
 /// Another node switches coil 00001 on.
 pub const SWITCH_ON: Act = Act::Ask(&[5, 0, 0, 0xff, 0], &[5, 0, 0, 0xff, 0]);
 
-/// A solve sees what was written behind Begin: another node reads both coils.
+/// A solve sees what was written after Begin: another node reads both coils.
 const SWITCHED: Case = Case {
     plan: Plan { rows: 1, ..THRICE },
     acts: &[

@@ -1,0 +1,10 @@
+pub mod Items
+pub mod Ways
+pub mod Edges
+pub mod Counting
+pub mod States
+pub mod Solving
+pub mod RowsScanned
+pub mod Exchanging
+pub mod TestAlone
+pub mod Fields

@@ -1,0 +1,9 @@
+pub mod Asked
+pub mod Alone
+pub mod Choices
+pub mod Counters
+pub mod Keys
+pub mod Exchanges
+pub mod Work
+pub mod Field
+pub mod Never

@@ -1,0 +1,19 @@
+//! A controller that is alone as a machine over keys of its states, and what a search of all runs of
+//! its field finds.
+#![tactic(auto)]
+
+mod alone;
+mod asked;
+mod choices;
+mod counters;
+mod exchanges;
+mod field;
+mod machine;
+mod scanning;
+mod searching;
+mod work;
+
+pub use alone::{can_be_asked, is_alone};
+pub use asked::Asked;
+pub use exchanges::{Exchange, exchanges_of, with_scripts};
+pub use searching::{Found, search_field};

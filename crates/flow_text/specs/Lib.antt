@@ -1,0 +1,4 @@
+pub mod Solved
+pub mod Lines
+pub mod Window
+pub mod Power

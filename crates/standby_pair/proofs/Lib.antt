@@ -1,0 +1,10 @@
+pub mod Firsts
+pub mod Rows
+pub mod Pieces
+pub mod OneScan
+pub mod Courses
+pub mod Making
+pub mod Links
+pub mod Ends
+pub mod Served
+pub mod Runs

@@ -1,0 +1,9 @@
+use Rattle.std.proofs.Common.{◌≡◌, ◌++◌, take}
+use Rattle.std.specs.List.{flat_map}
+use Rattle.standby_pair.specs.Kept.{scan_parts}
+use Rattle.standby_pair.proofs.Pieces.{replies}
+use Rattle.standby_pair.proofs.pair.push_replies.Given as goal
+
+abbrev pub invariant-loop-scan : goal.invariant-loop-scan
+invariant-loop-scan l =
+    l.text.items ≡ l.fn.text.items ++ flat_map replies (scan_parts (take l.scan-index l.scans))
