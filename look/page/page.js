@@ -232,6 +232,7 @@ function listRuns() {
   const things = [networks ? 'networks' : '', byId('messages').hidden ? '' : 'messages'].filter(one => one);
   byId('which-of').textContent = things.join(' and ') + ' of';
   byId('which').parentElement.hidden = !isPair || !things.length;
+  for (const key of document.querySelectorAll('.of-networks')) key.hidden = !networks;
 }
 
 // The chart of one network alone, where there are several.
