@@ -416,6 +416,8 @@ def try_compare_page(window, folder):
     window.open("file://" + page)
     hidden = window.value("['messages', 'networks'].map(one => byId(one).hidden).concat(byId('which').parentElement.hidden)")
     results.equal("compare without calls: nothing is offered", [True] * 3, hidden)
+    keys = window.value("[...document.querySelectorAll('.of-networks')].map(one => one.hidden)")
+    results.equal("compare: no keys of networks", [True] * 2, keys)
     found = (window.texts("#outcomes .run"), window.texts("#differences table"))
     results.equal("compare without calls: no table", (["traffic_light.toml: no calls", "longer.toml: no calls"], []), found)
     results.equal("compare page: errors", [], window.errors())
