@@ -1,5 +1,7 @@
-mod CutLemmas
 mod MoreScans
 mod OneDue
 mod Runs
 mod Written
+mod PlanAt
+mod AsMany
+mod CountOne

@@ -2,7 +2,7 @@
 use Rattle.std.proofs.Common.{◌≡◌, ◌≢◌, ℕ, ◌+◌, ◌-◌, ◌^◌, ◌<◌, ◌≤◌, Bool, true, false, List, []}
 use Rattle.std.proofs.Common.{◌∷◌, ◌++◌, length, take, drop, All, ◌⊎◌, inl, inr, ⊎_elim, Option, Some}
 use Rattle.std.proofs.Common.{None, refl, sym, ap, ap₂, subst, ◌∙◌, arith, append_assoc}
-use Rattle.std.proofs.Common.{length-append}
+use Rattle.std.proofs.Common.{length-append, true≢false}
 use Rattle.std.specs.Prelude.{min, Result, Ok, Err}
 use Rattle.std.specs.List.{flat_map}
 use Rattle.std.proofs.Math.Seq.{drop-append_seam, take-append_seam}
@@ -11,10 +11,10 @@ use Rattle.std.proofs.lemmas.List.Concat.{flat_map-cons}
 use Rattle.std.proofs.lemmas.List.Elements.{All-head, All-tail}
 use Rattle.plant_types.specs.declared.plan.ControllerPlan.{ControllerPlan}
 use Rattle.plant_types.specs.declared.plan.Plant.{Plant}
-use Rattle.plant_loader.specs.Refusals.{Refusal}
+use Rattle.plant_tables.specs.Refusals.{Refusal}
 use Rattle.plant_types.specs.Plans.{IsPlant}
 use Rattle.plant_loader.specs.Plant.{plant_of}
-use Rattle.plant_loader.specs.declared.tables.Version.TheVariants.{Two}
+use Rattle.plant_tables.specs.declared.tables.Version.TheVariants.{Two}
 use Rattle.plant_loader.proofs.LoadedLemmas.{IsLoaded, gives-loaded}
 use Rattle.joint_history.specs.declared.joint.Joint.{Joint}
 use Rattle.journal_text.specs.Fronts.{IsFront, IsJournal, IsText, IsWrongLine}
@@ -28,17 +28,29 @@ use Rattle.joint_law.specs.declared.verdict.Verdict.TheVariants.{Legal, Illegal}
 use Rattle.one_run.specs.OneRun.{IsRunOf, OneSerialRun}
 use Rattle.summary_text.specs.Summary.{summary}
 use Rattle.flow_text.specs.Power.{flow}
+use Rattle.controller_core.specs.declared.fixed.Fixed.{Fixed}
+use Rattle.plant_types.specs.Checks.{sizes_of}
+use Rattle.joint_history.specs.JointLaws.{fixed_of}
+use Rattle.field_runs.specs.Played.{with_scripts}
+use Rattle.field_machine.specs.Alone.{is_alone}
+use Rattle.field_machine.specs.Asked.{can_ask, is_so}
+use Rattle.never_text.specs.Texts.{holds_text}
+use Rattle.field_machine.specs.declared.asked.Asked.{Asked}
 use Rattle.command_answers.specs.declared.status.Status.{Status}
+use Rattle.command_answers.specs.declared.status.Status.TheVariants as ends
 use Rattle.command_words.specs.declared.words.Command.{Command}
 use Rattle.command_words.specs.declared.words.Command.TheVariants.{Do, Flow, Gen, Session}
-use Rattle.command_words.specs.declared.words.Task.{Task}
-use Rattle.command_answers.specs.Cut.{CanCut, IsCutBefore, journal_mark, port_mark}
+use Rattle.command_words.specs.declared.words.Command.TheVariants.{Never, Standby}
+use Rattle.input_cuts.specs.Cut.{CanCut, IsCutAfter, IsCutBefore}
+use Rattle.command_answers.specs.Cut.{journal_mark, port_mark}
 use Rattle.command_answers.specs.Judged.{IsIllegalAt, IsNoRun, IsRunRead, wrong_line_text}
 use Rattle.command_answers.specs.Judged.{spot_text}
 use Rattle.command_answers.specs.Due.{Due, IsDueOf, IsDueWith, IsFile, IsHistory, IsIllegal}
-use Rattle.command_answers.specs.Due.{IsSessionDue, IsShown, IsTaskFile, has_journal}
+use Rattle.command_answers.specs.Due.{IsNever, IsNeverDue, IsPairDue, IsSearched, IsSessionDue}
+use Rattle.command_answers.specs.Due.{IsShown, IsSometimes, IsTaskFile, asked_of, has_journal}
 use Rattle.command_answers.specs.Due.{IsWholeSerialRun, illegal_text, judges, plan_at, task_text}
-use Rattle.command_answers.specs.OneDue.{OneDue}
+use Rattle.command_answers.specs.OneDue.{Agree, OneDue}
+use Rattle.command_answers.proofs.CountOne.{count-one}
 
 -- ---- where an input is cut
 
@@ -90,6 +102,15 @@ task_file-one true input file behind file' behind' is is' =
     cut-one journal_mark input file behind file' behind' is is'
 task_file-one false input file behind file' behind' is is' = (is.0 ∙ sym is'.0, is.1 ∙ sym is'.1)
 
+after-one : (mark input file behind file' behind' : List ℕ)
+    → IsCutAfter mark input file behind → IsCutAfter mark input file' behind'
+    → (file ≡ file') × (behind ≡ behind')
+after-one mark input file behind file' behind' is is' =
+    let same = cut-one mark input file is.back file' is'.back is.cut is'.cut in (
+      same.0,
+      is.bytes ∙ ap (drop (length mark + 1)) same.1 ∙ sym is'.bytes,
+    )
+
 -- and a command has one plant file, and one part of the input behind it
 file-one : (command : Command) (input file behind file' behind' : List ℕ)
     → IsFile command input file behind → IsFile command input file' behind'
@@ -99,12 +120,13 @@ file-one (Do task scans) input file behind file' behind' is is' =
 file-one (Gen number scans) input file behind file' behind' is is' =
     (is.0 ∙ sym is'.0, is.1 ∙ sym is'.1)
 file-one (Session node scans) input file behind file' behind' is is' =
-    let same = cut-one port_mark input file is.back file' is'.back is.cut is'.cut in (
-      same.0,
-      is.bytes ∙ ap (drop (length port_mark + 1)) same.1 ∙ sym is'.bytes,
-    )
+    after-one port_mark input file behind file' behind' is is'
 file-one (Flow first last) input file behind file' behind' is is' =
     cut-one journal_mark input file behind file' behind' is is'
+file-one (Standby node fail scans) input file behind file' behind' is is' =
+    after-one port_mark input file behind file' behind' is is'
+file-one (Never node asked depth) input file behind file' behind' is is' =
+    (is.0 ∙ sym is'.0, is.1 ∙ sym is'.1)
 
 -- ---- the first wrong line
 
@@ -271,7 +293,7 @@ module _ (laws : DueLaws) (plant : Plant) (sound : IsPlant plant) (scans : ℕ) 
 abbrev due-of : Status → List ℕ → Due
 due-of status text = record { status = status; text = text }
 
-due-is : (one other : Due) → one.status ≡ other.status → one.text ≡ other.text → one ≡ other
+pub due-is : (one other : Due) → one.status ≡ other.status → one.text ≡ other.text → one ≡ other
 due-is one other status text = ap₂ due-of status text
 
 -- one text of a joint history is due
@@ -321,28 +343,99 @@ session-one None scans plant port one other is is' = is ∙ sym is'
 session-one (Some plan) scans plant port one other shown also =
     due-is one other (shown.status ∙ sym also.status) (shown.text ∙ sym also.text)
 
+-- and for a pair
+pair-one : (asked : Option ControllerPlan) (fail scans : ℕ) (plant : Plant) (port : List ℕ)
+    (one other : Due)
+    → IsPairDue asked fail scans plant port one → IsPairDue asked fail scans plant port other
+    → one ≡ other
+pair-one None fail scans plant port one other is is' = is ∙ sym is'
+pair-one (Some plan) fail scans plant port one other shown also =
+    due-is one other (shown.status ∙ sym also.status) (shown.text ∙ sym also.text)
+
+-- what is never so is not so after some scan
+never-sometimes : {one other : Due} (fixed : Fixed) (asked : Asked) (depth : Option ℕ)
+    → IsNever fixed asked depth one → IsSometimes fixed asked depth other → ⊥
+never-sometimes fixed asked depth never some =
+    let first = some.first in
+    let never_so = never.never.never (with_scripts fixed.plan some.told) (length some.told)
+    first.plays first.within in
+    true≢false (sym first.so ∙ never_so)
+
+-- answers that are the same agree
+same-agree : (one other : Due) → one ≡ other → Agree one other
+same-agree one other is =
+    record { status = ap (λ due. due.status) is; text = λ kept. ap (λ due. due.text) is }
+
+-- and answers that agree are the same where no run was found
+pub agree-same : (one other : Due) → one.status ≢ ends.Found → Agree one other → one ≡ other
+agree-same one other kept agree = due-is one other agree.status (agree.text kept)
+
+-- what is due of a search agrees
+searched-one : (alone can : Bool) (fixed : Fixed) (asked : Asked) (depth : Option ℕ)
+    (one other : Due)
+    → IsSearched alone can fixed asked depth one → IsSearched alone can fixed asked depth other
+    → Agree one other
+searched-one false can fixed asked depth one other is is' = same-agree one other (is ∙ sym is')
+searched-one true false fixed asked depth one other is is' =
+    same-agree one other (is ∙ sym is')
+searched-one true true fixed asked depth one other (inl never) (inl also) =
+    let same = count-one fixed (is_so asked) depth never.states also.states never.never also.never in
+    same-agree one other (due-is one other (never.status ∙ sym also.status)
+    (never.text ∙ ap (holds_text depth) same ∙ sym also.text))
+searched-one true true fixed asked depth one other (inl never) (inr some) =
+    absurd (never-sometimes fixed asked depth never some)
+searched-one true true fixed asked depth one other (inr some) (inl never) =
+    absurd (never-sometimes fixed asked depth never some)
+searched-one true true fixed asked depth one other (inr some) (inr also) = record {
+  status = some.status ∙ sym also.status;
+  text = λ kept. absurd (kept some.status);
+}
+
+-- and so does what is due of what a controller never comes to
+never-one : (found : Option ControllerPlan) (asked : Asked) (depth : Option ℕ) (plant : Plant)
+    (one other : Due)
+    → IsNeverDue found asked depth plant one → IsNeverDue found asked depth plant other
+    → Agree one other
+never-one None asked depth plant one other is is' = same-agree one other (is ∙ sym is')
+never-one (Some plan) asked depth plant one other is is' =
+    searched-one (is_alone plan) (can_ask (sizes_of plan) asked) (fixed_of plant 1 plan) asked depth
+    one other is is'
+
 -- with a plant one thing is due
 with-one : DueLaws → (command : Command) (plant : Plant) (behind : List ℕ) (one other : Due)
     → IsPlant plant
-    → IsDueWith command plant behind one → IsDueWith command plant behind other → one ≡ other
+    → IsDueWith command plant behind one → IsDueWith command plant behind other
+    → Agree one other
 with-one laws (Do task scans) plant behind one other sound due due' =
-    either-one laws (judges task) plant scans behind (task_text task plant) one other sound due due'
+    same-agree one other
+    (either-one laws (judges task) plant scans behind (task_text task plant) one other sound due
+    due')
 with-one laws (Gen number scans) plant behind one other sound due due' =
-    shown-one laws false plant scans [] (summary plant) one other sound due due'
+    same-agree one other
+    (shown-one laws false plant scans [] (summary plant) one other sound due due')
 with-one laws (Session node scans) plant behind one other sound due due' =
-    session-one (plan_at node plant.controllers) scans plant behind one other due due'
+    same-agree one other
+    (session-one (plan_at node plant.controllers) scans plant behind one other due due')
 with-one laws (Flow first last) plant behind one other sound due due' =
-    either-one laws (has_journal behind) plant last behind (flow plant first last) one other sound
-    due due'
+    same-agree one other
+    (either-one laws (has_journal behind) plant last behind (flow plant first last) one other sound
+    due due')
+with-one laws (Standby node fail scans) plant behind one other sound due due' =
+    same-agree one other
+    (pair-one (plan_at node plant.controllers) fail scans plant behind one other due due')
+with-one laws (Never node asked depth) plant behind one other sound due due' =
+    never-one (plan_at node plant.controllers) (asked_of asked) depth plant one other due due'
 
 -- and so it is with a plant file
 of-one : DueLaws → (command : Command) (file behind : List ℕ) (read : Result Plant Refusal)
     (one other : Due) → plant_of Two file ≡ read
-    → IsDueOf command behind read one → IsDueOf command behind read other → one ≡ other
+    → IsDueOf command behind read one → IsDueOf command behind read other
+    → Agree one other
 of-one laws command file behind (Ok plant) one other is due due' =
     let loaded : IsLoaded plant = gives-loaded Two file (Ok plant) is in
     with-one laws command plant behind one other loaded.checked due due'
-of-one laws command file behind (Err fault) one other is due due' = due ∙ sym due'
+of-one laws command file behind (Err fault) one other is due due' =
+    same-agree one other (due ∙ sym due')
 
 -- so there is one answer
 pub due-one : DueLaws → OneDue

@@ -2,9 +2,9 @@
 use Rattle.std.proofs.Common.{◌≡◌, ◌++◌, ℕ, List, Result, Ok, Err, inl, inr, refl, sym, ◌∙◌, subst}
 use Rattle.std.specs.Prelude.{codes}
 use Rattle.plant_types.specs.declared.plan.Plant.{Plant}
-use Rattle.plant_loader.specs.Refusals.{Refusal}
+use Rattle.plant_tables.specs.Refusals.{Refusal}
 use Rattle.plant_loader.specs.Plant.{plant_of}
-use Rattle.plant_loader.specs.declared.tables.Version.TheVariants.{Two}
+use Rattle.plant_tables.specs.declared.tables.Version.TheVariants.{Two}
 use Rattle.joint_history.specs.declared.joint.Joint.{Joint}
 use Rattle.route_laws.specs.Effects.{EffectsAreRight}
 use Rattle.joint_law.specs.Spots.{IsWholeRun}
@@ -18,7 +18,8 @@ use Rattle.command_words.specs.declared.words.Command.TheVariants.{Do}
 use Rattle.command_words.specs.declared.words.Task.TheVariants.{Trace, Check, Replay}
 use Rattle.command_answers.specs.Cut.{IsCut}
 use Rattle.command_answers.specs.Due.{Due, IsDue, IsDueOf, IsLiveDueOf, refused}
-use Rattle.command_answers.specs.OneDue.{OneDue}
+use Rattle.command_answers.specs.OneDue.{Agree, OneDue}
+use Rattle.command_answers.proofs.OneDue.{agree-same}
 use Rattle.command_answers.specs.Written.{IsAccepted, TellsOneRun, WrittenIsLegal, with_ok}
 
 -- a joint history of a whole run, and what is known of it
@@ -67,6 +68,12 @@ replay-due scans file plant joint loaded known input cut = record {
       }));
 }
 
+-- what agrees with an answer of status Ok is that answer
+ok-same : (other : Due) (text : List ℕ) → Agree other (with_ok text) → other ≡ with_ok text
+ok-same other text agree =
+    agree-same other (with_ok text)
+    (λ found. let same : ends.Ok ≡ ends.Found = sym agree.status ∙ found in absurd (cc)) agree
+
 accepted-by : OneDue → (scans : ℕ) (file : List ℕ) (plant : Plant) (joint : Joint)
     → plant_of Two file ≡ Ok plant → Told plant scans joint
     → (input : List ℕ) → IsCut input file (journal joint)
@@ -77,12 +84,13 @@ accepted-by one scans file plant joint loaded known input cut =
     record {
       check = record {
         due = legal;
-        only = λ other due. one (Do Check scans) input other (with_ok (codes "legal\n")) due legal;
+        only = λ other due. ok-same other (codes "legal\n")
+            (one (Do Check scans) input other (with_ok (codes "legal\n")) due legal);
       };
       replay = record {
         due = shown;
-        only = λ other due. one (Do Replay scans) input other
-            (with_ok (panel plant joint)) due shown;
+        only = λ other due. ok-same other (panel plant joint)
+            (one (Do Replay scans) input other (with_ok (panel plant joint)) due shown);
       };
     }
 

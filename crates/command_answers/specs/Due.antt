@@ -1,15 +1,19 @@
 -- What is due for a command and an input: a status, and the text that goes with it. This project's
 -- own.
 use Rattle.std.specs.Prelude.{◌≡◌, ℕ, codes, Bool, true, false, ◌⊎◌, ◌==◌, List, [], ◌∷◌, ◌++◌}
+use Rattle.std.specs.Fmt.{decimal}
 use Rattle.std.specs.Prelude.{find, map, Option, Some, None, Result, Ok, Err, string_bytes}
 use Rattle.plant_types.specs.declared.fault.PlantFault.{PlantFault}
 use Rattle.plant_types.specs.declared.fault.Place.{Place}
 use Rattle.plant_types.specs.declared.plan.ControllerPlan.{ControllerPlan}
 use Rattle.plant_types.specs.declared.plan.Plant.{Plant}
+use Rattle.plant_types.specs.declared.net.Fate.{Fate}
+use Rattle.plant_types.specs.Checks.{sizes_of}
+use Rattle.plant_types.specs.Plans.{net_of}
 use Rattle.plant_types.specs.Fault.{fault_text, place_text}
-use Rattle.plant_loader.specs.Refusals.{Refusal}
+use Rattle.plant_tables.specs.Refusals.{Refusal}
 use Rattle.plant_loader.specs.Plant.{plant_of}
-use Rattle.plant_loader.specs.declared.tables.Version.TheVariants.{Two}
+use Rattle.plant_tables.specs.declared.tables.Version.TheVariants.{Two}
 use Rattle.plant_gen.specs.Text.{plant_text}
 use Rattle.controller_core.specs.declared.fixed.Fixed.{Fixed}
 use Rattle.controller_core.specs.Controller.{IsLegal}
@@ -27,8 +31,15 @@ use Rattle.journal_text.specs.Journal.{journal}
 use Rattle.panel_text.specs.Panel.{panel}
 use Rattle.panel_session.specs.Serving.{frame_request, numbered_frames, requests_taken}
 use Rattle.panel_session.specs.Session.{bench_history, bench_text}
+use Rattle.standby_pair.specs.Pair.{RepliesComeOnceOrTwice, SwitchesInTime, pair_text}
 use Rattle.summary_text.specs.Summary.{summary}
 use Rattle.flow_text.specs.Power.{flow}
+use Rattle.field_machine.specs.Alone.{is_alone}
+use Rattle.field_machine.specs.Asked.{can_ask, is_so}
+use Rattle.field_machine.specs.Never.{IsFirstSo, IsNeverSo}
+use Rattle.field_machine.specs.declared.asked.Asked.{Asked}
+use Rattle.field_machine.specs.declared.asked.Asked.TheVariants as asks
+use Rattle.never_text.specs.Texts.{fails_text, holds_text}
 use Rattle.command_answers.specs.declared.answered.Answer.{Answer}
 use Rattle.command_answers.specs.declared.judging.Judged.{Judged}
 use Rattle.command_answers.specs.declared.judging.Judged.TheVariants.{Whole, Illegal}
@@ -36,6 +47,9 @@ use Rattle.command_answers.specs.declared.status.Status.{Status}
 use Rattle.command_answers.specs.declared.status.Status.TheVariants as ends
 use Rattle.command_words.specs.declared.words.Command.{Command}
 use Rattle.command_words.specs.declared.words.Command.TheVariants.{Do, Flow, Gen, Session}
+use Rattle.command_words.specs.declared.words.Command.TheVariants.{Never, Standby}
+use Rattle.command_words.specs.declared.words.Question.{Question}
+use Rattle.command_words.specs.declared.words.Question.TheVariants.{On, Stop}
 use Rattle.command_words.specs.declared.words.Task.{Task}
 use Rattle.command_words.specs.declared.words.Task.TheVariants.{Run, Trace, Check, Replay}
 use Rattle.command_answers.specs.Cut.{IsCut, IsCutAtPort}
@@ -73,6 +87,8 @@ reads_input (Do task scans) = true
 reads_input (Gen number scans) = false
 reads_input (Session node scans) = true
 reads_input (Flow first last) = true
+reads_input (Standby node fail scans) = true
+reads_input (Never node asked depth) = true
 
 -- Whether a task takes the joint history of a journal after the plant file, and not that of a run.
 abbrev pub judges : Task → Bool
@@ -94,6 +110,8 @@ IsFile (Do task scans) input file behind = IsTaskFile (judges task) input file b
 IsFile (Gen number scans) input file behind = (file ≡ plant_text number) × (behind ≡ [])
 IsFile (Session node scans) input file behind = IsCutAtPort input file behind
 IsFile (Flow first last) input file behind = IsCut input file behind
+IsFile (Standby node fail scans) input file behind = IsCutAtPort input file behind
+IsFile (Never node asked depth) input file behind = (file ≡ input) × (behind ≡ [])
 
 -- The joint history is that of the plant's serial run, and a complete run: legal, with the laws
 -- between its lists kept, and complete; the entries of each ring and of the stations on it have one
@@ -159,12 +177,13 @@ IsTaskDue task scans plant behind what =
 abbrev pub plan_at : ℕ → List ControllerPlan → Option ControllerPlan
 plan_at node plans = find (λ plan. plan.node == node) plans
 
--- The line of a session that asks for a node without a controller, and the status with it.
-abbrev pub no_controller_text : List ℕ
-no_controller_text = refusal_line (codes "17 NoController") (codes "session")
+-- A refusal of a command with a plant that is accepted.
+abbrev pub refused_with : List ℕ → List ℕ → Due
+refused_with fault place = record { status = ends.Refused; text = refusal_line fault place }
 
+-- A session or a pair asks for a node without a controller.
 abbrev pub no_controller : Due
-no_controller = record { status = ends.Refused; text = no_controller_text }
+no_controller = refused_with (codes "17 NoController") (codes "session")
 
 -- What is due for a session of a controller: the text of its bench for the bytes of the port. The
 -- history of that bench is legal, and it has taken each frame for the controller once, in order.
@@ -181,6 +200,73 @@ IsSessionDue None scans plant port what = what ≡ no_controller
 IsSessionDue (Some plan) scans plant port what =
     IsSessionShown (fixed_of plant scans plan) port what
 
+-- What is due for a pair of a controller: what its primary writes on a bench, which fails after a
+-- scan, and its standby, for the bytes of the port, where the fates of what is sent are taken in
+-- turn. The history of the standby at the end is that of the bench, and legal; it goes on in time,
+-- and the replies of each scan are written once or twice.
+pub record IsPairShown (fixed : Fixed) (fates : List Fate) (port : List ℕ) (fail : ℕ)
+    (what : Due)
+    : Type 0 where
+  pub legal : IsLegal fixed (bench_history fixed port)
+  pub in_time : SwitchesInTime fixed fates port fail
+  pub replies : RepliesComeOnceOrTwice fixed fates port fail
+  pub status : what.status ≡ ends.Ok
+  pub text : what.text ≡ pair_text fixed fates port fail
+
+-- What is due for a pair by whether there is a controller with the node; the fates are those of the
+-- controller's network.
+abbrev pub IsPairDue : Option ControllerPlan → ℕ → ℕ → Plant → List ℕ → Due → Type 0
+IsPairDue None fail scans plant port what = what ≡ no_controller
+IsPairDue (Some plan) fail scans plant port what =
+    IsPairShown (fixed_of plant scans plan) (net_of plant plan.node).fates port fail what
+
+-- What a word asks, as the search of a field takes it.
+abbrev pub asked_of : Question → Asked
+asked_of (On at) = asks.On at
+asked_of Stop = asks.Stopped
+
+-- It is asked of a node without a controller; of a controller that is not alone, as it has power
+-- rows or message blocks; and of a reference that the controller does not have.
+abbrev pub never_no_controller : Due
+never_no_controller = refused_with (codes "17 NoController") (codes "never")
+
+abbrev pub not_alone : ℕ → Due
+not_alone node = refused_with (codes "19 NotAlone") (codes "controller " ++ decimal node)
+
+abbrev pub no_reference : Due
+no_reference = refused_with (codes "20 NoReference") (codes "never")
+
+-- What is due where it is never so in the field of a controller: to how many states runs come, no
+-- two of them alike.
+pub record IsNever (fixed : Fixed) (asked : Asked) (depth : Option ℕ) (what : Due) : Type 0 where
+  pub states : ℕ
+  pub never : IsNeverSo fixed (is_so asked) depth states
+  pub status : what.status ≡ ends.Ok
+  pub text : what.text ≡ holds_text depth states
+
+-- What is due where it is so after some scan of a run of the field: such a run, than which none is
+-- shorter, with what the field brought and what the panel showed.
+pub record IsSometimes (fixed : Fixed) (asked : Asked) (depth : Option ℕ) (what : Due)
+    : Type 0 where
+  pub told : List (List ℕ)
+  pub first : IsFirstSo fixed (is_so asked) depth told
+  pub status : what.status ≡ ends.Found
+  pub text : what.text ≡ fails_text fixed told
+
+-- What is due for a question by whether the controller is alone, and whether it can be asked it.
+abbrev pub IsSearched : Bool → Bool → Fixed → Asked → Option ℕ → Due → Type 0
+IsSearched false can fixed asked depth what = what ≡ not_alone fixed.plan.node
+IsSearched true false fixed asked depth what = what ≡ no_reference
+IsSearched true true fixed asked depth what =
+    IsNever fixed asked depth what ⊎ IsSometimes fixed asked depth what
+
+-- What is due for a question by whether there is a controller with the node.
+abbrev pub IsNeverDue : Option ControllerPlan → Asked → Option ℕ → Plant → Due → Type 0
+IsNeverDue None asked depth plant what = what ≡ never_no_controller
+IsNeverDue (Some plan) asked depth plant what =
+    IsSearched (is_alone plan) (can_ask (sizes_of plan) asked) (fixed_of plant 1 plan) asked
+    depth what
+
 -- Whether a journal stands behind a plant file.
 abbrev pub has_journal : List ℕ → Bool
 has_journal [] = false
@@ -194,8 +280,8 @@ IsFlowDue first last plant behind what =
     IsShown (has_journal behind) plant last behind (flow plant first last) what
     ⊎ IsIllegal (has_journal behind) plant last behind what
 
--- What is due with a plant that is accepted: for a task, for the summary of a run, a session, or
--- for what conducted.
+-- What is due with a plant that is accepted: for a task, for the summary of a run, a session, what
+-- conducted, a pair, or for what a controller never comes to.
 abbrev pub IsDueWith : Command → Plant → List ℕ → Due → Type 0
 IsDueWith (Do task scans) plant behind what = IsTaskDue task scans plant behind what
 IsDueWith (Gen number scans) plant behind what =
@@ -203,6 +289,10 @@ IsDueWith (Gen number scans) plant behind what =
 IsDueWith (Session node scans) plant behind what =
     IsSessionDue (plan_at node plant.controllers) scans plant behind what
 IsDueWith (Flow first last) plant behind what = IsFlowDue first last plant behind what
+IsDueWith (Standby node fail scans) plant behind what =
+    IsPairDue (plan_at node plant.controllers) fail scans plant behind what
+IsDueWith (Never node asked depth) plant behind what =
+    IsNeverDue (plan_at node plant.controllers) (asked_of asked) depth plant what
 
 -- What is due with a plant file that has a fault: its refusal.
 abbrev pub refused : Refusal → Due

@@ -13,9 +13,10 @@ exit_number ends.WriteFault = 4
 exit_number ends.Refused = 5
 exit_number ends.TooLong = 6
 exit_number ends.Illegal = 7
+exit_number ends.Found = 9
 
--- Whether a status goes with a text: what was asked for, a refusal, or the spot of a journal. This
--- project's own.
+-- Whether a status goes with a text: what was asked for, a refusal, the spot of a journal, or a run
+-- that was found. This project's own.
 abbrev pub goes_with_text : Status → Bool
 goes_with_text ends.Ok = true
 goes_with_text ends.NoMemory = false
@@ -25,3 +26,4 @@ goes_with_text ends.WriteFault = false
 goes_with_text ends.Refused = true
 goes_with_text ends.TooLong = false
 goes_with_text ends.Illegal = true
+goes_with_text ends.Found = true

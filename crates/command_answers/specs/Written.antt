@@ -2,7 +2,7 @@
 use Rattle.std.specs.Prelude.{◌≡◌, ◌⊎◌, ◌++◌, ℕ, List, Ok, codes}
 use Rattle.plant_types.specs.declared.plan.Plant.{Plant}
 use Rattle.plant_loader.specs.Plant.{plant_of}
-use Rattle.plant_loader.specs.declared.tables.Version.TheVariants.{Two}
+use Rattle.plant_tables.specs.declared.tables.Version.TheVariants.{Two}
 use Rattle.joint_history.specs.declared.joint.Joint.{Joint}
 use Rattle.joint_law.specs.Spots.{IsWholeRun}
 use Rattle.journal_text.specs.Fronts.{IsJournalOf}

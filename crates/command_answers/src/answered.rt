@@ -4,7 +4,7 @@ ghost use Rattle.command_answers.specs.Status.{goes_with_text};
 
 use crate::status::Status;
 
-/// A status, and the text that goes with it: Ok, Refused or Illegal.
+/// A status, and the text that goes with it: Ok, Refused, Illegal or Found.
 #[derive(Drop)]
 pub struct Answer {
     pub status: Status,

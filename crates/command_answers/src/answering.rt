@@ -17,6 +17,8 @@ use crate::answered::Answer;
 use crate::cutting::{cut, cut_at_port};
 use crate::flows::answer_flow;
 use crate::judging::{Judged, judge_journal};
+use crate::nevers::answer_never;
+use crate::pairs::answer_standby;
 use crate::sessions::answer_session;
 use crate::status::Status;
 use command_words::{Command, Task};
@@ -215,6 +217,10 @@ fn answer_with(
         Command::Gen { scans, .. } => answer_summary(alloc, scans, plant),
         Command::Session { node, scans } => answer_session(alloc, node, scans, plant, behind),
         Command::Flow { first, last } => answer_flow(alloc, first, last, plant, behind),
+        Command::Standby { node, fail, scans } => {
+            answer_standby(alloc, node, fail, scans, plant, behind)
+        }
+        Command::Never { node, asked, depth } => answer_never(alloc, node, asked, depth, plant),
     }
 }
 
@@ -265,7 +271,7 @@ pub fn answer_to(alloc: Global, command: Command, input: &[u8]) -> Result<Answer
             let file = plant_from(alloc, number)?;
             answer_over(alloc, command, file.as_slice(), &[])
         }
-        Command::Session { .. } => {
+        Command::Session { .. } | Command::Standby { .. } => {
             let (file, port) = cut_at_port(input);
             answer_over(alloc, command, file, port)
         }
@@ -273,5 +279,6 @@ pub fn answer_to(alloc: Global, command: Command, input: &[u8]) -> Result<Answer
             let (file, journal) = cut(input);
             answer_over(alloc, command, file, journal)
         }
+        Command::Never { .. } => answer_over(alloc, command, input, &[]),
     }
 }

@@ -6,7 +6,8 @@ use joint_law::verdicts_agree;
 use journal_text::{one_history_of_a_text, one_journal_in_front};
 use one_run::one_serial_run;
 
-/// For each command but that of a live run, and each input, at most one text and status is due.
+/// For each command but that of a live run, and each input, at most one status is due, and at most
+/// one text with it; where a run was found, it may be any of the shortest.
 pub fn one_due()
     ensures { OneDue }
 {

@@ -7,6 +7,8 @@ mod cutting;
 mod flows;
 mod judging;
 mod laws;
+mod nevers;
+mod pairs;
 mod sessions;
 mod status;
 

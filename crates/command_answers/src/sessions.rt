@@ -15,14 +15,14 @@ use plant_types::{ControllerPlan, Plant};
 use std::alloc::{AllocError, Global};
 
 /// The plan with this node, if there is one.
-fn plan_at(plans: &[ControllerPlan], node: u8) -> Option<&ControllerPlan>
+pub(crate) fn plan_at(plans: &[ControllerPlan], node: u8) -> Option<&ControllerPlan>
     ensures { option_map (λ plan. plan.now) result ≡ plan_at node plans.now }
 {
     plans.iter().find(|plan| plan.node == node)
 }
 
 /// The line that there is no controller with the node, with the status Refused.
-fn no_controller(alloc: Global) -> Result<Answer, AllocError>
+pub(crate) fn no_controller(alloc: Global) -> Result<Answer, AllocError>
     ensures { IfOk result (λ answer. as_due answer ≡ no_controller) }
 {
     let text = String::from_str(alloc, "refused 17 NoController session\n")?;

@@ -20,6 +20,8 @@ pub enum Status {
     TooLong,
     /// The journal is not that of a complete run of the plant.
     Illegal,
+    /// A run was found that comes to what is never to be.
+    Found,
 }
 
 impl From<Status> for ExitCode {
@@ -35,6 +37,7 @@ impl From<Status> for ExitCode {
             Status::Refused => 5,
             Status::TooLong => 6,
             Status::Illegal => 7,
+            Status::Found => 9,
         })
     }
 }

@@ -3,3 +3,7 @@ mod Positionals
 mod Spelled
 mod TwoNumbers
 mod SpelledFlow
+mod ThreeNumbers
+mod SpelledStandby
+mod NeverWords
+mod SpelledNever

@@ -5,6 +5,8 @@ use Rattle.std.specs.Prelude.{IfOk, Result, bytes_eq, codes, false, true}
 use Rattle.plant_types.specs.Limits.{most_address}
 use Rattle.command_words.specs.declared.words.Command.{Command}
 use Rattle.command_words.specs.declared.words.Command.TheVariants.{Do, Flow, Gen, Session}
+use Rattle.command_words.specs.declared.words.Command.TheVariants.{Never, Standby}
+use Rattle.command_words.specs.declared.words.Question.{Question}
 use Rattle.command_words.specs.declared.words.Task.{Task}
 use Rattle.command_words.specs.declared.words.Task.TheVariants.{Run, Trace, Check, Replay}
 use Rattle.command_words.specs.Words.{AreNumberAndScans, AreScans, ReadsJust, SpellsBehind}
@@ -59,6 +61,39 @@ flow-no-gen named = differ (codes "flow") (codes "gen") refl refl named
 pub flow-no-session : codes "flow" ≡ codes "session" → ⊥
 flow-no-session named = differ (codes "flow") (codes "session") refl refl named
 
+pub standby-no-task : (task : Task) → codes "standby" ≡ task_name task → ⊥
+standby-no-task Run named = differ (codes "standby") (task_name Run) refl refl named
+standby-no-task Trace named = differ (codes "standby") (task_name Trace) refl refl named
+standby-no-task Check named = differ (codes "standby") (task_name Check) refl refl named
+standby-no-task Replay named = differ (codes "standby") (task_name Replay) refl refl named
+
+pub standby-no-gen : codes "standby" ≡ codes "gen" → ⊥
+standby-no-gen named = differ (codes "standby") (codes "gen") refl refl named
+
+pub standby-no-session : codes "standby" ≡ codes "session" → ⊥
+standby-no-session named = differ (codes "standby") (codes "session") refl refl named
+
+pub standby-no-flow : codes "standby" ≡ codes "flow" → ⊥
+standby-no-flow named = differ (codes "standby") (codes "flow") refl refl named
+
+pub never-no-task : (task : Task) → codes "never" ≡ task_name task → ⊥
+never-no-task Run named = differ (codes "never") (task_name Run) refl refl named
+never-no-task Trace named = differ (codes "never") (task_name Trace) refl refl named
+never-no-task Check named = differ (codes "never") (task_name Check) refl refl named
+never-no-task Replay named = differ (codes "never") (task_name Replay) refl refl named
+
+pub never-no-gen : codes "never" ≡ codes "gen" → ⊥
+never-no-gen named = differ (codes "never") (codes "gen") refl refl named
+
+pub never-no-session : codes "never" ≡ codes "session" → ⊥
+never-no-session named = differ (codes "never") (codes "session") refl refl named
+
+pub never-no-flow : codes "never" ≡ codes "flow" → ⊥
+never-no-flow named = differ (codes "never") (codes "flow") refl refl named
+
+pub never-no-standby : codes "never" ≡ codes "standby" → ⊥
+never-no-standby named = differ (codes "never") (codes "standby") refl refl named
+
 gen-no-session : codes "gen" ≡ codes "session" → ⊥
 gen-no-session named = differ (codes "gen") (codes "session") refl refl named
 
@@ -88,6 +123,36 @@ no-flow-session : (read : Option (ℕ × ℕ)) (first last : ℕ)
 no-flow-session None first last e = absurd (cc)
 no-flow-session (Some both) first last e = absurd (cc)
 
+no-standby-task : (task : Task) (read : Option ℕ) (node fail scans : ℕ)
+    → task_made task read ≡ Some (Standby node fail scans) → ⊥
+no-standby-task task None node fail scans e = absurd (cc)
+no-standby-task task (Some n) node fail scans e = absurd (cc)
+
+no-standby-gen : (read : Option (ℕ × ℕ)) (node fail scans : ℕ)
+    → gen_made read ≡ Some (Standby node fail scans) → ⊥
+no-standby-gen None node fail scans e = absurd (cc)
+no-standby-gen (Some both) node fail scans e = absurd (cc)
+
+no-standby-session : (read : Option (ℕ × ℕ)) (node fail scans : ℕ)
+    → session_made read ≡ Some (Standby node fail scans) → ⊥
+no-standby-session None node fail scans e = absurd (cc)
+no-standby-session (Some both) node fail scans e = absurd (cc)
+
+no-never-task : (task : Task) (read : Option ℕ) (node : ℕ) (asked : Question) (depth : Option ℕ)
+    → task_made task read ≡ Some (Never node asked depth) → ⊥
+no-never-task task None node asked depth e = absurd (cc)
+no-never-task task (Some n) node asked depth e = absurd (cc)
+
+no-never-gen : (read : Option (ℕ × ℕ)) (node : ℕ) (asked : Question) (depth : Option ℕ)
+    → gen_made read ≡ Some (Never node asked depth) → ⊥
+no-never-gen None node asked depth e = absurd (cc)
+no-never-gen (Some both) node asked depth e = absurd (cc)
+
+no-never-session : (read : Option (ℕ × ℕ)) (node : ℕ) (asked : Question) (depth : Option ℕ)
+    → session_made read ≡ Some (Never node asked depth) → ⊥
+no-never-session None node asked depth e = absurd (cc)
+no-never-session (Some both) node asked depth e = absurd (cc)
+
 task-is : (task other : Task) (read : Option ℕ) (scans : ℕ)
     → task_made task read ≡ Some (Do other scans)
     → (task ≡ other) × (read ≡ Some scans)
@@ -108,10 +173,10 @@ Spells-task task behind read reads (Do other scans) = (
   λ e.
       let is = task-is task other read scans e in
       let asked = (reads scans).0 is.1 in
-      record { named = ap task_name (sym is.0); numbers = asked.0; in_range = asked.1 },
+      record { named = ap task_name (sym is.0); words = asked.0; in_range = asked.1 },
   λ spells.
       let same = same-task other task spells.named in
-      ap (task_made task) ((reads scans).1 (spells.numbers, spells.in_range))
+      ap (task_made task) ((reads scans).1 (spells.words, spells.in_range))
       ∙ ap (λ t. Some (Do t scans)) (sym same),
 )
 Spells-task task behind read reads (Gen number scans) = (
@@ -125,6 +190,14 @@ Spells-task task behind read reads (Session node scans) = (
 Spells-task task behind read reads (Flow first last) = (
   λ e. absurd (no-flow-task task read first last e),
   λ spells. absurd (flow-no-task task spells.named),
+)
+Spells-task task behind read reads (Standby node fail scans) = (
+  λ e. absurd (no-standby-task task read node fail scans e),
+  λ spells. absurd (standby-no-task task spells.named),
+)
+Spells-task task behind read reads (Never node asked depth) = (
+  λ e. absurd (no-never-task task read node asked depth e),
+  λ spells. absurd (never-no-task task spells.named),
 )
 
 gen-is : (read : Option (ℕ × ℕ)) (number scans : ℕ) → gen_made read ≡ Some (Gen number scans)
@@ -149,11 +222,11 @@ Spells-gen behind read reads (Do task scans) = (
 Spells-gen behind read reads (Gen number scans) = (
   λ e.
       let asked = (reads (number, scans)).0 (gen-is read number scans e) in
-      record { named = refl; numbers = asked.0; in_range = ((asked.1.from, asked.1.to), asked.2) },
+      record { named = refl; words = asked.0; in_range = ((asked.1.from, asked.1.to), asked.2) },
   λ spells.
       let number_in = spells.in_range.0 in
       ap gen_made ((reads (number, scans)).1 (
-        spells.numbers,
+        spells.words,
         record { from = number_in.0; to = number_in.1 },
         spells.in_range.1,
       )),
@@ -165,6 +238,14 @@ Spells-gen behind read reads (Session node scans) = (
 Spells-gen behind read reads (Flow first last) = (
   λ e. absurd (no-flow-gen read first last e),
   λ spells. absurd (flow-no-gen spells.named),
+)
+Spells-gen behind read reads (Standby node fail scans) = (
+  λ e. absurd (no-standby-gen read node fail scans e),
+  λ spells. absurd (standby-no-gen spells.named),
+)
+Spells-gen behind read reads (Never node asked depth) = (
+  λ e. absurd (no-never-gen read node asked depth e),
+  λ spells. absurd (never-no-gen spells.named),
 )
 
 session-is : (read : Option (ℕ × ℕ)) (node scans : ℕ)
@@ -190,6 +271,14 @@ Spells-session behind read reads (Flow first last) = (
   λ e. absurd (no-flow-session read first last e),
   λ spells. absurd (flow-no-session spells.named),
 )
+Spells-session behind read reads (Standby node fail scans) = (
+  λ e. absurd (no-standby-session read node fail scans e),
+  λ spells. absurd (standby-no-session spells.named),
+)
+Spells-session behind read reads (Never node asked depth) = (
+  λ e. absurd (no-never-session read node asked depth e),
+  λ spells. absurd (never-no-session spells.named),
+)
 Spells-session behind read reads (Gen number scans) = (
   λ e. absurd ((only-sessions read Run number scans).1 e),
   λ spells. absurd (gen-no-session spells.named),
@@ -197,9 +286,9 @@ Spells-session behind read reads (Gen number scans) = (
 Spells-session behind read reads (Session node scans) = (
   λ e.
       let asked = (reads (node, scans)).0 (session-is read node scans e) in
-      record { named = refl; numbers = asked.0; in_range = (asked.1, asked.2) },
+      record { named = refl; words = asked.0; in_range = (asked.1, asked.2) },
   λ spells. ap session_made ((reads (node, scans)).1
-      (spells.numbers, spells.in_range.0, spells.in_range.1)),
+      (spells.words, spells.in_range.0, spells.in_range.1)),
 )
 
 -- a live run with the scans that were read behind its name

@@ -4,9 +4,11 @@ use Rattle.std.proofs.Common.{ap, sym, refl, ◌∙◌, arith}
 use Rattle.std.specs.Prelude.{codes, if◌then◌else◌, nat_le}
 use Rattle.command_words.specs.declared.words.Command.{Command}
 use Rattle.command_words.specs.declared.words.Command.TheVariants.{Do, Flow, Gen, Session}
+use Rattle.command_words.specs.declared.words.Command.TheVariants.{Never, Standby}
 use Rattle.command_words.specs.Words.{AreNumberAndScans, ReadsJust, SpellsBehind}
 use Rattle.command_words.specs.Flows.{flow_from}
 use Rattle.command_words.proofs.Spelled.{flow-no-gen, flow-no-session, flow-no-task}
+use Rattle.command_words.proofs.Spelled.{never-no-flow, standby-no-flow}
 
 abbrev pub flow_made : Option (ℕ × ℕ) → Option Command
 flow_made None = None
@@ -61,13 +63,21 @@ Spells-flow behind read reads (Session node scans) = (
   λ e. absurd (only-flows read (Session node scans) (λ first last same. absurd (cc)) e),
   λ spells. absurd (flow-no-session (sym spells.named)),
 )
+Spells-flow behind read reads (Standby node fail scans) = (
+  λ e. absurd (only-flows read (Standby node fail scans) (λ first last same. absurd (cc)) e),
+  λ spells. absurd (standby-no-flow spells.named),
+)
+Spells-flow behind read reads (Never node asked depth) = (
+  λ e. absurd (only-flows read (Never node asked depth) (λ first last same. absurd (cc)) e),
+  λ spells. absurd (never-no-flow spells.named),
+)
 Spells-flow behind read reads (Flow first last) = (
   λ e.
       let is = flow-is read first last e in
       let asked = (reads (first, last)).0 is.is in
       record {
         named = refl;
-        numbers = asked.0;
+        words = asked.0;
         in_range = (record { from = asked.1.from; to = is.order }, asked.2);
       },
   λ spells.
@@ -75,7 +85,7 @@ Spells-flow behind read reads (Flow first last) = (
       let within = spells.in_range.1 in
       let le : nat_le first last ≡ true = let to = order.to in grind (arith, to) in
       ap flow_made ((reads (first, last)).1 (
-        spells.numbers,
+        spells.words,
         record { from = order.from; to = let a = order.to in let b = within.to in omega (arith, a, b) },
         within,
       ))

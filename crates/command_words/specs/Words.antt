@@ -7,8 +7,11 @@ use Rattle.plant_types.specs.Plans.{IsFromTo, IsNode}
 use Rattle.plant_gen.specs.Text.{IsPlantNumber}
 use Rattle.command_words.specs.declared.words.Command.{Command}
 use Rattle.command_words.specs.declared.words.Command.TheVariants.{Do, Flow, Gen, Session}
+use Rattle.command_words.specs.declared.words.Command.TheVariants.{Never, Standby}
+use Rattle.command_words.specs.declared.words.Question.{Question}
 use Rattle.command_words.specs.declared.words.Task.{Task}
 use Rattle.command_words.specs.declared.words.Task.TheVariants.{Run, Trace, Check, Replay}
+use Rattle.command_words.specs.Nevers.{AreAsked, IsDepth}
 
 -- What was read is a value of this kind exactly where it is some value.
 abbrev pub ReadsJust : {X : Type 0} → (X → Type 0) → Option X → Type 0
@@ -38,6 +41,20 @@ AreNumberAndScans most words both =
     (without_dashes words ≡ decimal both.0 ∷ decimal both.1 ∷ []) × IsFromTo 1 most both.0
     × IsNumberOfScans both.1
 
+-- The words are a number from 1 to a largest and two numbers of scans, among which one `--` may
+-- stand.
+abbrev pub AreNumberAndTwoScans : ℕ → List (List ℕ) → ℕ × ℕ × ℕ → Type 0
+AreNumberAndTwoScans most words three =
+    (without_dashes words ≡ decimal three.0 ∷ decimal three.1 ∷ decimal three.2 ∷ [])
+    × IsFromTo 1 most three.0 × IsNumberOfScans three.1
+    × IsNumberOfScans three.2
+
+-- The words are a node, what is asked, and a depth where there is one, among which one `--` may
+-- stand.
+abbrev pub AskNever : List (List ℕ) → ℕ × Question × Option ℕ → Type 0
+AskNever words three =
+    AreAsked (without_dashes words) three.0 three.1 three.2 × IsNode three.0 × IsDepth three.2
+
 -- The word that names a task.
 abbrev pub task_name : Task → List ℕ
 task_name Run = codes "run"
@@ -51,13 +68,19 @@ command_name (Do task scans) = task_name task
 command_name (Gen number scans) = codes "gen"
 command_name (Session node scans) = codes "session"
 command_name (Flow first last) = codes "flow"
+command_name (Standby node fail scans) = codes "standby"
+command_name (Never node asked depth) = codes "never"
 
--- The numbers of a command, in decimal digits with no sign and no leading zero.
-abbrev pub command_numbers : Command → List (List ℕ)
-command_numbers (Do task scans) = decimal scans ∷ []
-command_numbers (Gen number scans) = decimal number ∷ decimal scans ∷ []
-command_numbers (Session node scans) = decimal node ∷ decimal scans ∷ []
-command_numbers (Flow first last) = decimal first ∷ decimal last ∷ []
+-- The words are those of a command after its name: its numbers, in decimal digits with no sign and
+-- no leading zero, and with them what is asked.
+abbrev pub AreWordsOf : Command → List (List ℕ) → Type 0
+AreWordsOf (Do task scans) words = words ≡ decimal scans ∷ []
+AreWordsOf (Gen number scans) words = words ≡ decimal number ∷ decimal scans ∷ []
+AreWordsOf (Session node scans) words = words ≡ decimal node ∷ decimal scans ∷ []
+AreWordsOf (Flow first last) words = words ≡ decimal first ∷ decimal last ∷ []
+AreWordsOf (Standby node fail scans) words =
+    words ≡ decimal node ∷ decimal fail ∷ decimal scans ∷ []
+AreWordsOf (Never node asked depth) words = AreAsked words node asked depth
 
 -- The numbers of a command are in their ranges.
 abbrev pub IsCommandInRange : Command → Type 0
@@ -65,12 +88,15 @@ IsCommandInRange (Do task scans) = IsNumberOfScans scans
 IsCommandInRange (Gen number scans) = IsPlantNumber number × IsNumberOfScans scans
 IsCommandInRange (Session node scans) = IsNode node × IsNumberOfScans scans
 IsCommandInRange (Flow first last) = IsFromTo 1 last first × IsNumberOfScans last
+IsCommandInRange (Standby node fail scans) =
+    IsNode node × IsFromTo 1 scans fail × IsNumberOfScans scans
+IsCommandInRange (Never node asked depth) = IsNode node × IsDepth depth
 
--- A command of this name, and behind the name its numbers, among which one `--` may stand.
+-- A command of this name, and behind the name its words, among which one `--` may stand.
 pub record SpellsBehind (name : List ℕ) (behind : List (List ℕ)) (command : Command)
     : Type 0 where
   pub named : command_name command ≡ name
-  pub numbers : without_dashes behind ≡ command_numbers command
+  pub words : AreWordsOf command (without_dashes behind)
   pub in_range : IsCommandInRange command
 
 -- The words are those of this command: its name, and what stands behind it.

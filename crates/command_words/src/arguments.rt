@@ -29,7 +29,7 @@ fn number_of(word: &str) -> Option<u32>
 }
 
 /// A number from 1 to a largest.
-fn number_in(word: &str, most: u32) -> Option<u32>
+pub(crate) fn number_in(word: &str, most: u32) -> Option<u32>
     ensures { ReadsJust (IsNumeralTo most word.now) result }
 {
     match number_of(word) {
@@ -39,7 +39,7 @@ fn number_in(word: &str, most: u32) -> Option<u32>
 }
 
 /// What a command makes of the words, or `None` where it refuses them.
-fn matches_of<'a>(
+pub(crate) fn matches_of<'a>(
     command: Command<'a>,
     words: &'a [String],
 ) -> Result<Option<ArgMatches<'a>>, AllocError>
@@ -56,7 +56,7 @@ fn matches_of<'a>(
 }
 
 /// A number from 1 to a largest, as the value of an argument.
-fn number_among(matches: &ArgMatches, id: &str, most: u32) -> Option<u32>
+pub(crate) fn number_among(matches: &ArgMatches, id: &str, most: u32) -> Option<u32>
     ensures { ReadsJust (HasNumeral matches.now id.now most) result }
 {
     number_in(matches.get_str(id)?, most)

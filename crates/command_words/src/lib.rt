@@ -3,6 +3,9 @@
 
 mod arguments;
 mod flows;
+mod nevers;
+mod standbys;
+mod three_numbers;
 mod words;
 
-pub use words::{Command, Task, command_of, live_scans};
+pub use words::{Command, Question, Task, command_of, live_scans};

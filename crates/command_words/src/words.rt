@@ -5,14 +5,16 @@ ghost use Rattle.command_words.specs.Words.{SpellsLiveBehind, task_name};
 
 use crate::arguments::{number_and_scans_of, scans_of};
 use crate::flows::flow_behind;
-use plant_types::NODE_LIMIT;
+use crate::nevers::never_behind;
+use crate::standbys::standby_behind;
+use plant_types::{NODE_LIMIT, Ref};
 use std::alloc::{AllocError, Global};
 
 /// The largest number that stands for a plant.
 const PLANT_LIMIT: u32 = 9999;
 
 /// The highest address of a node.
-const ADDRESS_LIMIT: u32 = NODE_LIMIT as u32;
+pub(crate) const ADDRESS_LIMIT: u32 = NODE_LIMIT as u32;
 
 /// What is done with a plant. This project's own.
 #[derive(Clone, Copy, Debug, PartialEq, Eq)]
@@ -27,19 +29,55 @@ pub enum Task {
     Replay,
 }
 
+/// What a controller is asked never to come to. This project's own.
+#[derive(Clone, Copy, Debug, PartialEq, Eq)]
+pub enum Question {
+    /// This coil or input, with a number of 1 to 9999, is on at the end of a scan.
+    On(Ref),
+    /// It has stopped.
+    Stop,
+}
+
 /// What the program is asked to do. This project's own.
 #[derive(Clone, Copy, Debug, PartialEq, Eq)]
 pub enum Command {
     /// A task with the plant of the input and so many scans of it, 1 to 2000.
-    Do { task: Task, scans: u32 },
+    Do {
+        task: Task,
+        scans: u32,
+    },
     /// The summary of so many scans of the plant that a number stands for.
-    Gen { number: u32, scans: u32 },
+    Gen {
+        number: u32,
+        scans: u32,
+    },
     /// So many scans of the controller with this node, 1 to 64, alone on a bench, and what the port
     /// behind the plant's file asks of it.
-    Session { node: u8, scans: u32 },
+    Session {
+        node: u8,
+        scans: u32,
+    },
     /// What conducted from one scan to another, both 1 to 2000, in the run of so many scans of the
     /// plant of the input, or in that of the journal behind its file.
-    Flow { first: u32, last: u32 },
+    Flow {
+        first: u32,
+        last: u32,
+    },
+    /// So many scans, 1 to 2000, of the controller with this node, 1 to 64, as a primary alone on a
+    /// bench that fails after one of them, and of the standby that goes on, and what the port behind
+    /// the plant's file asks of both.
+    Standby {
+        node: u8,
+        fail: u32,
+        scans: u32,
+    },
+    /// Whether the controller with this node, 1 to 64, never comes to what is asked, in any run of
+    /// its field, or in any of at most so many scans, 1 to 2000.
+    Never {
+        node: u8,
+        asked: Question,
+        depth: Option<u32>,
+    },
 }
 
 /// The task of a name.
@@ -103,6 +141,8 @@ fn command_named(
         "gen" => gen_behind(alloc, behind),
         "session" => session_behind(alloc, behind),
         "flow" => flow_behind(alloc, behind),
+        "standby" => standby_behind(alloc, behind),
+        "never" => never_behind(alloc, behind),
         _ => match task_of(name) {
             Some(task) => task_behind(alloc, task, behind),
             None => Ok(None),

@@ -11,3 +11,4 @@ pub mod Counting
 pub mod CallLaws
 pub mod CoilsOff
 pub mod Powered
+pub mod FeedingLemmas

@@ -14,3 +14,4 @@ pub mod Conducted
 pub mod Laws
 pub mod Parts
 pub mod StateView
+pub mod Feeding

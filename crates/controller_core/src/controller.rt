@@ -14,6 +14,7 @@ ghost use Rattle.controller_core.specs.Controller.{peer_entries};
 ghost use Rattle.controller_core.specs.Controller.{collect_entries, collecting, uncollected};
 ghost use Rattle.controller_core.specs.Controller.{finish_entries, finishing};
 ghost use Rattle.controller_core.specs.Controller.{at_start, fixed_with, IsLegal, ControllerWentOn};
+ghost use Rattle.controller_core.specs.Feeding.{feeding, CanFeed};
 ghost use Rattle.controller_core.specs.Following.{HasWords, IsRowOf};
 ghost use Rattle.controller_core.specs.Machine.{IsRunnable};
 ghost use Rattle.controller_core.specs.Notes.{noted_values, notes_of};
@@ -31,7 +32,8 @@ use crate::notes::{Notes, closes_scan, value_at};
 use crate::state::StateView;
 use mstr_block::{CallId, MstrResult};
 use plant_types::{
-    ControllerPlan, Copied, List, Pdu, Ref, RefStore, checked_plans_find_all, kept_stores_find_all,
+    ControllerPlan, Copied, List, Pdu, Ref, RefStore, ScriptRow, checked_plans_find_all,
+    kept_stores_find_all,
 };
 use scan_order::{ScanPlace, ScanStep, kept_power_stays, next_due, place_after};
 use state_ram::PackedRam;
@@ -442,5 +444,19 @@ impl Controller {
         self.machine.finish(id, outcome);
         note(&mut self.history, Entry::Finish { id, result: kept });
         Ok(())
+    }
+
+    /// Adds a row to the script of a drop, which comes after all that are there: it is for the
+    /// exchange after the last that has a row of its own, and for all later ones until another is
+    /// added. The history stays, and is legal for the plan with the row. Where memory is refused
+    /// nothing changes.
+    pub fn feed_row(&mut self, drop: u8, row: ScriptRow) -> Result<(), AllocError>
+        requires { CanFeed self.old drop row }
+        ensures ok { OnOk result (self.new ≡ feeding self.old drop row) }
+        ensures legal { IsLegal self.new.fixed self.new.history }
+        ensures state { state_of self.new ≡ state_of self.old }
+        ensures err { OnErr result (self.new ≡ self.old) }
+    {
+        self.machine.feed_row(self.alloc, drop, row)
     }
 }

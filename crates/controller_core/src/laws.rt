@@ -3,6 +3,7 @@ ghost use Rattle.std.specs.Prelude.{◌≡◌, true, [], ◌∷◌, ◌++◌, Li
 ghost use Rattle.controller_core.specs.declared.entry.Entry.{Entry as AnyEntry};
 ghost use Rattle.controller_core.specs.Controller.{ControllerIs, has_ended, state_of};
 ghost use Rattle.controller_core.specs.Controller.{due_step, grown, step_end, stepped, AreOf};
+ghost use Rattle.controller_core.specs.Feeding.{RowsKeepHistories};
 ghost use Rattle.controller_core.specs.Panel.{line_of_end, panel_lines};
 ghost use Rattle.controller_core.specs.Run.{ends_with, run_of};
 ghost use Rattle.controller_core.specs.Laws.{CallsFollow, ConditionsStay, KeptPowerIsOn};
@@ -96,3 +97,9 @@ pub fn notes_tell_the_lines()
 {
     scans_end_once();
 }
+
+/// A row that is added to the script of a drop keeps each history in which the drop has made at
+/// most as many input exchanges as it has rows: its state, what it notes, and that it is legal.
+pub fn rows_keep_histories()
+    ensures { RowsKeepHistories }
+{}

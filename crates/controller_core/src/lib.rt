@@ -22,7 +22,8 @@ pub use fixed::Fixed;
 pub use laws::{
     answers_leave_the_scan, calls_follow, conditions_stay, ended_controllers_stay,
     entries_add_their_lines, entries_add_their_notes, fronts_are_legal, kept_power_is_on,
-    notes_ask_no_scans, notes_tell_the_lines, steps_add_their_lines, steps_make_the_run,
+    notes_ask_no_scans, notes_tell_the_lines, rows_keep_histories, steps_add_their_lines,
+    steps_make_the_run,
 };
 pub use notes::Notes;
 pub use state::StateView;

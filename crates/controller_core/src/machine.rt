@@ -6,12 +6,14 @@ ghost use Rattle.modbus_exec.specs.Answer.{answer_of};
 ghost use Rattle.scan_order.specs.Due.{IsRow, IsStep};
 ghost use Rattle.controller_core.specs.Event.{entry_of, outputs_at, peer_entry, reply_in};
 ghost use Rattle.controller_core.specs.Replay.{control_is_on, start};
+ghost use Rattle.traffic_cop.specs.Feeding.{fits_drop};
 ghost use Rattle.traffic_cop.specs.Rows.{HasControl, HasDrop};
 ghost use Rattle.controller_core.specs.Machine.{state_is, DoesEntry, Exchanges};
 ghost use Rattle.controller_core.specs.StateView.{state_seen};
 ghost use Rattle.controller_core.specs.Machine.{CanSolve, IsRunnable, IsSound, IsTimely};
 ghost use Rattle.controller_core.specs.Machine.{most_steps};
 ghost use Rattle.controller_core.specs.Calls.{calls_of};
+ghost use Rattle.controller_core.specs.Feeding.{machine_fed};
 ghost use Rattle.controller_core.specs.Machine.{AnswersRequest, Solves, Tells, stop_by};
 ghost use Rattle.mstr_block.specs.Laws.{collected};
 ghost use Rattle.mstr_block.specs.Table.{has_untaken, is_taken_out};
@@ -29,7 +31,7 @@ use mstr_block::{
     CallId, MstrBank, MstrResult, calls_are_taken_in_order, power_failures_keep_calls,
 };
 use plant_types::{
-    Block, Copied, List, Pdu, Ref, RefStore, checked_plans_find_all, discretes_are_on,
+    Block, Copied, List, Pdu, Ref, RefStore, ScriptRow, checked_plans_find_all, discretes_are_on,
     discretes_follow, is_routed, kept_stores_find_all,
 };
 use scan_order::{ScanStep, row_of};
@@ -416,6 +418,22 @@ impl Machine {
         ensures { Tells (Entry.Finish id outcome) self.old self.new }
     {
         self.bank.finish(id, outcome);
+    }
+
+    /// Adds a row to the script of a drop, for the plan and the traffic cop or for neither.
+    pub(crate) fn feed_row(
+        &mut self,
+        alloc: Global,
+        drop: u8,
+        row: ScriptRow,
+    ) -> Result<(), AllocError>
+        requires sound { IsSound self.old }
+        requires fits { fits_drop self.old.fixed.plan.drops drop row ≡ true }
+        ensures ok { OnOk result (self.new ≡ machine_fed self.old drop row) }
+        ensures err { OnErr result (self.new ≡ self.old) }
+    {
+        let drops = &mut self.fixed.plan.drops;
+        self.cop.feed_with_plan(drops, alloc, drop, row)
     }
 
     /// Makes an event, and answers its entry. Takes no memory.

@@ -1,6 +1,7 @@
 //! Controllers with ample memory: what each is made of, what is done with it, and what it must
 //! answer and note.
 mod acts;
+mod conducting;
 mod messages;
 mod notes;
 mod plans;

@@ -1,12 +1,11 @@
 -- The counters of segments are those that are listed.
-use Rattle.std.proofs.Common.{◌≡◌, ℕ, zero, suc, ◌+◌, ◌-◌, ◌<◌, ◌≤◌, Bool, true, false, cond, ◌&&◌}
+use Rattle.std.proofs.Common.{◌≡◌, ℕ, zero, suc, ◌+◌, ◌-◌, ◌≤◌, Bool, true, false, cond, ◌&&◌}
 use Rattle.std.proofs.Common.{◌==◌, List, [], ◌∷◌, ◌++◌, Option, Some, None, inl, inr, refl, sym, ap, ◌∙◌}
-use Rattle.std.proofs.Common.{subst, arith, length, map, ◌⊎◌, get_or}
-use Rattle.std.specs.Prelude.{nat_le, slice_get, find, slice_index_or}
-use Rattle.std.specs.List.{cons_option, filter_map}
+use Rattle.std.proofs.Common.{subst, arith, length, map, ◌⊎◌}
+use Rattle.std.specs.Prelude.{nat_le, slice_get, slice_index_or}
+use Rattle.std.specs.List.{cons_option}
 use Rattle.std.proofs.lemmas.Bool.{eqb-true, le-leb, leb-true}
-use Rattle.std.proofs.lemmas.Bool.Decides.{nat_tests}
-use Rattle.std.proofs.lemmas.List.{length-map, get_or-map}
+use Rattle.std.proofs.lemmas.List.{length-map}
 use Rattle.std.proofs.lemmas.Option.{slice_get_within}
 use Rattle.plant_types.specs.declared.network.Cell.{Cell}
 use Rattle.plant_types.specs.declared.network.Network.{Network}
@@ -16,8 +15,8 @@ use Rattle.grid_compile.specs.Layout.{grids_of, grid_of}
 use Rattle.grid_compile.specs.declared.grid.Grid.{Grid}
 use Rattle.alike_states.specs.Counters.{is_counter, IsCounterPlace}
 use Rattle.ladder_solver.specs.declared.places.BlockPlace.{BlockPlace}
-use Rattle.ladder_solver.specs.Edges.{network_counts, places_by, HasEdgeBit, HasNetworks}
-use Rattle.ladder_solver.specs.Numbers.{networks_if, networks_of}
+use Rattle.ladder_solver.specs.Edges.{network_counts, places_by}
+use Rattle.ladder_solver.specs.Numbers.{networks_if}
 use Rattle.field_machine.specs.Counters.{Among, counter_at, counters_in, counters_of, counts_here}
 use Rattle.field_machine.specs.Counters.{HaveEdgeBits}
 use Rattle.field_machine.proofs.Edges.{among-none}

@@ -1,5 +1,5 @@
 -- Exchanges row by row, and the scripts that they make.
-use Rattle.std.proofs.Common.{◌≡◌, ℕ, suc, ◌+◌, ◌-◌, ◌/◌, ◌%◌, ◌<◌, ◌≤◌, Bool, true, false, ◌==◌, List}
+use Rattle.std.proofs.Common.{◌≡◌, ℕ, ◌+◌, ◌-◌, ◌/◌, ◌%◌, ◌<◌, ◌≤◌, Bool, true, false, ◌==◌, List}
 use Rattle.std.proofs.Common.{[], ◌∷◌, ◌++◌, Option, Some, None, refl, sym, ap, ◌∙◌, arith, length, cond}
 use Rattle.std.specs.Prelude.{slice_get}
 use Rattle.std.specs.List.{cons_option, filter_map}
@@ -10,8 +10,8 @@ use Rattle.scan_order.specs.declared.due.ScanStep.{ScanStep}
 use Rattle.scan_order.specs.declared.due.ScanStep.TheVariants as steps
 use Rattle.scan_order.specs.Due.{input_of, output_of, row_of, rows_from, step_with}
 use Rattle.scan_order.proofs.Rows.{rows_from-end, rows_from-row}
-use Rattle.field_runs.specs.Played.{brings_to, one_if, reads_drop, told_to}
-use Rattle.field_runs.specs.Scan.{rest_of, told_behind, told_first}
+use Rattle.field_runs.specs.Played.{one_if, reads_drop, told_to}
+use Rattle.field_runs.specs.Scan.{rest_of, told_first}
 use Rattle.field_machine.specs.declared.exchanges.Exchange.{Exchange}
 use Rattle.field_machine.specs.Choices.{choices_for, told_by}
 use Rattle.field_machine.specs.Exchanges.{exchange_with, exchanges_in, row_to}

@@ -1,11 +1,10 @@
 -- What a search of keys says of a field.
-use Rattle.std.proofs.Common.{◌≡◌, ℕ, ◌+◌, ◌<◌, Bool, true, false, List, [], ◌∷◌, Option, Some, None}
-use Rattle.std.proofs.Common.{refl, sym, ap, ◌∙◌, subst, arith, length, map}
+use Rattle.std.proofs.Common.{◌≡◌, ℕ, ◌<◌, Bool, List, [], ◌∷◌, Option, Some, None}
+use Rattle.std.proofs.Common.{refl, sym, ap, ◌∙◌, subst, length, map}
 use Rattle.std.specs.Prelude.{◌==◌, not, slice_get}
 use Rattle.std.specs.Option.{option_map}
 use Rattle.std.proofs.lemmas.List.{length-map}
 use Rattle.std.proofs.lemmas.Option.{slice_get-map}
-use Rattle.plant_types.specs.declared.plan.ControllerPlan.{ControllerPlan}
 use Rattle.plant_types.specs.Store.{is_on, Contents}
 use Rattle.scan_order.specs.Due.{full_scan}
 use Rattle.ladder_solver.specs.declared.places.BlockPlace.{BlockPlace}
@@ -18,7 +17,7 @@ use Rattle.field_runs.specs.Played.{with_scripts, AreScansTold}
 use Rattle.field_runs.specs.Scan.{scanned}
 use Rattle.field_search.specs.Covered.{AsksAlike, CoversHoldInField, CoversReachAll, IsAlone, TellAll}
 use Rattle.field_search.specs.Covered.{leads_to, starts_at}
-use Rattle.field_search.specs.Found.{EachTells, PathsAreRuns}
+use Rattle.field_search.specs.Found.{PathsAreRuns}
 use Rattle.field_search.proofs.Fields.{alike-then}
 use Rattle.field_machine.specs.declared.asked.Asked.{Asked}
 use Rattle.field_machine.specs.declared.asked.Asked.TheVariants.{On, Stopped}

@@ -8,3 +8,4 @@ pub mod RowsScanned
 pub mod Exchanging
 pub mod TestAlone
 pub mod Fields
+pub mod Showing

@@ -1,10 +1,9 @@
 -- A scan row by row.
-use Rattle.std.proofs.Common.{◌≡◌, ℕ, suc, ◌+◌, ◌-◌, ◌/◌, ◌%◌, ◌<◌, ◌≤◌, Bool, true, false, ◌==◌, List}
+use Rattle.std.proofs.Common.{◌≡◌, ℕ, ◌+◌, ◌-◌, ◌/◌, ◌%◌, ◌<◌, ◌≤◌, Bool, true, false, ◌==◌, List}
 use Rattle.std.proofs.Common.{[], ◌∷◌, ◌++◌, Option, Some, None, refl, sym, ap, ◌∙◌, subst, arith, length}
 use Rattle.std.specs.Prelude.{if◌then◌else◌, slice_get}
 use Rattle.std.proofs.Math.Nat.{div-one}
 use Rattle.std.proofs.lemmas.Bool.{eqb-true, eq-eqb}
-use Rattle.plant_types.specs.declared.plan.ControllerPlan.{ControllerPlan}
 use Rattle.plant_types.specs.declared.plan.OrderRow.{OrderRow}
 use Rattle.scan_order.specs.declared.due.ScanStep.{ScanStep}
 use Rattle.scan_order.specs.declared.due.ScanStep.TheVariants as steps
@@ -13,7 +12,7 @@ use Rattle.scan_order.proofs.Rows.{rows_from-end, rows_from-row}
 use Rattle.controller_core.specs.declared.fixed.Fixed.{Fixed}
 use Rattle.controller_core.specs.Replay.{ControllerState, solved}
 use Rattle.field_runs.specs.Alike.{IsAlike}
-use Rattle.field_runs.specs.Scan.{behind_steps, brought_to, scanned, stepped_with, told_first}
+use Rattle.field_runs.specs.Scan.{behind_steps, brought_to, scanned, stepped_with}
 use Rattle.field_runs.proofs.Playing.{stopped-steps}
 use Rattle.field_machine.specs.Choices.{choices_for, told_by}
 

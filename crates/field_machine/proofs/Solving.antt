@@ -1,12 +1,10 @@
 -- What the solve of a segment keeps of a work.
 use Rattle.std.proofs.Common.{◌≡◌, ℕ, ◌<◌, ◌≤◌, Bool, true, false, ◌==◌, inl, inr, refl, sym, ap, ◌∙◌}
-use Rattle.std.proofs.Common.{arith, length}
+use Rattle.std.proofs.Common.{arith}
 use Rattle.std.specs.Prelude.{if◌then◌else◌}
-use Rattle.std.specs.FinSet.{contains}
 use Rattle.plant_types.specs.declared.plan.ControllerPlan.{ControllerPlan}
 use Rattle.alike_states.specs.Counters.{EdgesStayElsewhere}
-use Rattle.ladder_solver.specs.declared.places.BlockPlace.{BlockPlace}
-use Rattle.ladder_solver.specs.State.{Places, SolveState}
+use Rattle.ladder_solver.specs.State.{SolveState}
 use Rattle.ladder_solver.specs.Segment.{segment_after}
 use Rattle.field_machine.specs.Counters.{counters_of}
 use Rattle.field_machine.proofs.Counting.{counter-listed}

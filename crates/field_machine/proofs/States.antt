@@ -1,7 +1,7 @@
 -- Keys and the states that they are of.
-use Rattle.std.proofs.Common.{◌≡◌, ℕ, zero, suc, ◌+◌, ◌*◌, ◌/◌, ◌%◌, ◌<◌, Bool, true, false, ◌&&◌, List, []}
+use Rattle.std.proofs.Common.{◌≡◌, ℕ, zero, suc, ◌+◌, ◌*◌, ◌/◌, ◌<◌, Bool, true, false, ◌&&◌, List, []}
 use Rattle.std.proofs.Common.{◌∷◌, ◌++◌, refl, sym, ap, ◌∙◌, subst, arith, length, get_or, drop}
-use Rattle.std.proofs.Common.{replicate, map, cond}
+use Rattle.std.proofs.Common.{replicate, cond}
 use Rattle.std.specs.Prelude.{nat_le, slice_index}
 use Rattle.std.proofs.lemmas.Bool.{eqb-true}
 use Rattle.std.specs.FinSet.{contains, contains-empty, empty}
@@ -10,7 +10,7 @@ use Rattle.std.proofs.lemmas.List.{length-replicate, replicate-append-replicate}
 use Rattle.plant_types.specs.declared.plan.ControllerPlan.{ControllerPlan}
 use Rattle.plant_types.specs.Checks.{is_discrete_size, is_size, numbers_pass, passes_check, sizes_of}
 use Rattle.plant_types.specs.Sizes.{Sizes, cleared, discretes_of, has_reference}
-use Rattle.plant_types.specs.Store.{Contents, Keeps}
+use Rattle.plant_types.specs.Store.{Keeps}
 use Rattle.plant_types.proofs.SizesLemmas.{contains_key-cleared}
 use Rattle.state_ram.specs.Packed.{Words, packed_contents, packed_sizes, zero_words}
 use Rattle.state_ram.proofs.Banked.{contains_key-packed, packed-zero_words}
@@ -21,8 +21,7 @@ use Rattle.field_runs.specs.Alike.{IsAlike}
 use Rattle.field_search.specs.Covered.{StandsFor}
 use Rattle.key_store.specs.Words.{flat_words, word_count, words_cut, HasWholeGroups}
 use Rattle.key_store.proofs.Cutting.{cut-flat, flat-same, rest-words, AreWords}
-use Rattle.field_machine.specs.Keys.{edge_words, edges_set, state_in, IsKeyOf}
-use Rattle.field_machine.specs.Counters.{Among}
+use Rattle.field_machine.specs.Keys.{edge_words, state_in, IsKeyOf}
 use Rattle.field_machine.proofs.Edges.{edges-again, length-edges}
 
 -- the words of a key behind those of the edge bits

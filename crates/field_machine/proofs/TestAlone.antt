@@ -2,7 +2,7 @@
 use Rattle.std.proofs.Common.{◌≡◌, ℕ, zero, suc, ◌-◌, Bool, true, false, cond, ◌&&◌, ◌||◌, ◌==◌, not}
 use Rattle.std.proofs.Common.{List, [], ◌∷◌, ◌++◌, Option, Some, None, refl, sym, ap, ◌∙◌, length}
 use Rattle.std.specs.Prelude.{slice_get}
-use Rattle.std.specs.List.{flat_map, list_any}
+use Rattle.std.specs.List.{list_any}
 use Rattle.std.proofs.lemmas.Bool.{eqb-true}
 use Rattle.plant_types.specs.declared.network.Cell.{Cell}
 use Rattle.plant_types.specs.declared.network.Network.{Network}
@@ -11,7 +11,7 @@ use Rattle.plant_types.specs.declared.plan.ControllerPlan.{ControllerPlan}
 use Rattle.plant_types.specs.declared.plan.PowerRow.{PowerRow}
 use Rattle.plant_types.specs.Standing.{cells_of_networks, cells_of_segments}
 use Rattle.grid_compile.specs.Cells.{cell_at}
-use Rattle.ladder_solver.specs.Numbers.{networks_if, networks_of}
+use Rattle.ladder_solver.specs.Numbers.{networks_if}
 use Rattle.traffic_cop.specs.Rows.{IsRunnablePlan}
 use Rattle.alike_states.specs.Alone.{HasNoMessages}
 use Rattle.field_search.specs.Covered.{IsAlone}

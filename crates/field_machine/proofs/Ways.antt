@@ -19,7 +19,7 @@ use Rattle.traffic_cop.specs.Drops.{drop_named}
 use Rattle.controller_core.specs.declared.fixed.Fixed.{Fixed}
 use Rattle.controller_core.specs.Event.{entry_of}
 use Rattle.controller_core.specs.Replay.{ControllerState, apply}
-use Rattle.field_runs.specs.Scan.{behind_steps, brought_to, rest_of, scanned, told_first}
+use Rattle.field_runs.specs.Scan.{behind_steps, brought_to, rest_of, told_first}
 use Rattle.field_runs.specs.Told.{rows_for, rows_in, AreTold, NamesRow}
 use Rattle.field_search.specs.Covered.{TellAll}
 use Rattle.field_search.specs.Found.{EachTells}

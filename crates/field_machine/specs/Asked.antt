@@ -7,7 +7,7 @@ use Rattle.controller_core.specs.Replay.{ControllerState}
 use Rattle.field_machine.specs.declared.asked.Asked.{Asked}
 use Rattle.field_machine.specs.declared.asked.Asked.TheVariants.{On, Stopped}
 
--- It is so in a state: the coil or input is on, or the controller has stopped.
+-- What is asked is so in a state: the coil or input is on, or the controller has stopped.
 abbrev pub is_so : Asked → ControllerState → Bool
 is_so (On at) s = is_on s.solving.map at
 is_so Stopped s = not (s.stop == 0)

@@ -21,7 +21,7 @@ exchanges_in plan (steps.In row ∷ due) rows =
     (exchanges_in plan due (rest_of rows))
 exchanges_in plan (step ∷ due) rows = exchanges_in plan due rows
 
--- Those of a scan.
+-- The input exchanges of a scan in which these rows are brought, in their order.
 abbrev pub exchanges_of : ControllerPlan → List ℕ → List Exchange
 exchanges_of plan rows = exchanges_in plan (full_scan plan) rows
 

@@ -7,3 +7,4 @@ pub mod Exchanges
 pub mod Work
 pub mod Field
 pub mod Never
+pub mod Shown

@@ -15,7 +15,7 @@ use Rattle.field_machine.specs.declared.searching.Found.TheVariants.{Holds, Fail
 use Rattle.field_machine.specs.Asked.{is_so}
 use Rattle.field_machine.specs.Choices.{told_by}
 
--- The state behind so many scans of a controller that is alone with a plan that plays in the field.
+-- The state after so many scans of a controller that is alone with a plan that plays in the field.
 abbrev pub state_of_run : Fixed → ControllerPlan → ℕ → ControllerState
 state_of_run fixed played scans = state_after played fixed.scan_time fixed.watchdog scans
 
@@ -34,9 +34,9 @@ pub record IsOneOf (states : List ControllerState) (s : ControllerState) : Type 
   pub is_there : slice_get states place ≡ Some one
   pub alike : IsAlike s one
 
--- It is so behind no scan of any run of the field, of whatever length, or of at most as many scans as
--- the limit; and there are just so many states, no two alike, to which such runs come, their starts
--- among them.
+-- What is asked is never so: after no scan of any run of the field, of whatever length, or of at most
+-- as many scans as the limit; and there are just so many states, no two alike, to which such runs
+-- come, their starts among them.
 pub record IsNeverSo (fixed : Fixed) (asked : ControllerState → Bool) (limit : Option ℕ)
     (count : ℕ) : Type 0 where
   pub never : (played : ControllerPlan) (scans : ℕ) → PlaysInField fixed.plan played

@@ -1,6 +1,6 @@
 -- A controller that makes scan after scan, each from the state of a key. All of it is this
 -- project's own.
-use Rattle.std.specs.Prelude.{◌≡◌, ◌≤◌, ℕ, true, List, map, replicate}
+use Rattle.std.specs.Prelude.{◌≡◌, ℕ, true, List, replicate}
 use Rattle.std.specs.FinSet.{contains}
 use Rattle.plant_types.specs.declared.drops.IoDrop.{IoDrop}
 use Rattle.plant_types.specs.declared.plan.ControllerPlan.{ControllerPlan}

@@ -1,5 +1,5 @@
-//! A controller that is alone as a machine over keys of its states, and what a search of all runs of
-//! its field finds.
+//! A controller that is alone as a machine over keys of its states, what a search of all runs of its
+//! field finds, and what one such run shows.
 #![tactic(auto)]
 
 mod alone;
@@ -11,9 +11,11 @@ mod field;
 mod machine;
 mod scanning;
 mod searching;
+mod shown;
 mod work;
 
 pub use alone::{can_be_asked, is_alone};
 pub use asked::Asked;
 pub use exchanges::{Exchange, exchanges_of, with_scripts};
 pub use searching::{Found, search_field};
+pub use shown::{Shown, show_run};

@@ -20,7 +20,7 @@ use std::alloc::AllocError;
 use timer_ops::Clock;
 
 /// The word at a place of a key, or 0.
-fn word_at(key: &[u16], place: usize) -> u16
+pub(crate) fn word_at(key: &[u16], place: usize) -> u16
     ensures { result ≡ slice_index key.now place }
 {
     match key.get(place) {
@@ -81,7 +81,7 @@ impl Field {
     }
 
     /// Puts a work into the state of a key. A key of too few words has no state.
-    fn unpack(&self, work: &mut Work, key: &[u16]) -> Result<(), AllocError>
+    pub(crate) fn unpack(&self, work: &mut Work, key: &[u16]) -> Result<(), AllocError>
         requires field { IsField self.now }
         requires work { IsWorkOf self.now.fixed.plan work.old }
         ensures work { IsWorkOf self.now.fixed.plan work.new }
@@ -108,7 +108,7 @@ impl Field {
     }
 
     /// Writes the key of the state of a work.
-    fn pack(&self, work: &Work, key: &mut Vec<u16>) -> Result<(), AllocError>
+    pub(crate) fn pack(&self, work: &Work, key: &mut Vec<u16>) -> Result<(), AllocError>
         requires field { IsField self.now }
         requires work { IsWorkOf self.now.fixed.plan work.now }
         ensures { OnOk result (IsKeyOf self.now.fixed.plan self.now.counters.items

@@ -1,5 +1,5 @@
 -- What is told of scans, text by text.
-use Rattle.std.proofs.Common.{◌≡◌, ◌≢◌, ◌<◌, ◌≤◌, ◌==◌, ℕ, zero, suc, ◌+◌, ◌-◌, Bool, true, false, List}
+use Rattle.std.proofs.Common.{◌≡◌, ◌≢◌, ◌<◌, ◌≤◌, ◌==◌, ℕ, zero, suc, ◌+◌, ◌-◌, true, false, List}
 use Rattle.std.proofs.Common.{[], ◌∷◌, ◌++◌, length, get_or, set, map, replicate, refl, sym, ap, ◌∙◌}
 use Rattle.std.proofs.Common.{append_assoc, append-nil, add-zero, arith, ⊎_elim}
 use Rattle.std.specs.Prelude.{cond}
@@ -110,7 +110,7 @@ scan_lines-own node row scan (flow ∷ flows) =
 
 -- ---- the events of a log, one after another
 
--- what one event more solves is told before what those behind it solve
+-- what one event more solves is told before what those after it solve
 pub told_more : (node : ℕ) (f : Fixed) (s : ControllerState) (entry : Entry) (rest : List Entry)
     (first : ℕ) (texts next : List (List ℕ))
     → next ≡ told (scan_lines node (solved_at f s entry)) first texts
@@ -126,7 +126,7 @@ told_more node f s entry rest first texts next is =
     (scan_lines node (now ++ then)) first texts
     (λ scan. sym (scan_lines-append node now then scan))
 
--- behind the last event nothing is told any more
+-- after the last event nothing is told any more
 pub told_end : (node : ℕ) (f : Fixed) (s : ControllerState) (first : ℕ) (texts : List (List ℕ))
     → told (scan_lines node (solved_from f s [])) first texts ≡ texts
 unfolding solved_from
@@ -163,7 +163,8 @@ told_other node row first scan flows texts out =
   where
     differs : (other : ℕ) → first ≤ other → other < first + length texts → (scan == other) ≡ false
     differs other from to = ⊎_elim
-        (λ (same : scan ≡ other). absurd (out (omega (arith, same, from)) (omega (arith, same, to))))
+        (λ (same : scan ≡ other).
+        absurd (out (omega (arith, same, from)) (omega (arith, same, to))))
         (λ (apart : scan ≢ other). grind (arith, apart)) (cases_eq scan other)
 
 -- an event that is no Solve solves nothing
@@ -204,7 +205,8 @@ pub told_again : (node : ℕ) (f : Fixed) (s : ControllerState) (entry : Entry) 
 told_again node f s entries.Begin first texts out = told_quiet node first texts
 told_again node f s (entries.Input row) first texts out = told_quiet node first texts
 told_again node f s (entries.Solve row) first texts out =
-    told_other node row first (s.gone + 1) (conducted_at f s (entries.Solve row)) texts (out row refl)
+    told_other node row first (s.gone + 1) (conducted_at f s (entries.Solve row)) texts
+    (out row refl)
 told_again node f s (entries.Output row words) first texts out = told_quiet node first texts
 told_again node f s entries.End first texts out = told_quiet node first texts
 told_again node f s entries.Fail first texts out = told_quiet node first texts
@@ -216,7 +218,7 @@ told_again node f s (entries.Finish id result) first texts out = told_quiet node
 
 -- ---- the logs of controllers, one after another
 
--- what is told of one log more is told before what is told of those behind it
+-- what is told of one log more is told before what is told of those after it
 pub logs_step : (lines : ℕ → ControllerPlan × ControllerLog → List ℕ)
     (of : ControllerPlan × ControllerLog) (rest : List (ControllerPlan × ControllerLog)) (first : ℕ)
     (texts next whole : List (List ℕ))
@@ -228,7 +230,7 @@ logs_step lines of rest first texts next whole tells so_far =
     ∙ told_both (λ scan. lines scan of) (λ scan. flat_map (lines scan) rest) first texts
     ∙ so_far
 
--- behind the last log nothing is told any more
+-- after the last log nothing is told any more
 pub logs_end : (lines : ℕ → ControllerPlan × ControllerLog → List ℕ) (first : ℕ)
     (texts : List (List ℕ))
     → told (λ scan. flat_map (lines scan) []) first texts ≡ texts

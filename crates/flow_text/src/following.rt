@@ -3,10 +3,9 @@ ghost use Rattle.std.specs.Prelude.{◌≡◌, ◌<◌, ◌≤◌, ◌+◌, [], 
 ghost use Rattle.controller_core.specs.Controller.{IsLegal, state_of};
 ghost use Rattle.controller_core.specs.Following.{MayFollow};
 ghost use Rattle.panel_text.specs.Panel.{CanShow, HasMade};
-ghost use Rattle.flow_text.specs.Lines.{scan_lines};
 ghost use Rattle.flow_text.specs.Power.{log_lines};
-ghost use Rattle.flow_text.specs.Solved.{networks_solved, solved_at};
-ghost use Rattle.flow_text.specs.Window.{Tells, texts_of};
+ghost use Rattle.flow_text.specs.Solved.{networks_solved, solved_next};
+ghost use Rattle.flow_text.specs.Window.{AddsFlow, AddsLines, texts_of};
 
 use crate::window::Window;
 use controller_core::{Controller, Entry, fronts_are_legal};
@@ -29,8 +28,7 @@ fn solve_again(
     requires first { window.old.first ≤ scan }
     requires last { scan < window.old.first + length (texts_of window.old) }
     ensures made { OnOk result (HasMade (Entry.Solve row) controller.old controller.new) }
-    ensures told { OnOk result (Tells (scan_lines node
-        (solved_at controller.old.fixed (state_of controller.old) (Entry.Solve row)))
+    ensures told { OnOk result (AddsFlow node (solved_next controller.old (Entry.Solve row))
         window.old window.new) }
 {
     notes.clear();
@@ -48,8 +46,7 @@ fn make_again(
 ) -> Result<(), AllocError>
     requires { MayFollow controller.old entry.now }
     ensures made { OnOk result (HasMade entry.now controller.old controller.new) }
-    ensures told { OnOk result (Tells (scan_lines node
-        (solved_at controller.old.fixed (state_of controller.old) entry.now))
+    ensures told { OnOk result (AddsFlow node (solved_next controller.old entry.now)
         window.old window.new) }
 {
     let scan = u64::from(controller.scans_gone()) + 1;
@@ -74,8 +71,8 @@ fn follow_all(
 ) -> Result<(), AllocError>
     requires fresh { controller.old.history ≡ [] }
     requires legal { IsLegal controller.old.fixed entries.now }
-    ensures { OnOk result (Tells (scan_lines node
-        (networks_solved controller.old.fixed entries.now)) window.old window.new) }
+    ensures { OnOk result (AddsFlow node (networks_solved controller.old.fixed entries.now)
+        window.old window.new) }
 {
     fronts_are_legal();
     for entry in entries {
@@ -93,7 +90,7 @@ pub(crate) fn tell_log(
     window: &mut Window,
 ) -> Result<(), AllocError>
     requires { CanShow plant.now (plan.now, log.now) }
-    ensures { OnOk result (Tells (λ scan. log_lines plant.now scan (plan.now, log.now))
+    ensures { OnOk result (AddsLines (λ scan. log_lines plant.now scan (plan.now, log.now))
         window.old window.new) }
 {
     let (scan_time, watchdog) = (plant.scan_time, plant.watchdog);

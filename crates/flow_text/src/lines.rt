@@ -1,7 +1,7 @@
 //! The line of a network that was solved.
-ghost use Rattle.std.specs.Prelude.{◌≡◌, ◌++◌, OnOk, string_bytes, map};
+ghost use Rattle.std.specs.Prelude.{◌≡◌, ◌++◌, OnOk, string_bytes};
 ghost use Rattle.std.specs.List.{flat_map};
-ghost use Rattle.flow_text.specs.Lines.{border_text, network_line};
+ghost use Rattle.flow_text.specs.Lines.{border_text, network_line, row_lines};
 ghost use Rattle.flow_text.specs.Solved.{solved_in};
 
 use ladder_solver::NetworkFlow;
@@ -61,7 +61,7 @@ pub(crate) fn push_networks(
     flows: &[NetworkFlow],
 ) -> Result<(), AllocError>
     ensures { OnOk result (string_bytes text.new ≡ string_bytes text.old
-        ++ flat_map (network_line node) (map (solved_in scan row) flows.now)) }
+        ++ row_lines node scan row flows.now) }
 {
     for flow in flows {
         push_network(text, node, scan, row, flow)?;

@@ -5,7 +5,7 @@ ghost use Rattle.joint_history.specs.JointLaws.{IsLegalJoint, most_scans};
 ghost use Rattle.joint_history.specs.Runnable.{CanRunPlant};
 ghost use Rattle.panel_text.specs.Panel.{CanShow};
 ghost use Rattle.flow_text.specs.Power.{flow, log_lines};
-ghost use Rattle.flow_text.specs.Window.{Tells};
+ghost use Rattle.flow_text.specs.Window.{AddsLines};
 
 use crate::following::tell_log;
 use crate::window::Window;
@@ -22,7 +22,7 @@ fn tell_logs(
 ) -> Result<(), AllocError>
     requires count { length logs.now ≡ length plant.now.controllers }
     requires logs { AllByRecursion (CanShow plant.now) (zip plant.now.controllers logs.now) }
-    ensures { OnOk result (Tells (λ scan.
+    ensures { OnOk result (AddsLines (λ scan.
         flat_map (log_lines plant.now scan) (zip plant.now.controllers logs.now))
         window.old window.new) }
 {

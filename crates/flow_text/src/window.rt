@@ -1,10 +1,9 @@
 //! The texts of scans, from one on.
-ghost use Rattle.std.specs.Prelude.{◌≡◌, ◌<◌, ◌≤◌, ◌+◌, ◌-◌, ◌++◌, ◌↔◌, [], length, map, replicate};
+ghost use Rattle.std.specs.Prelude.{◌≡◌, ◌<◌, ◌≤◌, ◌+◌, ◌-◌, ◌↔◌, [], length, map, replicate};
 ghost use Rattle.std.specs.Prelude.{string_bytes, IfOk, IsTrue, OnOk};
 ghost use Rattle.std.specs.List.{flat_map};
-ghost use Rattle.flow_text.specs.Lines.{scan_lines};
 ghost use Rattle.flow_text.specs.Solved.{solved_in};
-ghost use Rattle.flow_text.specs.Window.{Tells, texts_of};
+ghost use Rattle.flow_text.specs.Window.{AddsFlow, texts_of};
 
 use crate::lines::push_networks;
 use ladder_solver::NetworkFlow;
@@ -63,15 +62,15 @@ impl Window {
     ) -> Result<(), AllocError>
         requires first { self.old.first ≤ scan }
         requires last { scan < self.old.first + length (texts_of self.old) }
-        ensures { OnOk result (Tells (scan_lines node (map (solved_in scan row) flows.now))
-            self.old self.new) }
+        ensures { OnOk result (AddsFlow node (map (solved_in scan row) flows.now) self.old
+            self.new) }
     {
         let at = (scan - self.first) as usize;
         let text = &mut self.texts[at];
         push_networks(text, node, scan, row, flows)
     }
 
-    /// The texts of all scans, one behind the other.
+    /// The texts of all scans, one after another.
     pub(crate) fn joined(&self, alloc: Global) -> Result<Vec<u8>, AllocError>
         ensures { IfOk result (λ text. text.items ≡ flat_map (λ piece. piece) (texts_of self.now)) }
     {

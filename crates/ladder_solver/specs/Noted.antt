@@ -73,7 +73,8 @@ place_notes noting shorts column row (Some cell) p =
     then element_notes noting cell.element (inputs_at shorts p.on column row) p.state
     else []
 
--- Those of so many rows of a column, from one down, each behind those above it. This project's own.
+-- The notes of so many rows of a column, from one down, each after those above it. This project's
+-- own.
 unfoldable pub rows_notes : CallNotes → Setting → Network → Site → ℕ → ℕ → ℕ → Power
     → List NetworkFlow
 rows_notes noting setting network site column row zero p = []
@@ -82,7 +83,7 @@ rows_notes noting setting network site column row (suc count) p =
     ++ rows_notes noting setting network site column (row + 1) count
     (place_solved setting network site column row p)
 
--- Those of so many columns, from one to the right. This project's own.
+-- The notes of so many columns, from one to the right. This project's own.
 unfoldable pub columns_notes : CallNotes → Setting → Network → Site → ℕ → ℕ → Power
     → List NetworkFlow
 columns_notes noting setting network site column zero p = []
@@ -98,7 +99,7 @@ network_notes noting setting network site s =
     columns_notes noting setting network site 1 11 (network_start s)
     ++ network_note setting network site s ∷ []
 
--- Those of the networks behind one that ended. Modicon Ladder Logic Block Library User Guide.
+-- The notes of the networks after one that ended. Modicon Ladder Logic Block Library User Guide.
 abbrev pub notes_behind : Flow → (ℕ → SolveState → List NetworkFlow) → SolveState
     → List NetworkFlow
 notes_behind GoesOn rest s = rest 0 s
@@ -107,8 +108,8 @@ notes_behind (Skips (suc more)) rest s = rest more s
 notes_behind Returns rest s = []
 notes_behind Stopped rest s = []
 
--- Those of a network that begins, and of those behind it; where the watchdog stops the solve before
--- it, it is not solved. This project's own.
+-- The notes of a network that begins, and of those after it; where the watchdog stops the solve
+-- before it, it is not solved. This project's own.
 abbrev pub turn_notes : CallNotes → Setting → Network → Site → (ℕ → SolveState → List NetworkFlow)
     → SolveState → List NetworkFlow
 turn_notes noting setting network site rest s =
@@ -118,7 +119,7 @@ turn_notes noting setting network site rest s =
     then []
     else network_notes noting setting network site begun ++ notes_behind done.1 rest done.0
 
--- Those of networks that are solved one after another, with their numbers from one on, behind so
+-- The notes of networks that are solved one after another, with their numbers from one on, after so
 -- many that are skipped. Modicon Ladder Logic Block Library User Guide.
 unfoldable pub networks_notes : CallNotes → Setting → ℕ → ℕ → List Network → ℕ → SolveState
     → List NetworkFlow
@@ -129,13 +130,13 @@ networks_notes noting setting segment number (network ∷ networks) zero s =
     turn_notes noting setting network (record { segment = segment; network = number })
     (networks_notes noting setting segment (number + 1) networks) s
 
--- Those of a subroutine, if there is one. Modicon Ladder Logic Block Library User Guide.
+-- The notes of a subroutine, if there is one. Modicon Ladder Logic Block Library User Guide.
 abbrev pub subroutine_notes : CallNotes → Setting → List Segment → Option Subroutine → CallNotes
 subroutine_notes noting setting segments None number s = []
 subroutine_notes noting setting segments (Some called) number s =
     networks_notes noting setting (length segments) called.first called.networks 0 s
 
--- Those of a call where calls can be so many deep. Modicon Ladder Logic Block Library User Guide.
+-- The notes of a call where calls can be so many deep. Modicon Ladder Logic Block Library User Guide.
 unfoldable pub notes_within : ℕ → List Segment → CallNotes
 notes_within zero segments number s = []
 notes_within (suc depth) segments number s =

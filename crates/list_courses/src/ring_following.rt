@@ -7,10 +7,10 @@ ghost use Rattle.ring_core.specs.declared.entry.RingEntry.TheVariants as entries
 ghost use Rattle.list_courses.specs.Courses.{FollowedTo};
 ghost use Rattle.list_courses.specs.RingFollowing.{RingFollowed};
 
+use compared_items::{same_frame, same_result, same_words};
 use mstr_block::{CallId, MstrResult};
 use plant_types::{Copied, GLOBAL_LIMIT, NetPlan, Words};
 use ring_core::{BareRing, Frame, Heard, LeaveCause, LocalOp, RingEntry, is_from, is_path};
-use station_laws::{same_frame, same_result, same_words};
 use std::alloc::{AllocError, Global};
 
 fn follow_post(

@@ -17,7 +17,7 @@ use Rattle.panel_session.specs.Serving.{requests_taken, served_entries, reply_te
 use Rattle.panel_session.specs.Serving.{numbered_on}
 use Rattle.panel_session.specs.Session.{bench_history, bench_scans, ends_bench, frames_now}
 use Rattle.panel_session.specs.Session.{scan_histories, scan_texts, state_after}
-use Rattle.panel_session.specs.declared.asked.Asked.{Asked}
+use Rattle.panel_session.specs.declared.asked.PortFrame.{PortFrame}
 use Rattle.panel_session.proofs.Quiet.{leaves, made-none, requests-both, requests-same, served-of}
 use Rattle.panel_session.proofs.Quiet.{served-requests}
 
@@ -42,13 +42,13 @@ replies-cut fixed s (asked ∷ rest) =
     ap (λ (texts : List ℕ). texts ++ reply_texts fixed (apply fixed s (served_entry s asked)) rest)
     (sym (append-nil (reply_text fixed.plan.node s asked.frame)))
 
-first-numbered : (number : ℕ) (asked : List Asked)
+first-numbered : (number : ℕ) (asked : List PortFrame)
     → numbered_on number (map frame_asked (take 1 asked))
     ≡ take 1 (numbered_on number (map frame_asked asked))
 first-numbered number [] = refl
 first-numbered number (one ∷ rest) = refl
 
-rest-numbered : (number next : ℕ) (asked : List Asked) → next ≡ number + length (take 1 asked)
+rest-numbered : (number next : ℕ) (asked : List PortFrame) → next ≡ number + length (take 1 asked)
     → numbered_on next (map frame_asked (drop 1 asked))
     ≡ drop 1 (numbered_on number (map frame_asked asked))
 rest-numbered number next [] is = refl
@@ -56,21 +56,21 @@ rest-numbered number next (one ∷ rest) is =
     ap (λ (number : ℕ). numbered_on number (map frame_asked rest)) is
 
 -- The next frames are the same behind entries that take no request.
-pub next-first : (history added : List Entry) (asked : List Asked) → requests_taken added ≡ []
+pub next-first : (history added : List Entry) (asked : List PortFrame) → requests_taken added ≡ []
     → next_frames (history ++ added) (take 1 asked) ≡ take 1 (next_frames history asked)
 next-first history added asked none =
     ap (λ (taken : List NamedRequest). numbered_on (length taken + 1)
     (map frame_asked (take 1 asked))) (requests-same history added none)
     ∙ first-numbered (request_count history + 1) asked
 
-first-many : (number : ℕ) (asked : List Asked)
+first-many : (number : ℕ) (asked : List PortFrame)
     → length (take 1 (numbered_on number (map frame_asked asked))) ≡ length (take 1 asked)
 first-many number [] = refl
 first-many number (one ∷ rest) = refl
 
 -- Behind the first of them so many requests were taken.
 pub first-counted : (fixed : Fixed) (s : ControllerState) (history added : List Entry)
-    (asked : List Asked) → requests_taken added ≡ []
+    (asked : List PortFrame) → requests_taken added ≡ []
     → request_count ((history ++ added)
     ++ served_entries fixed s (take 1 (next_frames history asked)))
     ≡ request_count history + length (take 1 asked)
@@ -86,7 +86,7 @@ first-counted fixed s history added asked none =
     ∙ first-many (request_count history + 1) asked)
 
 pub next-rest : (fixed : Fixed) (s : ControllerState) (history added : List Entry)
-    (asked : List Asked) → requests_taken added ≡ []
+    (asked : List PortFrame) → requests_taken added ≡ []
     → next_frames ((history ++ added)
     ++ served_entries fixed s (take 1 (next_frames history asked))) (drop 1 asked)
     ≡ drop 1 (next_frames history asked)

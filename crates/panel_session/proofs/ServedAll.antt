@@ -11,11 +11,11 @@ use Rattle.controller_core.proofs.Keeping.{replay_more}
 use Rattle.panel_session.specs.Asked.{entries_to_come, frame_asked, next_frames, replies_to_come}
 use Rattle.panel_session.specs.Serving.{NumberedFrame, frame_id, reply_text, reply_texts}
 use Rattle.panel_session.specs.Serving.{request_count, served_entries, served_entry, numbered_on}
-use Rattle.panel_session.specs.declared.asked.Asked.{Asked}
+use Rattle.panel_session.specs.declared.asked.PortFrame.{PortFrame}
 use Rattle.panel_session.proofs.Quiet.{requests-more}
 
 -- So many frames were served, and the others are to come.
-pub record HasServed (first v : ControllerIs) (before text : List ℕ) (asked : List Asked)
+pub record HasServed (first v : ControllerIs) (before text : List ℕ) (asked : List PortFrame)
     (count : ℕ) : Type 0 where
   pub fixed : v.fixed ≡ first.fixed
   pub requests : request_count v.history ≡ request_count first.history + count
@@ -48,18 +48,18 @@ served-state v asked =
     replay_more v.fixed (start v.fixed.plan) v.history (served_entry (state_of v) asked)
 
 -- The next frame, with its number.
-abbrev next_frame : ControllerIs → Asked → NumberedFrame
+abbrev next_frame : ControllerIs → PortFrame → NumberedFrame
 next_frame v one = record { number = request_count v.history + 1; frame = frame_asked one }
 
 -- Those behind it have the next numbers.
-next-rest : (v : ControllerIs) (one : Asked) (rest : List Asked)
+next-rest : (v : ControllerIs) (one : PortFrame) (rest : List PortFrame)
     → next_frames (answering v (frame_id (request_count v.history + 1)) one.pdu).history rest
     ≡ numbered_on (request_count v.history + 1 + 1) (map frame_asked rest)
 next-rest v one rest =
     ap (λ (count : ℕ). numbered_on (count + 1) (map frame_asked rest))
     (requests-more v (frame_id (request_count v.history + 1)) one.pdu)
 
-entries-step : (v : ControllerIs) (one : Asked) (rest : List Asked)
+entries-step : (v : ControllerIs) (one : PortFrame) (rest : List PortFrame)
     → let w = answering v (frame_id (request_count v.history + 1)) one.pdu in
     w.history ++ entries_to_come w rest ≡ v.history ++ entries_to_come v (one ∷ rest)
 entries-step v one rest =
@@ -76,7 +76,7 @@ entries-step v one rest =
     ∙ ap (λ (entries : List Entry). v.history ++ entries)
     (sym (entries-first v.fixed (state_of v) asked _))
 
-texts-step : (v : ControllerIs) (one : Asked) (rest : List Asked)
+texts-step : (v : ControllerIs) (one : PortFrame) (rest : List PortFrame)
     → let w = answering v (frame_id (request_count v.history + 1)) one.pdu in
     reply_text v.fixed.plan.node (state_of v) (frame_asked one) ++ replies_to_come w rest
     ≡ replies_to_come v (one ∷ rest)
@@ -91,7 +91,7 @@ texts-step v one rest =
     (next-rest v one rest)
     ∙ sym (texts-first v.fixed (state_of v) asked _)
 
-pub serving-begins : (first : ControllerIs) (before : List ℕ) (asked : List Asked)
+pub serving-begins : (first : ControllerIs) (before : List ℕ) (asked : List PortFrame)
     → HasServed first first before before asked 0
 serving-begins first before asked = record {
   fixed = refl;
@@ -101,7 +101,7 @@ serving-begins first before asked = record {
 }
 
 pub serving-goes-on : (first v w : ControllerIs) (node : ℕ) (before text more : List ℕ)
-    (asked : List Asked) (count : ℕ) (one : Asked) → first.fixed.plan.node ≡ node
+    (asked : List PortFrame) (count : ℕ) (one : PortFrame) → first.fixed.plan.node ≡ node
     → HasServed first v before text asked count → count < length asked
     → one ≡ get_or asked count one
     → w ≡ answering v (frame_id (request_count v.history + 1)) one.pdu
@@ -111,7 +111,7 @@ serving-goes-on first v w node before text more asked count one own serving with
     added =
     let rest = drop (count + 1) asked in
     let next : drop count asked ≡ one ∷ rest =
-    drop_more asked count one within ∙ ap (λ (one : Asked). one ∷ rest) (sym is) in
+    drop_more asked count one within ∙ ap (λ (one : PortFrame). one ∷ rest) (sym is) in
     let same : v.fixed.plan.node ≡ node =
     ap (λ (fixed : Fixed). fixed.plan.node) serving.fixed ∙ own in
     subst (λ (w : ControllerIs). HasServed first w before more asked (count + 1)) (sym answers)
@@ -121,7 +121,7 @@ serving-goes-on first v w node before text more asked count one own serving with
           let one_more = requests-more v (frame_id (request_count v.history + 1)) one.pdu in
           omega (arith, one_more, serving.requests);
       history = entries-step v one rest
-          ∙ ap (λ (asked : List Asked). v.history ++ entries_to_come v asked) (sym next)
+          ∙ ap (λ (asked : List PortFrame). v.history ++ entries_to_come v asked) (sym next)
           ∙ serving.history;
       replies = ap (λ (more : List ℕ). more ++ replies_to_come
           (answering v (frame_id (request_count v.history + 1)) one.pdu) rest) added
@@ -130,7 +130,7 @@ serving-goes-on first v w node before text more asked count one own serving with
           ++ replies_to_come (answering v (frame_id (request_count v.history + 1)) one.pdu) rest))
           (sym same)
           ∙ ap (λ (texts : List ℕ). text ++ texts) (texts-step v one rest)
-          ∙ ap (λ (asked : List Asked). text ++ replies_to_come v asked) (sym next)
+          ∙ ap (λ (asked : List PortFrame). text ++ replies_to_come v asked) (sym next)
           ∙ serving.replies;
     })
 
@@ -143,22 +143,22 @@ no_replies : (v : ControllerIs) → replies_to_come v [] ≡ []
 unfolding reply_texts
 no_replies v = refl
 
-pub served-history : (first v : ControllerIs) (before text : List ℕ) (asked : List Asked)
+pub served-history : (first v : ControllerIs) (before text : List ℕ) (asked : List PortFrame)
     (count : ℕ) → HasServed first v before text asked count → length asked ≤ count
     → v.history ≡ first.history ++ entries_to_come first asked
 served-history first v before text asked count serving all =
     sym (append-nil v.history)
     ∙ ap (λ (entries : List Entry). v.history ++ entries) (sym (no_entries v))
-    ∙ ap (λ (asked : List Asked). v.history ++ entries_to_come v asked)
+    ∙ ap (λ (asked : List PortFrame). v.history ++ entries_to_come v asked)
     (sym (drop_of_length-le asked {i = count} all))
     ∙ serving.history
 
-pub served-replies : (first v : ControllerIs) (before text : List ℕ) (asked : List Asked)
+pub served-replies : (first v : ControllerIs) (before text : List ℕ) (asked : List PortFrame)
     (count : ℕ) → HasServed first v before text asked count → length asked ≤ count
     → text ≡ before ++ replies_to_come first asked
 served-replies first v before text asked count serving all =
     sym (append-nil text)
     ∙ ap (λ (texts : List ℕ). text ++ texts) (sym (no_replies v))
-    ∙ ap (λ (asked : List Asked). text ++ replies_to_come v asked)
+    ∙ ap (λ (asked : List PortFrame). text ++ replies_to_come v asked)
     (sym (drop_of_length-le asked {i = count} all))
     ∙ serving.replies

@@ -28,7 +28,7 @@ use Rattle.panel_session.specs.Serving.{NumberedFrame, frames_for, is_for, reply
 use Rattle.panel_session.specs.Serving.{request_count, served_entries, numbered_on}
 use Rattle.panel_session.specs.Session.{bench_history, bench_scans, bench_text, ends_bench}
 use Rattle.panel_session.specs.Session.{scan_histories, scan_texts, state_after}
-use Rattle.panel_session.specs.declared.asked.Asked.{Asked}
+use Rattle.panel_session.specs.declared.asked.PortFrame.{PortFrame}
 use Rattle.panel_session.specs.declared.bench.BenchEnd.{BenchEnd}
 use Rattle.panel_session.specs.declared.bench.BenchEnd.TheVariants.{Done}
 use Rattle.panel_session.proofs.Lines.{last_line-more}
@@ -101,7 +101,7 @@ line-is v goes =
 -- ---- a session between two scans
 
 -- What it has made, with what is to come of these frames, is what the bench makes for the stream.
-pub record IsInSession (fixed : Fixed) (stream : List ℕ) (v : ControllerIs) (asked : List Asked)
+pub record IsInSession (fixed : Fixed) (stream : List ℕ) (v : ControllerIs) (asked : List PortFrame)
     (text : List ℕ) : Type 0 where
   pub fixed_is : v.fixed ≡ fixed
   pub left : ℕ
@@ -116,7 +116,7 @@ pub record IsInSession (fixed : Fixed) (stream : List ℕ) (v : ControllerIs) (a
       ≡ bench_text fixed stream
 
 -- So it stands between two scans.
-abbrev between-of : {fixed : Fixed} {stream : List ℕ} {v : ControllerIs} {asked : List Asked}
+abbrev between-of : {fixed : Fixed} {stream : List ℕ} {v : ControllerIs} {asked : List PortFrame}
     {text : List ℕ} → IsInSession fixed stream v asked text → IsBetweenScans v
 between-of session = record { many = session.left; left = session.left_is }
 
@@ -134,7 +134,7 @@ frames-few node stream =
     let colons = count_by-le-length is_colon stream in
     omega (arith, own, fewer, picked, behind, cut, colons)
 
-pub session-begins : (fixed : Fixed) (stream : List ℕ) (v : ControllerIs) (asked : List Asked)
+pub session-begins : (fixed : Fixed) (stream : List ℕ) (v : ControllerIs) (asked : List PortFrame)
     (text : List ℕ) → 1 ≤ fixed.scans → v ≡ at_start fixed
     → map frame_asked asked ≡ frames_for fixed.plan.node stream → text ≡ []
     → IsInSession fixed stream v asked text
@@ -181,7 +181,7 @@ scan-count v w goes is =
 
 -- ---- one scan more
 
-module _ (fixed : Fixed) (stream : List ℕ) (v : ControllerIs) (asked : List Asked)
+module _ (fixed : Fixed) (stream : List ℕ) (v : ControllerIs) (asked : List PortFrame)
     (text : List ℕ) (session : IsInSession fixed stream v asked text)
     (goes : has_ended v ≡ false) where
   abbrev s : ControllerState
@@ -260,7 +260,7 @@ module _ (fixed : Fixed) (stream : List ℕ) (v : ControllerIs) (asked : List As
             ∙ session.text_is;
       }
     where
-      take-drop : (asked : List Asked) → length (take 1 asked) + length (drop 1 asked)
+      take-drop : (asked : List PortFrame) → length (take 1 asked) + length (drop 1 asked)
           ≡ length asked
       take-drop [] = refl
       take-drop (one ∷ rest) = omega arith
@@ -315,21 +315,21 @@ module _ (fixed : Fixed) (stream : List ℕ) (v : ControllerIs) (asked : List As
       (session-next u.reserved))
 
 -- The first frame, if one is left, and the others.
-pub first-taken : (asked : List Asked) (count : ℕ) → count ≡ min (length asked) 1
+pub first-taken : (asked : List PortFrame) (count : ℕ) → count ≡ min (length asked) 1
     → take count asked ≡ take 1 asked
 first-taken [] count is = either count
   where
-    either : (count : ℕ) → take {A = Asked} count [] ≡ []
+    either : (count : ℕ) → take {A = PortFrame} count [] ≡ []
     either zero = refl
     either (suc n) = refl
 first-taken (one ∷ rest) count is =
     let n : count ≡ 1 = omega (arith, is) in ap (λ (n : ℕ). take n (one ∷ rest)) n
 
-pub first-dropped : (asked : List Asked) (count : ℕ) → count ≡ min (length asked) 1
+pub first-dropped : (asked : List PortFrame) (count : ℕ) → count ≡ min (length asked) 1
     → drop count asked ≡ drop 1 asked
 first-dropped [] count is = either count
   where
-    either : (count : ℕ) → drop {A = Asked} count [] ≡ []
+    either : (count : ℕ) → drop {A = PortFrame} count [] ≡ []
     either zero = refl
     either (suc n) = refl
 first-dropped (one ∷ rest) count is =
@@ -337,7 +337,7 @@ first-dropped (one ∷ rest) count is =
 
 -- ---- behind the last scan
 
-pub ended-history : (fixed : Fixed) (stream : List ℕ) (v w : ControllerIs) (asked : List Asked)
+pub ended-history : (fixed : Fixed) (stream : List ℕ) (v w : ControllerIs) (asked : List PortFrame)
     (text : List ℕ) (whole : List Entry) → IsInSession fixed stream v asked text
     → has_ended v ≡ true → w ≡ after_scan v
     → whole ≡ w.history ++ served_entries w.fixed (state_of w) (next_frames w.history asked)
@@ -354,7 +354,7 @@ ended-history fixed stream v w asked text whole session ended is history =
     (sym (ended-last v (between-of session) ended))
     ∙ session.history
 
-pub ended-text : (fixed : Fixed) (stream : List ℕ) (v w : ControllerIs) (asked : List Asked)
+pub ended-text : (fixed : Fixed) (stream : List ℕ) (v w : ControllerIs) (asked : List PortFrame)
     (text more : List ℕ) → IsInSession fixed stream v asked text
     → has_ended v ≡ true → w ≡ after_scan v
     → more ≡ text ++ reply_texts w.fixed (state_of w) (next_frames w.history asked)

@@ -9,27 +9,33 @@ use ascii_port::{Fed, Port};
 use plant_types::Pdu;
 use std::alloc::{AllocError, Global};
 
-/// A frame that was heard.
+/// A frame that was heard on a port. This project's own.
 #[derive(Drop)]
-pub(crate) struct Asked {
-    pub(crate) address: u8,
-    pub(crate) pdu: Pdu,
+pub struct PortFrame {
+    /// The address of a node, or 0, which is that of all.
+    pub address: u8,
+    pub pdu: Pdu,
 }
 
 /// The frame that came with the last byte.
-fn frame_at(alloc: Global, port: &Port) -> Result<Asked, AllocError>
+fn frame_at(alloc: Global, port: &Port) -> Result<PortFrame, AllocError>
     requires { HasFrame port.now }
     ensures { IfOk result (λ asked. frame_asked asked ≡ frame_of port.now.bytes) }
 {
     let address = port.address();
     match Pdu::of(alloc, port.pdu())? {
-        Some(pdu) => Ok(Asked { address, pdu }),
+        Some(pdu) => Ok(PortFrame { address, pdu }),
         None => unreachable!(),
     }
 }
 
 /// Adds the frame that came with the last byte, if it is for a node.
-fn add_frame(alloc: Global, list: &mut Vec<Asked>, node: u8, port: &Port) -> Result<(), AllocError>
+fn add_frame(
+    alloc: Global,
+    list: &mut Vec<PortFrame>,
+    node: u8,
+    port: &Port,
+) -> Result<(), AllocError>
     requires { HasFrame port.now }
     ensures { OnOk result (frames_heard list.new.items ≡ frames_heard list.old.items
         ++ own_frame node port.now) }
@@ -42,7 +48,7 @@ fn add_frame(alloc: Global, list: &mut Vec<Asked>, node: u8, port: &Port) -> Res
 }
 
 /// The frames on a stream with the address of a node, or with that of all, 0.
-pub(crate) fn frames_for(alloc: Global, node: u8, stream: &[u8]) -> Result<Vec<Asked>, AllocError>
+pub fn frames_for(alloc: Global, node: u8, stream: &[u8]) -> Result<Vec<PortFrame>, AllocError>
     ensures frames { IfOk result (λ list. frames_heard list.items ≡ frames_for node stream.now) }
 {
     let mut port = Port::new();

@@ -7,5 +7,6 @@ mod calls;
 mod line;
 mod session;
 
+pub use asked::{PortFrame, frames_for};
 pub use bench::{Bench, BenchEnd};
-pub use session::{Session, run_session};
+pub use session::{Session, run_session, serve_all};

@@ -7,7 +7,7 @@ ghost use Rattle.panel_session.specs.Serving.{after_request, frame_request, numb
 ghost use Rattle.panel_session.specs.Serving.{reply_text, request_count, requests_taken};
 ghost use Rattle.panel_session.specs.Session.{bench_history, bench_text};
 
-use crate::asked::{Asked, frames_for};
+use crate::asked::{PortFrame, frames_for};
 use crate::bench::{Bench, BenchEnd};
 use ascii_port::frame_text;
 use controller_core::Entry;
@@ -27,7 +27,7 @@ fn serve_frame(
     alloc: Global,
     node: u8,
     bench: &mut Bench,
-    asked: &Asked,
+    asked: &PortFrame,
     text: &mut Vec<u8>,
 ) -> Result<(), AllocError>
     requires { request_count bench.old.history + 1 < 2 ^ 32 }
@@ -45,12 +45,13 @@ fn serve_frame(
     Ok(())
 }
 
-/// Serves frames one after another.
-fn serve_all(
+/// Serves frames one after another, and adds the replies to those with the node's own address. Where
+/// memory is refused some of them may have been served.
+pub fn serve_all(
     alloc: Global,
     node: u8,
     bench: &mut Bench,
-    asked: &[Asked],
+    asked: &[PortFrame],
     text: &mut Vec<u8>,
 ) -> Result<(), AllocError>
     requires node { bench.old.fixed.plan.node ≡ node }

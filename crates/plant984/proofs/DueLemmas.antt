@@ -96,6 +96,7 @@ pub wrote-whole : (IsDueHere : Due → Type 0) (status : Status) (had has : Side
 wrote-whole IsDueHere ends.Ok had has text wrote = wrote
 wrote-whole IsDueHere ends.Refused had has text wrote = wrote
 wrote-whole IsDueHere ends.Illegal had has text wrote = wrote
+wrote-whole IsDueHere ends.Found had has text wrote = wrote
 wrote-whole IsDueHere ends.NoMemory had has text wrote = absurd (cc)
 wrote-whole IsDueHere ends.Usage had has text wrote = absurd (cc)
 wrote-whole IsDueHere ends.ReadFault had has text wrote = absurd (cc)
@@ -131,6 +132,8 @@ answered-more IsOne IsAny more had has ends.Refused answers =
     wrote-more IsOne IsAny more ends.Refused had.bytes has.bytes answers
 answered-more IsOne IsAny more had has ends.Illegal answers =
     wrote-more IsOne IsAny more ends.Illegal had.bytes has.bytes answers
+answered-more IsOne IsAny more had has ends.Found answers =
+    wrote-more IsOne IsAny more ends.Found had.bytes has.bytes answers
 answered-more IsOne IsAny more had has ends.NoMemory answers = answers
 answered-more IsOne IsAny more had has ends.Usage answers = answers
 answered-more IsOne IsAny more had has ends.ReadFault answers = answers
@@ -168,6 +171,7 @@ wrote-ends : (IsDueHere : Due → Type 0) (status : Status) (had has : Side)
 wrote-ends IsDueHere ends.Ok had has answers no_write = inl answers
 wrote-ends IsDueHere ends.Refused had has answers no_write = inl answers
 wrote-ends IsDueHere ends.Illegal had has answers no_write = inl answers
+wrote-ends IsDueHere ends.Found had has answers no_write = inl answers
 wrote-ends IsDueHere ends.NoMemory had has answers no_write = inr refl
 wrote-ends IsDueHere ends.Usage had has answers no_write = absurd answers
 wrote-ends IsDueHere ends.ReadFault had has answers no_write = absurd answers
@@ -189,6 +193,7 @@ Keeps-found {C = C} Spells reads IsDueFor words source source_now command input 
       ok = λ is. (asked-found found, subst P is answers);
       refused = λ is. (asked-found found, subst P is answers);
       illegal = λ is. (asked-found found, subst P is answers);
+      found = λ is. (asked-found found, subst P is answers);
       usage = λ memory.
           (λ is. absurd (subst P is answers), λ none. absurd (none (command, found.spelled)));
       read_fault = λ is. absurd (subst P is answers);

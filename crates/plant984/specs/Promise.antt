@@ -70,6 +70,7 @@ WritesNothing ends.TooLong = Unit {0}
 WritesNothing ends.Ok = ⊥
 WritesNothing ends.Refused = ⊥
 WritesNothing ends.Illegal = ⊥
+WritesNothing ends.Found = ⊥
 WritesNothing ends.WriteFault = ⊥
 
 -- The bytes that a source has left or that a sink has taken, where it tells them, and its count
@@ -129,6 +130,9 @@ pub record KeepsPromise
   pub illegal : status ≡ ends.Illegal
       → (asked : AskedFor Spells reads words source.bytes source_now.bytes)
       × Wrote (IsDueFor asked.command asked.input) ends.Illegal sink.bytes sink_now.bytes
+  pub found : status ≡ ends.Found
+      → (asked : AskedFor Spells reads words source.bytes source_now.bytes)
+      × Wrote (IsDueFor asked.command asked.input) ends.Found sink.bytes sink_now.bytes
   pub usage : status ≢ ends.NoMemory → (status ≡ ends.Usage) ↔ (¬ IsSomeCommand Spells words)
   pub read_fault : status ≡ ends.ReadFault
       → AsksInput Spells reads words × Failed source source_now

@@ -4,10 +4,16 @@
 ghost use Rattle.std.specs.Prelude.{◌≡◌, ◌⊎◌, IfErr};
 
 #[cfg(test)]
+mod flows;
+#[cfg(test)]
 mod hostile;
 mod live;
 #[cfg(test)]
 mod nets;
+#[cfg(test)]
+mod nevers;
+#[cfg(test)]
+mod pairs;
 #[cfg(test)]
 mod rows;
 mod serial;

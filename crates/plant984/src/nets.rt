@@ -33,7 +33,7 @@ networks = ["1,1 ADD 41 1 40001; 4,1 ADD 43 0 40002"]
 "#
 }
 
-fn read2_journal() -> &'static str {
+pub fn read2_journal() -> &'static str {
     "%JOURNAL
 C 2
 B
@@ -383,8 +383,8 @@ fn judged_so(
     ends_so(alloc, words, input.as_bytes(), status, text)
 }
 
-// The journal of the first plant without the answer of node 5.
-fn unanswered(alloc: Global) -> Result<String, Fail> {
+/// The journal of the first plant without the answer of node 5.
+pub fn unanswered(alloc: Global) -> Result<String, Fail> {
     let answer = "P 2.1.1 0300000002 0304002a002b\n";
     let (front, back) = read2_journal().split_once(answer).ok_or("the answer")?;
     Ok(format!(in alloc; "{front}{back}")?)

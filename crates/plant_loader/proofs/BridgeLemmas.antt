@@ -1,8 +1,8 @@
 -- Bridges that are read join two networks, and no address stands twice.
-use Rattle.std.proofs.Common.{◌≡◌, ◌≢◌, ℕ, ◌≤◌, ◌==◌, Bool, true, false, not, ◌&&◌, ◌||◌, List, []}
-use Rattle.std.proofs.Common.{◌∷◌, ◌++◌, length, map, Option, Some, None, Ok, true≢false, eq-eqb, refl}
-use Rattle.std.proofs.Common.{sym, ap, ap₂, subst, ◌∙◌, append_assoc, arith}
-use Rattle.std.specs.Prelude.{nat_eq, flat_map, option_and_then, if◌then◌else◌}
+use Rattle.std.proofs.Common.{◌≡◌, ◌≢◌, ℕ, ◌==◌, Bool, true, false, ◌||◌, List, []}
+use Rattle.std.proofs.Common.{◌∷◌, ◌++◌, map, Option, Some, None, Ok, true≢false, eq-eqb, refl}
+use Rattle.std.proofs.Common.{sym, ap, ap₂, ◌∙◌, append_assoc}
+use Rattle.std.specs.Prelude.{nat_eq, flat_map, if◌then◌else◌}
 use Rattle.std.specs.List.{list_any, AllByRecursion, IsDistinct}
 use Rattle.std.proofs.lemmas.Bool.{eqb-true}
 use Rattle.std.proofs.lemmas.Cmp.{nat_eq_equiv}
@@ -14,20 +14,19 @@ use Rattle.plant_types.specs.declared.net.BridgePlan.{BridgePlan}
 use Rattle.plant_types.specs.declared.fault.PlantFault.TheVariants.{BadNode, BadNetwork}
 use Rattle.plant_types.specs.Limits.{net_limit, most_address}
 use Rattle.plant_types.specs.Plans.{IsFromTo, IsNode, IsBridgePlan}
-use Rattle.cell_text.specs.Steps.{or_fault}
 use Rattle.cell_text.specs.Words.{text_words}
-use Rattle.cell_text.proofs.StepLemmas.{step-ok, or_fault-ok, some-step, some-guard}
+use Rattle.cell_text.proofs.StepLemmas.{or_fault-ok, some-step, some-guard}
 use Rattle.plant_loader.specs.declared.addresses.Address.{Address}
-use Rattle.plant_loader.specs.declared.net.NetTable.{NetTable}
-use Rattle.plant_loader.specs.Refusals.{bridge_place}
-use Rattle.plant_loader.specs.InOrder.{numbered_from}
-use Rattle.plant_loader.specs.Requests.{numeral_within}
-use Rattle.plant_loader.specs.Net.{has_net, one_of_nets}
+use Rattle.plant_tables.specs.declared.net.NetTable.{NetTable}
+use Rattle.plant_tables.specs.Refusals.{bridge_place}
+use Rattle.plant_tables.specs.InOrder.{numbered_from}
+use Rattle.plant_tables.specs.Numerals.{numeral_within}
+use Rattle.plant_tables.specs.Net.{has_net, one_of_nets}
 use Rattle.plant_loader.specs.Bridges.{bridge_words, net_of_word, has_end, is_taken, one_free}
 use Rattle.plant_loader.specs.Bridges.{free_node, two_apart, bridge_from, bridge_behind, bridges_of}
-use Rattle.plant_loader.proofs.Common.{ok_value, some_value}
-use Rattle.plant_loader.proofs.NumeralLemmas.{numeral-within}
-use Rattle.plant_loader.proofs.TestLemmas.{each_behind-keeps, each_behind-all, none-node}
+use Rattle.plant_tables.proofs.Common.{ok_value, some_value}
+use Rattle.plant_tables.proofs.NumeralLemmas.{numeral-within}
+use Rattle.plant_tables.proofs.TestLemmas.{each_behind-keeps, each_behind-all, none-node}
 
 -- ---- one bridge
 

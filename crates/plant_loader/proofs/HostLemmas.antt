@@ -1,6 +1,6 @@
 -- Hosts that are read can be run.
-use Rattle.std.proofs.Common.{◌≡◌, ◌≢◌, ℕ, ◌≤◌, ◌==◌, Bool, true, false, not, ◌&&◌, ◌||◌, List, []}
-use Rattle.std.proofs.Common.{◌∷◌, ◌++◌, length, map, Some, Ok, true≢false, eq-eqb, refl, sym, ap}
+use Rattle.std.proofs.Common.{◌≡◌, ◌≢◌, ℕ, ◌≤◌, ◌==◌, Bool, true, false, not, ◌||◌, List, []}
+use Rattle.std.proofs.Common.{◌∷◌, ◌++◌, length, map, Some, Ok, true≢false, eq-eqb, sym, ap}
 use Rattle.std.proofs.Common.{ap₂, ◌∙◌, arith}
 use Rattle.std.specs.Prelude.{codes, nat_le, nat_eq, slice_get}
 use Rattle.std.specs.List.{list_any, list_all, AllByRecursion, IsDistinct}
@@ -19,27 +19,28 @@ use Rattle.plant_types.specs.Plans.{IsNode, IsRouteFrom, IsAskOf, IsHostPlan, is
 use Rattle.cell_text.specs.Steps.{or_fault}
 use Rattle.cell_text.specs.Words.{text_words}
 use Rattle.cell_text.proofs.StepLemmas.{step-ok, or_fault-ok, or_fault-some, unless-ok, some-guard}
-use Rattle.plant_loader.specs.declared.net.NetTable.{NetTable}
-use Rattle.plant_loader.specs.declared.tables.Version.{Version}
-use Rattle.plant_loader.specs.declared.tables.Version.TheVariants.{One}
-use Rattle.plant_loader.specs.declared.tables.TableKind.TheVariants as kinds
-use Rattle.plant_loader.specs.Refusals.{host_table_place, request_place}
-use Rattle.plant_loader.specs.InOrder.{numbered_from}
-use Rattle.plant_loader.specs.Tables.{table_passes}
-use Rattle.plant_loader.specs.Keys.{address_at, texts_at}
-use Rattle.plant_loader.specs.Routes.{route_words, most_addresses, is_route, addresses_in}
-use Rattle.plant_loader.specs.Routes.{begins_elsewhere, leads_from, route_from}
-use Rattle.plant_loader.specs.Requests.{numeral_within, request_words, pdu_in}
+use Rattle.plant_tables.specs.declared.net.NetTable.{NetTable}
+use Rattle.plant_tables.specs.declared.tables.Version.{Version}
+use Rattle.plant_tables.specs.declared.tables.Version.TheVariants.{One}
+use Rattle.plant_tables.specs.declared.tables.TableKind.TheVariants as kinds
+use Rattle.plant_tables.specs.Refusals.{host_table_place, request_place}
+use Rattle.plant_tables.specs.InOrder.{numbered_from}
+use Rattle.plant_tables.specs.Tables.{table_passes}
+use Rattle.plant_tables.specs.Keys.{address_at, texts_at}
+use Rattle.plant_tables.specs.Routes.{route_words, most_addresses, is_route, addresses_in}
+use Rattle.plant_tables.specs.Routes.{begins_elsewhere, leads_from, route_from}
+use Rattle.plant_tables.specs.Numerals.{numeral_within}
+use Rattle.plant_loader.specs.Requests.{request_words, pdu_in}
 use Rattle.plant_loader.specs.Requests.{ask_from, host_request, numbered_request, requests_of}
-use Rattle.plant_loader.specs.Net.{has_net, network_at}
-use Rattle.plant_loader.specs.Stations.{has_controller}
+use Rattle.plant_tables.specs.Net.{has_net, network_at}
+use Rattle.controller_tables.specs.Stations.{has_controller}
 use Rattle.plant_loader.specs.Hosts.{has_host, host_from, host_behind, hosts_of}
-use Rattle.plant_loader.proofs.Common.{ok_value, some_value}
-use Rattle.plant_loader.proofs.KeyLemmas.{address_at-within, texts_at-few}
-use Rattle.plant_loader.proofs.NumeralLemmas.{numeral-within}
-use Rattle.plant_loader.proofs.NetLemmas.{IsOn, network-is}
-use Rattle.plant_loader.proofs.TestLemmas.{each_behind-keeps, each_behind-all, each_from-all}
-use Rattle.plant_loader.proofs.TestLemmas.{each_from-length, none-node, distinct-push}
+use Rattle.plant_tables.proofs.Common.{ok_value, some_value}
+use Rattle.plant_tables.proofs.KeyLemmas.{address_at-within, texts_at-few}
+use Rattle.plant_tables.proofs.NumeralLemmas.{numeral-within}
+use Rattle.plant_tables.proofs.NetLemmas.{network-is}
+use Rattle.plant_tables.proofs.TestLemmas.{each_behind-keeps, each_behind-all, each_from-all}
+use Rattle.plant_tables.proofs.TestLemmas.{each_from-length, none-node, distinct-push}
 use Rattle.plant_loader.proofs.RisingLemmas.{to-all}
 
 -- ---- requests

@@ -1,8 +1,8 @@
 -- A plant that is loaded can be run.
-use Rattle.std.proofs.Common.{◌≡◌, ℕ, ◌≤◌, ◌==◌, true, not, List, [], ◌∷◌, length, map, Option, Result}
+use Rattle.std.proofs.Common.{◌≡◌, ℕ, ◌≤◌, ◌==◌, true, not, List, [], ◌∷◌, length, map, Result}
 use Rattle.std.proofs.Common.{Ok, Err, refl, sym, ap, subst, ◌∙◌, arith}
 use Rattle.std.specs.Prelude.{codes, nat_eq}
-use Rattle.std.specs.List.{list_any, All, AllByRecursion, IsDistinct}
+use Rattle.std.specs.List.{list_any, All, IsDistinct}
 use Rattle.std.specs.Result.{IfOk}
 use Rattle.std.proofs.lemmas.Bool.Decides.{nat_tests}
 use Rattle.std.proofs.lemmas.List.{map-append}
@@ -16,21 +16,21 @@ use Rattle.plant_types.specs.declared.fault.PlantFault.TheVariants.{BadVersion}
 use Rattle.plant_types.specs.declared.fault.Place.{Place}
 use Rattle.plant_types.specs.Limits.{controller_limit, host_limit, bridge_limit, net_limit}
 use Rattle.plant_types.specs.Limits.{scan_time_limit, watchdog_limit}
-use Rattle.plant_types.specs.Plans.{IsFromTo, IsNode, IsPlant}
+use Rattle.plant_types.specs.Plans.{IsFromTo, IsPlant}
 use Rattle.cell_text.specs.Steps.{◌>>=◌, or_fault, unless}
 use Rattle.cell_text.proofs.StepLemmas.{step-ok, or_fault-ok, unless-ok}
 use Rattle.plant_loader.specs.declared.addresses.Address.{Address}
-use Rattle.plant_loader.specs.declared.net.NetTable.{NetTable}
-use Rattle.plant_loader.specs.declared.refusal.LoadEnd.{LoadEnd}
-use Rattle.plant_loader.specs.declared.tables.Version.{Version}
-use Rattle.plant_loader.specs.declared.tables.Version.TheVariants.{One, Two}
-use Rattle.plant_loader.specs.declared.tables.TableKind.TheVariants as kinds
-use Rattle.plant_loader.specs.Refusals.{Gives, plant_place, network_place, bad_toml}
-use Rattle.plant_loader.specs.Tables.{table_passes}
-use Rattle.plant_loader.specs.Keys.{number_at_or, table_at, tables_at, texts_at}
+use Rattle.plant_tables.specs.declared.net.NetTable.{NetTable}
+use Rattle.plant_tables.specs.declared.refusal.LoadEnd.{LoadEnd}
+use Rattle.plant_tables.specs.declared.tables.Version.{Version}
+use Rattle.plant_tables.specs.declared.tables.Version.TheVariants.{One, Two}
+use Rattle.plant_tables.specs.declared.tables.TableKind.TheVariants as kinds
+use Rattle.plant_tables.specs.Refusals.{Gives, plant_place, network_place, bad_toml}
+use Rattle.plant_tables.specs.Tables.{table_passes}
+use Rattle.plant_tables.specs.Keys.{number_at_or, table_at, tables_at}
 use Rattle.plant_loader.specs.Rising.{by_node, by_network}
-use Rattle.plant_loader.specs.Net.{Nets, nets_of}
-use Rattle.plant_loader.specs.Stations.{controllers_of}
+use Rattle.plant_tables.specs.Net.{Nets, nets_of}
+use Rattle.controller_tables.specs.Stations.{controllers_of}
 use Rattle.plant_loader.specs.Hosts.{hosts_of}
 use Rattle.plant_loader.specs.Bridges.{bridges_of}
 use Rattle.plant_loader.specs.Whole.{station_addresses, has_station, have_stations, all_addresses}
@@ -39,14 +39,15 @@ use Rattle.plant_loader.specs.Plant.{document_of, version_from, is_read, version
 use Rattle.plant_loader.specs.Plant.{network_tables, bridge_texts, TopTable, top_from, top_at}
 use Rattle.plant_loader.specs.Plant.{plant_with, plant_in, plant_at, plant_of}
 use Rattle.traffic_cop.specs.Rows.{IsRunnablePlan}
-use Rattle.plant_loader.specs.Accepted.{PassesDropTests, IsOfVersionOne}
-use Rattle.plant_loader.proofs.Common.{ok_value}
-use Rattle.plant_loader.proofs.KeyLemmas.{texts_at-few, tables_at-few}
-use Rattle.plant_loader.proofs.TestLemmas.{each_passes-all, with_positions-count}
-use Rattle.plant_loader.proofs.PlantLemmas.{controllers-read, read-runnable}
-use Rattle.plant_loader.proofs.NetLemmas.{AreNets, number-is, nets-are}
+use Rattle.controller_tables.specs.Accepted.{PassesDropTests}
+use Rattle.plant_loader.specs.Accepted.{IsOfVersionOne}
+use Rattle.plant_tables.proofs.Common.{ok_value}
+use Rattle.plant_tables.proofs.KeyLemmas.{texts_at-few, tables_at-few}
+use Rattle.plant_tables.proofs.TestLemmas.{each_passes-all, with_positions-count}
+use Rattle.controller_tables.proofs.ControllerLemmas.{controllers-read, read-runnable}
+use Rattle.plant_tables.proofs.NetLemmas.{AreNets, number-is, nets-are}
 use Rattle.plant_loader.proofs.HostLemmas.{hosts-are}
-use Rattle.plant_loader.proofs.BridgeLemmas.{bridges-are, nodes_of_ends}
+use Rattle.plant_loader.proofs.BridgeLemmas.{bridges-are}
 use Rattle.plant_loader.proofs.WholeLemmas.{AreParts, plant-is, each-controller, numbers-are}
 use Rattle.plant_loader.proofs.WholeLemmas.{nodes-stations, nodes-ends}
 

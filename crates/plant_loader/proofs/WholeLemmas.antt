@@ -1,7 +1,7 @@
 -- A plant of parts that are read is a plant.
-use Rattle.std.proofs.Common.{◌≡◌, ◌≢◌, ℕ, ◌≤◌, ◌==◌, Bool, true, false, cond, ◌&&◌, ◌||◌, List, []}
-use Rattle.std.proofs.Common.{◌∷◌, ◌++◌, length, map, eqb, refl, sym, ap, ap₂, subst, ◌∙◌, arith}
-use Rattle.std.proofs.Common.{length-append, eq-eqb, true≢false}
+use Rattle.std.proofs.Common.{◌≡◌, ℕ, ◌≤◌, ◌==◌, Bool, true, false, cond, ◌||◌, List, []}
+use Rattle.std.proofs.Common.{◌∷◌, ◌++◌, length, map, refl, sym, ap, ap₂, subst, ◌∙◌, arith}
+use Rattle.std.proofs.Common.{length-append}
 use Rattle.std.specs.Prelude.{filter, flat_map, nat_eq}
 use Rattle.std.specs.List.{list_any, All, AllByRecursion, Contains, IsDistinct}
 use Rattle.std.specs.List.Sorted.{IsPermutation, IsStrictlyIncreasing}
@@ -23,17 +23,17 @@ use Rattle.plant_types.specs.Limits.{net_limit, controller_limit, host_limit, br
 use Rattle.plant_types.specs.Plans.{IsFromTo, IsNode, IsNetPlan, IsNetOf, IsBridgePlan, IsBridgeOf}
 use Rattle.plant_types.specs.Plans.{IsHostPlan, IsPlant, PassesTests, ends_of, net_numbers}
 use Rattle.plant_loader.specs.declared.addresses.Address.{Address}
-use Rattle.plant_loader.specs.declared.net.NetTable.{NetTable}
-use Rattle.plant_loader.specs.Net.{Nets, has_net}
+use Rattle.plant_tables.specs.declared.net.NetTable.{NetTable}
+use Rattle.plant_tables.specs.Net.{Nets, has_net}
 use Rattle.plant_loader.specs.Rising.{by_node, by_network}
 use Rattle.plant_loader.specs.Whole.{address_on, station_addresses, end_addresses, all_addresses}
 use Rattle.plant_loader.specs.Whole.{nodes_on, net_from, plant_from}
-use Rattle.plant_loader.proofs.TestLemmas.{none-node}
-use Rattle.plant_loader.proofs.RisingLemmas.{to-all, from-all, by_node-flat, by_node-moved}
+use Rattle.plant_tables.proofs.TestLemmas.{none-node}
+use Rattle.plant_loader.proofs.RisingLemmas.{to-all, by_node-flat, by_node-moved}
 use Rattle.plant_loader.proofs.RisingLemmas.{by_node-rises, by_node-nodes, by_network-moved}
 use Rattle.plant_loader.proofs.RisingLemmas.{by_network-rises, by_network-numbers}
-use Rattle.plant_loader.proofs.PlantLemmas.{IsRead}
-use Rattle.plant_loader.proofs.NetLemmas.{AreRules, AreTables}
+use Rattle.controller_tables.proofs.ControllerLemmas.{IsRead}
+use Rattle.plant_tables.proofs.NetLemmas.{AreRules, AreTables}
 use Rattle.plant_loader.proofs.BridgeLemmas.{nodes_of_ends}
 
 -- ---- lists

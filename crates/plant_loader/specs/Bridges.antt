@@ -1,5 +1,5 @@
 -- The bridges of a plant by their texts. This project's own.
-use Rattle.std.specs.Prelude.{ℕ, Bool, ◌&&◌, ◌||◌, ◌==◌, if◌then◌else◌, List, [], ◌∷◌, Option, Some}
+use Rattle.std.specs.Prelude.{ℕ, Bool, ◌||◌, ◌==◌, if◌then◌else◌, List, [], ◌∷◌, Option, Some}
 use Rattle.std.specs.Prelude.{None, option_and_then, Result, Ok}
 use Rattle.std.specs.List.{list_any, list_all}
 use Rattle.plant_types.specs.declared.net.BridgePlan.{BridgePlan}
@@ -10,11 +10,11 @@ use Rattle.cell_text.specs.Steps.{◌>>=◌, or_fault}
 use Rattle.cell_text.specs.Words.{text_words}
 use Rattle.plant_loader.specs.declared.addresses.Address.{Address}
 use Rattle.plant_loader.specs.declared.bridges.BridgeWords.{BridgeWords as FoundWords}
-use Rattle.plant_loader.specs.declared.net.NetTable.{NetTable}
-use Rattle.plant_loader.specs.Refusals.{Refusal, bridge_place}
-use Rattle.plant_loader.specs.Requests.{numeral_within}
-use Rattle.plant_loader.specs.InOrder.{with_positions, each_behind}
-use Rattle.plant_loader.specs.Net.{one_of_nets}
+use Rattle.plant_tables.specs.declared.net.NetTable.{NetTable}
+use Rattle.plant_tables.specs.Refusals.{Refusal, bridge_place}
+use Rattle.plant_tables.specs.Numerals.{numeral_within}
+use Rattle.plant_tables.specs.InOrder.{with_positions, each_behind}
+use Rattle.plant_tables.specs.Net.{one_of_nets}
 
 -- The four words of a bridge: the network and the address on its left, then those on its right.
 pub record BridgeWords : Type 0 where

@@ -8,15 +8,15 @@ use Rattle.plant_types.specs.declared.plan.ControllerPlan.{ControllerPlan}
 use Rattle.plant_types.specs.declared.fault.PlantFault.TheVariants.{BadNode, BadNetwork}
 use Rattle.plant_types.specs.Limits.{request_limit}
 use Rattle.cell_text.specs.Steps.{◌>>=◌, or_fault, unless}
-use Rattle.plant_loader.specs.declared.net.NetTable.{NetTable}
-use Rattle.plant_loader.specs.declared.tables.Version.{Version}
-use Rattle.plant_loader.specs.Refusals.{Refusal, host_table_place}
-use Rattle.plant_loader.specs.declared.tables.TableKind.TheVariants as kinds
-use Rattle.plant_loader.specs.Tables.{table_passes}
-use Rattle.plant_loader.specs.Keys.{address_at, texts_at}
-use Rattle.plant_loader.specs.InOrder.{with_positions, each_behind}
-use Rattle.plant_loader.specs.Net.{network_at}
-use Rattle.plant_loader.specs.Stations.{has_controller}
+use Rattle.plant_tables.specs.declared.net.NetTable.{NetTable}
+use Rattle.plant_tables.specs.declared.tables.Version.{Version}
+use Rattle.plant_tables.specs.Refusals.{Refusal, host_table_place}
+use Rattle.plant_tables.specs.declared.tables.TableKind.TheVariants as kinds
+use Rattle.plant_tables.specs.Tables.{table_passes}
+use Rattle.plant_tables.specs.Keys.{address_at, texts_at}
+use Rattle.plant_tables.specs.InOrder.{with_positions, each_behind}
+use Rattle.plant_tables.specs.Net.{network_at}
+use Rattle.controller_tables.specs.Stations.{has_controller}
 use Rattle.plant_loader.specs.Requests.{requests_of}
 
 -- One of these hosts has this node.

@@ -10,16 +10,16 @@ use Rattle.plant_types.specs.declared.fault.Place.{Place}
 use Rattle.plant_types.specs.Limits.{controller_limit, host_limit, bridge_limit, net_limit}
 use Rattle.plant_types.specs.Limits.{scan_time_limit, watchdog_limit}
 use Rattle.cell_text.specs.Steps.{◌>>=◌, or_fault, unless}
-use Rattle.plant_loader.specs.Given.{texts_in, tables_in, table_in}
-use Rattle.plant_loader.specs.Refusals.{Refusal, plant_place, bad_toml}
-use Rattle.plant_loader.specs.Tables.{table_passes}
-use Rattle.plant_loader.specs.Keys.{number_at_or, table_at, tables_at, texts_at}
+use Rattle.plant_tables.specs.Given.{texts_in, tables_in, table_in}
+use Rattle.plant_tables.specs.Refusals.{Refusal, plant_place, bad_toml}
+use Rattle.plant_tables.specs.Tables.{table_passes}
+use Rattle.plant_tables.specs.Keys.{number_at_or, table_at, tables_at, texts_at}
 use Rattle.plant_loader.specs.declared.top.TopTable.{TopTable as FoundTable}
-use Rattle.plant_loader.specs.declared.tables.Version.{Version}
-use Rattle.plant_loader.specs.declared.tables.Version.TheVariants.{One, Two}
-use Rattle.plant_loader.specs.declared.tables.TableKind.TheVariants as kinds
-use Rattle.plant_loader.specs.Net.{nets_of}
-use Rattle.plant_loader.specs.Stations.{controllers_of}
+use Rattle.plant_tables.specs.declared.tables.Version.{Version}
+use Rattle.plant_tables.specs.declared.tables.Version.TheVariants.{One, Two}
+use Rattle.plant_tables.specs.declared.tables.TableKind.TheVariants as kinds
+use Rattle.plant_tables.specs.Net.{nets_of}
+use Rattle.controller_tables.specs.Stations.{controllers_of}
 use Rattle.plant_loader.specs.Hosts.{hosts_of}
 use Rattle.plant_loader.specs.Bridges.{bridges_of}
 use Rattle.plant_loader.specs.Whole.{station_addresses, have_stations, plant_from}

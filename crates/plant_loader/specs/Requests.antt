@@ -1,5 +1,5 @@
 -- The requests of a host by their texts. This project's own.
-use Rattle.std.specs.Prelude.{ℕ, ◌%◌, Bool, ◌&&◌, ◌==◌, nat_le, if◌then◌else◌, List, [], ◌∷◌}
+use Rattle.std.specs.Prelude.{ℕ, ◌%◌, Bool, ◌&&◌, ◌==◌, if◌then◌else◌, List, [], ◌∷◌}
 use Rattle.std.specs.Prelude.{length, Option, Some, None, Result, Ok}
 use Rattle.std.specs.List.{list_all}
 use Rattle.plant_types.specs.declared.net.HostAsk.{HostAsk}
@@ -9,26 +9,13 @@ use Rattle.plant_types.specs.Limits.{due_limit}
 use Rattle.plant_types.specs.Words.{pdu_of}
 use Rattle.cell_text.specs.Steps.{◌>>=◌, or_fault, unless}
 use Rattle.cell_text.specs.Words.{text_words}
-use Rattle.plant_types.specs.Numerals.{is_numeral, value_of}
 use Rattle.plant_loader.specs.declared.requests.RequestWords.{RequestWords as FoundWords}
-use Rattle.plant_loader.specs.declared.tables.Version.{Version}
-use Rattle.plant_loader.specs.Refusals.{Refusal, request_place}
-use Rattle.plant_loader.specs.Routes.{is_route, route_from}
-use Rattle.plant_loader.specs.Hex.{is_hex_digit, hex_pairs}
-use Rattle.plant_loader.specs.InOrder.{each_from}
-
--- The number of a word, where it reads and is from low to high.
-abbrev pub is_numeral_within : ℕ → ℕ → List ℕ → Bool
-is_numeral_within low high word =
-    is_numeral word && (nat_le low (value_of word) && nat_le (value_of word) high)
-
-abbrev pub numeral_within : ℕ → ℕ → List ℕ → Option ℕ
-numeral_within low high word = if is_numeral_within low high word then Some (value_of word) else
-    None
-
--- Numbers from here on are told apart from lower ones alone.
-abbrev pub most_told : ℕ
-most_told = 100000
+use Rattle.plant_tables.specs.declared.tables.Version.{Version}
+use Rattle.plant_tables.specs.Refusals.{Refusal, request_place}
+use Rattle.plant_tables.specs.Numerals.{numeral_within}
+use Rattle.plant_tables.specs.Routes.{is_route, route_from}
+use Rattle.plant_tables.specs.Hex.{is_hex_digit, hex_pairs}
+use Rattle.plant_tables.specs.InOrder.{each_from}
 
 -- The three words of a request: the hold of the token from which on it is due, the route to the
 -- node that is asked, and the PDU.

@@ -9,13 +9,13 @@ use Rattle.plant_types.specs.declared.plan.ControllerPlan.{ControllerPlan}
 use Rattle.plant_types.specs.declared.plan.Plant.{Plant}
 use Rattle.plant_types.specs.declared.fault.PlantFault.TheVariants.{BadNetwork}
 use Rattle.cell_text.specs.Steps.{unless}
-use Rattle.plant_loader.specs.declared.net.NetRules.{NetRules}
-use Rattle.plant_loader.specs.declared.net.NetTable.{NetTable}
+use Rattle.plant_tables.specs.declared.net.NetRules.{NetRules}
+use Rattle.plant_tables.specs.declared.net.NetTable.{NetTable}
 use Rattle.plant_loader.specs.declared.addresses.Address.{Address}
-use Rattle.plant_loader.specs.Refusals.{Refusal, network_place}
-use Rattle.plant_loader.specs.InOrder.{each_passes}
+use Rattle.plant_tables.specs.Refusals.{Refusal, network_place}
+use Rattle.plant_tables.specs.InOrder.{each_passes}
 use Rattle.plant_loader.specs.Rising.{by_node, by_network}
-use Rattle.plant_loader.specs.Net.{Nets}
+use Rattle.plant_tables.specs.Net.{Nets}
 
 -- The address of a node on a network.
 abbrev pub address_on : ℕ → ℕ → Address

@@ -2,11 +2,11 @@
 ghost use Rattle.std.specs.Prelude.{◌≡◌, ◌++◌, ◌∷◌, [], ◌==◌, map, filter};
 ghost use Rattle.std.specs.List.{list_any, AllByRecursion};
 ghost use Rattle.plant_types.specs.Plans.{IsNode};
-ghost use Rattle.plant_loader.specs.Refusals.{Makes};
+ghost use Rattle.plant_tables.specs.Refusals.{Makes};
 ghost use Rattle.plant_loader.specs.Whole.{address_on, station_addresses, end_addresses, nodes_on};
 ghost use Rattle.plant_loader.specs.Rising.{by_node};
 
-use crate::refusal::LoadEnd;
+use plant_tables::LoadEnd;
 use plant_types::{BridgePlan, ControllerPlan, HostPlan, List};
 use std::alloc::Global;
 

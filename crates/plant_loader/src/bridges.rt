@@ -1,16 +1,17 @@
 //! The bridges of a plant by their texts.
 ghost use Rattle.std.specs.Prelude.{◌≡◌, ◌≤◌, length, map, option_map};
 ghost use Rattle.cell_text.specs.Words.{text_words};
-ghost use Rattle.plant_loader.specs.Given.{texts_in};
-ghost use Rattle.plant_loader.specs.Refusals.{Gives};
+ghost use Rattle.plant_tables.specs.Given.{texts_in};
+ghost use Rattle.plant_tables.specs.Refusals.{Gives};
 ghost use Rattle.plant_loader.specs.Bridges.{words_of_bridge, bridge_words, net_of_word, has_end};
-ghost use Rattle.plant_loader.specs.Bridges.{is_taken, free_node, two_apart, bridge_behind, bridges_of};
+ghost use Rattle.plant_loader.specs.Bridges.{is_taken, free_node, two_apart, bridge_behind};
+ghost use Rattle.plant_loader.specs.Bridges.{bridges_of};
 
 use crate::addresses::{Address, has_node};
-use crate::net::{NetTable, one_of_nets};
-use crate::numerals::{is_numeral, numeral_within};
-use crate::refusal::{LoadEnd, Refusal, bridge_place};
 use cell_text::next_word;
+use plant_tables::{
+    LoadEnd, NetTable, Refusal, bridge_place, is_numeral, numeral_within, one_of_nets,
+};
 use plant_types::{BRIDGE_LIMIT, BridgePlan, NET_LIMIT, NODE_LIMIT, PlantFault};
 use std::alloc::Global;
 
@@ -123,7 +124,7 @@ fn bridge_behind(
 }
 
 /// The bridges of a plant with these networks and stations, in file order.
-#[tactic(auto, unfolding(crate::specs::InOrder::each_behind))]
+#[tactic(auto, unfolding(plant_tables::specs::InOrder::each_behind))]
 pub fn bridges_of(
     alloc: Global,
     nets: &[NetTable],

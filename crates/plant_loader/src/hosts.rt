@@ -1,16 +1,16 @@
 //! The hosts of a plant by their tables.
 ghost use Rattle.std.specs.Prelude.{◌≡◌, ◌≤◌, codes, length, map};
 ghost use Rattle.toml.specs.View.{table_view};
-ghost use Rattle.plant_loader.specs.Given.{tables_in};
-ghost use Rattle.plant_loader.specs.Refusals.{Gives};
+ghost use Rattle.plant_tables.specs.Given.{tables_in};
+ghost use Rattle.plant_tables.specs.Refusals.{Gives};
 ghost use Rattle.plant_loader.specs.Hosts.{has_host, host_behind, hosts_of};
 
-use crate::keys::{address_at, texts_at};
-use crate::net::{NetTable, network_at};
-use crate::refusal::{LoadEnd, host_table_place};
 use crate::requests::requests_of;
-use crate::stations::has_controller;
-use crate::tables::{TableKind, Version, table_passes};
+use controller_tables::has_controller;
+use plant_tables::{
+    LoadEnd, NetTable, TableKind, Version, address_at, host_table_place, network_at, table_passes,
+    texts_at,
+};
 use plant_types::{ControllerPlan, HOST_LIMIT, HostPlan, PlantFault, REQUEST_LIMIT};
 use std::alloc::Global;
 use toml::Table;
@@ -55,7 +55,7 @@ fn host_behind(
 }
 
 /// The hosts of a plant on these networks by their tables, in file order, beside its controllers.
-#[tactic(auto, unfolding(crate::specs::InOrder::each_behind))]
+#[tactic(auto, unfolding(plant_tables::specs::InOrder::each_behind))]
 pub fn hosts_of(
     alloc: Global,
     version: Version,

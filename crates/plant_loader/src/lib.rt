@@ -3,30 +3,11 @@
 
 mod addresses;
 mod bridges;
-mod controller;
-mod drops;
-mod failures;
-mod hex;
 mod hosts;
-mod keys;
-mod modules;
-mod net;
-mod numerals;
-mod orders;
-mod owner;
-mod pieces;
-mod program;
 mod reading;
-mod refusal;
 mod requests;
-mod routes;
-mod scripts;
-mod stations;
-mod tables;
-mod texts;
 mod top;
 mod whole;
 
+pub use plant_tables::{LoadEnd, Version};
 pub use reading::load;
-pub use refusal::LoadEnd;
-pub use tables::Version;

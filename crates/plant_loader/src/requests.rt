@@ -3,18 +3,17 @@ ghost use Rattle.std.specs.Prelude.{◌≡◌, ◌≢◌, ◌≤◌, length, map
 ghost use Rattle.std.specs.List.{list_all};
 ghost use Rattle.cell_text.specs.Words.{text_words};
 ghost use Rattle.plant_types.specs.Words.{pdu_of};
-ghost use Rattle.plant_loader.specs.Given.{texts_in};
-ghost use Rattle.plant_loader.specs.Hex.{is_hex_digit, hex_pairs};
-ghost use Rattle.plant_loader.specs.Refusals.{Gives, Makes};
+ghost use Rattle.plant_tables.specs.Given.{texts_in};
+ghost use Rattle.plant_tables.specs.Hex.{is_hex_digit, hex_pairs};
+ghost use Rattle.plant_tables.specs.Refusals.{Gives, Makes};
 ghost use Rattle.plant_loader.specs.Requests.{request_in, request_words, pdu_in};
 ghost use Rattle.plant_loader.specs.Requests.{host_request, requests_of};
 
-use crate::hex::{are_hex_digits, hex_digit};
-use crate::numerals::numeral_within;
-use crate::refusal::{LoadEnd, request_place};
-use crate::routes::{is_route, route_from};
-use crate::tables::Version;
 use cell_text::next_word;
+use plant_tables::{
+    LoadEnd, Version, are_hex_digits, hex_digit, is_route, numeral_within, request_place,
+    route_from,
+};
 use plant_types::{DUE_LIMIT, HostAsk, List, Pdu, Place, PlantFault, REQUEST_LIMIT};
 use std::alloc::Global;
 

@@ -1,14 +1,14 @@
 //! The table of the file as a whole.
 ghost use Rattle.std.specs.Prelude.{◌≡◌, ◌≤◌, length, IfOk};
 ghost use Rattle.toml.specs.View.{table_view};
-ghost use Rattle.plant_loader.specs.Given.{tables_in, texts_in};
-ghost use Rattle.plant_loader.specs.Refusals.{Gives, plant_place};
+ghost use Rattle.plant_tables.specs.Given.{tables_in, texts_in};
+ghost use Rattle.plant_tables.specs.Refusals.{Gives, plant_place};
 ghost use Rattle.plant_loader.specs.Plant.{some_tables_at, network_tables, bridge_texts, read_top};
 ghost use Rattle.plant_loader.specs.Plant.{HasFewTables, top_at};
 
-use crate::keys::{number_at_or, table_at, tables_at, texts_at};
-use crate::refusal::LoadEnd;
-use crate::tables::{TableKind, Version, table_passes};
+use plant_tables::{
+    LoadEnd, TableKind, Version, number_at_or, table_at, table_passes, tables_at, texts_at,
+};
 use plant_types::{
     BRIDGE_LIMIT, CONTROLLER_LIMIT, HOST_LIMIT, NET_LIMIT, Place, PlantFault, SCAN_TIME_LIMIT,
     WATCHDOG_LIMIT,

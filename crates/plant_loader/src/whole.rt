@@ -2,15 +2,14 @@
 ghost use Rattle.std.specs.Prelude.{◌≡◌, ◌≤◌, length, map};
 ghost use Rattle.std.specs.List.{AllByRecursion};
 ghost use Rattle.plant_types.specs.Plans.{IsNode};
-ghost use Rattle.plant_loader.specs.Net.{read_nets};
-ghost use Rattle.plant_loader.specs.Refusals.{Makes};
+ghost use Rattle.plant_tables.specs.Net.{read_nets};
+ghost use Rattle.plant_tables.specs.Refusals.{Makes};
 ghost use Rattle.plant_loader.specs.Rising.{by_node, by_network};
 ghost use Rattle.plant_loader.specs.Whole.{has_station, have_stations, net_from, nets_by_number};
 ghost use Rattle.plant_loader.specs.Whole.{plant_from};
 
 use crate::addresses::{Address, is_on, nodes_on, station_addresses, with_ends};
-use crate::net::{NetRules, NetTable, Nets};
-use crate::refusal::{LoadEnd, Refusal, network_place};
+use plant_tables::{LoadEnd, NetRules, NetTable, Nets, Refusal, network_place};
 use plant_types::{
     BridgePlan, ControllerPlan, HostPlan, List, NET_LIMIT, NetPlan, Plant, PlantFault,
 };

@@ -21,7 +21,7 @@ is_place place = is_row place.0 && is_column place.1
 abbrev pub same_place : ℕ × ℕ → ℕ × ℕ → Bool
 same_place one other = (one.0 == other.0) && (one.1 == other.1)
 
--- These are places of the grid, and no two of them are one. This project's own.
+-- Places are apart: each is one of the grid, and no two of them are one. This project's own.
 pub record AreApart (places : List (ℕ × ℕ)) : Type 0 where
   pub within : list_all is_place places ≡ true
   pub distinct : IsDistinct same_place places

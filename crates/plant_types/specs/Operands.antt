@@ -156,7 +156,7 @@ abbrev pub HasPast : Contents → Element → Type 0
 HasPast m element =
     AllByRecursion (λ named. HasDiscreteKind m named.at named.kind) (names_of element)
 
--- These references are of the kinds that they have to be. This project's own table of operands.
+-- References are of the kinds that they have to be. This project's own table of operands.
 abbrev pub have_kinds : List Named → Bool
 have_kinds names = list_all (λ named. accepts named.kind named.at.kind) names
 

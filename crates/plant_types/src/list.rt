@@ -1,8 +1,10 @@
 //! A `Vec` that contracts see as a list.
-ghost use Rattle.std.specs.Prelude.{◌≡◌, List as Items, [], ◌∷◌, ◌++◌, OnOk, OnErr};
+ghost use Rattle.std.specs.Prelude.{◌≡◌, ◌<◌, List as Items, [], ◌∷◌, ◌++◌, length, Some};
+ghost use Rattle.std.specs.Prelude.{OnOk, OnErr, IfNone, option_to_list, slice_get, slice_set};
 
 use std::alloc::{AllocError, Global};
 use std::marker::Model;
+use std::mem;
 
 /// A growing list. This project's own.
 pub struct List<T> {
@@ -54,5 +56,23 @@ impl<T> List<T> {
     {
         self.items.push(item)?;
         Ok(())
+    }
+
+    /// Takes the last item out, where there is one.
+    pub fn pop(&mut self) -> Option<T>
+        ensures items { self.old ≡ self.new ++ option_to_list result }
+        ensures empty { IfNone result (self.old ≡ []) }
+    {
+        self.items.pop()
+    }
+
+    /// Puts an item at a place, counted from 0, and gives back the one that stood there. Takes no
+    /// memory.
+    pub fn replace(&mut self, at: usize, item: T) -> T
+        requires { at < length self.old }
+        ensures items { self.new ≡ slice_set self.old at item }
+        ensures given { slice_get self.old at ≡ Some result }
+    {
+        mem::replace(&mut self.items[at], item)
     }
 }

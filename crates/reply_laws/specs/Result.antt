@@ -115,7 +115,7 @@ told_bytes ask reply =
     else if fits_plainly ask reply then Some []
     else None
 
--- These are the bytes that a reply tells, or it tells none.
+-- What a reply tells: these bytes, or none.
 abbrev pub IsTold : List ℕ → List ℕ → List ℕ → Type 0
 IsTold ask reply bytes = told_bytes ask reply ≡ Some bytes
 

@@ -5,24 +5,24 @@ use Rattle.ring_core.specs.Machine.{RingIs}
 use Rattle.ring_core.specs.Kept.{IsRingKept}
 use Rattle.ring_core.specs.declared.bare.BareRing.{BareRing}
 
--- The net that it was made for.
+-- The net that a bare ring was made for.
 abbrev pub bare_net : BareRing → NetPlan
 bare_net bare = bare.plan
 
--- Its holder and its nodes.
+-- What a bare ring is as a ring: its holder and its nodes.
 abbrev pub bare_ring : BareRing → RingIs
 bare_ring bare = record { holder = bare.holder; sent = bare.sent; nodes = bare.nodes.items }
 
--- It is the ring that a legal history leads to.
+-- A bare ring is behind a list: it is the ring that this legal history leads to.
 abbrev pub IsBehind : List RingEntry → BareRing → Type 0
 IsBehind past bare = IsRingKept bare.plan past (bare_ring bare) bare.stats.items bare.book
 
--- It was behind a history, and is behind that with one entry more.
+-- A bare ring was behind a history, and is behind that with one entry more.
 pub record BareMade (past : List RingEntry) (entry : RingEntry) (old new : BareRing) : Type 0 where
   pub net : bare_net new ≡ bare_net old
   pub behind : IsBehind (past ++ entry ∷ []) new
 
--- It was behind a history, and still is.
+-- A bare ring was behind a history, and still is.
 pub record BareStayed (past : List RingEntry) (old new : BareRing) : Type 0 where
   pub net : bare_net new ≡ bare_net old
   pub behind : IsBehind past new

@@ -77,7 +77,7 @@ is_failing row places.Began = row == 0
 is_failing row (places.DidSolve solved) = row == solved
 is_failing row _ = false
 
--- These steps up to the place where power fails, and Fail behind them. This project's own.
+-- Steps up to the place where power fails, and Fail after them. This project's own.
 unfoldable pub up_to_failure : ℕ → List ScanStep → List ScanStep
 up_to_failure row [] = []
 up_to_failure row (step ∷ rest) =

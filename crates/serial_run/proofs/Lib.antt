@@ -21,3 +21,4 @@ pub mod Gained
 pub mod Finished
 pub mod Handed
 pub mod TurnCases
+pub mod Fed

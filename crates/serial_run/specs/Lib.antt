@@ -4,3 +4,4 @@ pub mod Scans
 pub mod Stations
 pub mod Held
 pub mod Over
+pub mod Feeding

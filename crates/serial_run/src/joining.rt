@@ -64,8 +64,9 @@ fn ring_logs_of(alloc: Global, stations: Vec<RingStation>) -> Result<List<RingLo
     Ok(List::from_vec(logs))
 }
 
-/// The histories, and what the controllers noted of their panels.
-pub(crate) fn noted_of(alloc: Global, run: Stations) -> Result<Noted, AllocError>
+/// The histories of all stations, and what the controllers noted of their panels. The only error
+/// is that memory ran out.
+pub fn noted_of(alloc: Global, run: Stations) -> Result<Noted, AllocError>
     ensures joint { IfOk result (λ noted. noted.joint ≡ joint_of run) }
     ensures notes { IfOk result (λ noted. noted.notes ≡ map station_notes run.controllers.items) }
 {

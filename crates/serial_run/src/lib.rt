@@ -2,6 +2,7 @@
 #![tactic(auto)]
 
 mod coils;
+mod feeding;
 mod joining;
 mod order;
 mod runs;
@@ -9,5 +10,7 @@ mod serial;
 mod stations;
 mod turning;
 
+pub use joining::noted_of;
 pub use order::Turn;
 pub use runs::{CountedRun, run, run_counted, run_noted, turns};
+pub use stations::Stations;

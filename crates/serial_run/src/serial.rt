@@ -74,7 +74,7 @@ impl Stations {
     }
 
     /// Whether all controllers have ended.
-    fn have_ended(&self) -> bool
+    pub fn have_ended(&self) -> bool
         ensures { result ≡ have_ended self.now }
     {
         self.controllers
@@ -172,8 +172,9 @@ impl Stations {
         Ok(())
     }
 
-    /// A repetition: scans, away turns, visits, and so many rounds.
-    fn repetition(&mut self, rotations: u32) -> Result<(), AllocError>
+    /// A repetition: scans, away turns, visits, and so many rounds. The only error is that memory
+    /// ran out.
+    pub fn repetition(&mut self, rotations: u32) -> Result<(), AllocError>
         requires stand { Stand self.old }
         requires between { AreBetweenScans self.old }
         requires goes_on { have_ended self.old ≡ false }
@@ -218,8 +219,9 @@ impl Stations {
         Ok(())
     }
 
-    /// Rounds until every node is out of the ring, and then the visits.
-    pub(crate) fn finish(&mut self) -> Result<(), AllocError>
+    /// Rounds until every node is out of the ring, and then the visits. The only error is that
+    /// memory ran out.
+    pub fn finish(&mut self) -> Result<(), AllocError>
         requires stand { Stand self.old }
         requires off { AllHave IsOffAway self.old }
         ensures did { OnOk result (Did Finishes self.old self.new) }

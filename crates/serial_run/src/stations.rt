@@ -54,9 +54,10 @@ pub(crate) struct RingStation {
     pub(crate) ring: Ring,
 }
 
-/// All stations, all bridges, and the ring of each network.
+/// All stations of a plant, all bridges, and the ring of each network, as a run has them. This
+/// project's own.
 #[derive(Drop)]
-pub(crate) struct Stations {
+pub struct Stations {
     pub(crate) controllers: Vec<ControllerStation>,
     pub(crate) hosts: Vec<HostStation>,
     pub(crate) bridges: Vec<BridgeSite>,
@@ -190,8 +191,9 @@ fn rings_of(alloc: Global, plant: &Plant) -> Result<Vec<RingStation>, AllocError
 }
 
 impl Stations {
-    /// All stations of a plant at their start, before any turn.
-    pub(crate) fn new(alloc: Global, plant: &Plant, scans: u32) -> Result<Stations, AllocError>
+    /// All stations of a plant at their start, before any turn. The only error is that memory ran
+    /// out.
+    pub fn new(alloc: Global, plant: &Plant, scans: u32) -> Result<Stations, AllocError>
         requires plant { CanRunPlant plant.now }
         requires scans { scans ≤ most_scans }
         ensures { IfOk result (Starts plant.now scans) }

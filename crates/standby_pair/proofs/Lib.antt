@@ -6,5 +6,4 @@ pub mod Courses
 pub mod Making
 pub mod Links
 pub mod Ends
-pub mod Served
 pub mod Runs

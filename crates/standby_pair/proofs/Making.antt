@@ -23,13 +23,15 @@ use Rattle.panel_session.proofs.Lines.{last_line-more}
 use Rattle.panel_session.proofs.OneScan.{lines-both, made-scan}
 use Rattle.panel_session.proofs.Quiet.{made-none, requests-same}
 use Rattle.panel_session.proofs.ScansLeft.{scanned, scanned-state}
-use Rattle.standby_pair.specs.declared.frames.PortFrame.{PortFrame}
+use Rattle.panel_session.specs.declared.asked.PortFrame.{PortFrame}
 use Rattle.standby_pair.specs.declared.scanning.ScanMade.{ScanMade}
 use Rattle.standby_pair.specs.Course.{LeavesScans, ScanPart, ends_a_scan, numbered_next}
 use Rattle.standby_pair.specs.Course.{parts_of, scans_to_come}
-use Rattle.standby_pair.specs.Kept.{HasNumbersFor, IsScanMade, entries_next, frame_kept, frames_in}
-use Rattle.standby_pair.specs.Kept.{frames_kept}
-use Rattle.standby_pair.specs.Kept.{parts_history, replies_next, scan_part, scan_parts}
+use Rattle.standby_pair.specs.Kept.{HasNumbersFor, IsScanMade, frames_in}
+use Rattle.panel_session.specs.Asked.{entries_to_come, frame_asked}
+use Rattle.panel_session.specs.Asked.{frames_heard}
+use Rattle.standby_pair.specs.Kept.{parts_history, scan_part, scan_parts}
+use Rattle.panel_session.specs.Asked.{replies_to_come}
 use Rattle.standby_pair.proofs.Courses.{OneMore, behind_scan}
 use Rattle.standby_pair.proofs.Courses.{none-to-come, one-more}
 use Rattle.standby_pair.proofs.OneScan.{over-made}
@@ -61,11 +63,11 @@ first-dropped [] many is = either many
 first-dropped (one ∷ rest) many is =
     let n : many ≡ 1 = omega (arith, is) in ap (λ (n : ℕ). drop n (one ∷ rest)) n
 
-kept-rest : (frames : List PortFrame) → frames_kept (drop 1 frames) ≡ drop 1 (frames_kept frames)
+kept-rest : (frames : List PortFrame) → frames_heard (drop 1 frames) ≡ drop 1 (frames_heard frames)
 kept-rest [] = refl
 kept-rest (one ∷ rest) = refl
 
-kept-first : (frames : List PortFrame) → frames_kept (take 1 frames) ≡ take 1 (frames_kept frames)
+kept-first : (frames : List PortFrame) → frames_heard (take 1 frames) ≡ take 1 (frames_heard frames)
 kept-first [] = refl
 kept-first (one ∷ rest) = refl
 
@@ -76,12 +78,12 @@ in-few false (one ∷ rest) = omega arith
 
 -- The frames behind so many, as they are kept.
 pub kept-behind : (frames : List PortFrame) (many at : ℕ) → at ≡ min (length frames) many
-    → frames_kept (take (length frames - at) (drop at frames)) ≡ drop many (frames_kept frames)
+    → frames_heard (take (length frames - at) (drop at frames)) ≡ drop many (frames_heard frames)
 kept-behind frames many at is =
     let turned : at ≡ min many (length frames) = omega (arith, is) in
-    ap frames_kept (take_rest frames at
+    ap frames_heard (take_rest frames at
     ∙ ap (λ (n : ℕ). drop n frames) turned ∙ drop_min many frames)
-    ∙ sym (drop-map frame_kept many frames)
+    ∙ sym (drop-map frame_asked many frames)
 
 -- What stands behind a history in a longer one.
 pub slice-behind : (h before after : List Entry) (at : ℕ) → at ≡ length before → h ≡ after
@@ -160,13 +162,13 @@ module _ (v w : ControllerIs) (goes : has_ended v ≡ false) (is : w ≡ after_s
 
   -- the frames that are served in it
   pub now-is : (last : Bool) (frames : List PortFrame)
-      → numbered_next w.history (frames_kept (frames_in last frames))
-      ≡ frames_now last (numbered_next v.history (frames_kept frames))
-  now-is true frames = ap (λ (n : ℕ). numbered_on (n + 1) (frames_kept frames)) same-count
+      → numbered_next w.history (frames_heard (frames_in last frames))
+      ≡ frames_now last (numbered_next v.history (frames_heard frames))
+  now-is true frames = ap (λ (n : ℕ). numbered_on (n + 1) (frames_heard frames)) same-count
   now-is false frames =
       ap (numbered_next w.history) (kept-first frames)
-      ∙ ap (λ (n : ℕ). numbered_on (n + 1) (take 1 (frames_kept frames))) same-count
-      ∙ first-numbered (request_count v.history + 1) (frames_kept frames)
+      ∙ ap (λ (n : ℕ). numbered_on (n + 1) (take 1 (frames_heard frames))) same-count
+      ∙ first-numbered (request_count v.history + 1) (frames_heard frames)
 
   entries-are : (frames : List NumberedFrame)
       → served_entries w.fixed (state_of w) frames ≡ served_entries v.fixed after frames
@@ -183,18 +185,18 @@ module _ (v w : ControllerIs) (goes : has_ended v ≡ false) (is : w ≡ after_s
   -- it was made, and its frames were served
   pub scan-is : (left : ℕ) (frames : List PortFrame) (last : Bool) (u : ControllerIs)
       (result : ScanMade) → last ≡ ends_bench left after
-      → u.fixed ≡ w.fixed → u.history ≡ w.history ++ entries_next w (frames_in last frames)
+      → u.fixed ≡ w.fixed → u.history ≡ w.history ++ entries_to_come w (frames_in last frames)
       → result.line.items ≡ last_line (lines_of w)
       → result.entries ≡ drop (length v.history) u.history
-      → result.replies.items ≡ replies_next w (frames_in last frames)
-      → IsScanMade v left (frames_kept frames) result u
+      → result.replies.items ≡ replies_to_come w (frames_in last frames)
+      → IsScanMade v left (frames_heard frames) result u
   scan-is left frames last u result last_is fixed history line entries replies =
       let frames-are = now-is last frames
-      ∙ ap (λ (last : Bool). frames_now last (numbered_next v.history (frames_kept frames)))
+      ∙ ap (λ (last : Bool). frames_now last (numbered_next v.history (frames_heard frames)))
       last_is in
       let now : List NumberedFrame =
-      frames_now (ends_bench left after) (numbered_next v.history (frames_kept frames)) in
-      let served : entries_next w (frames_in last frames) ≡ served_entries v.fixed after now =
+      frames_now (ends_bench left after) (numbered_next v.history (frames_heard frames)) in
+      let served : entries_to_come w (frames_in last frames) ≡ served_entries v.fixed after now =
       ap (λ (frames : List NumberedFrame). served_entries w.fixed (state_of w) frames) frames-are
       ∙ entries-are now in
       let whole : u.history ≡ v.history ++ (made ++ served_entries v.fixed after now) =
@@ -228,8 +230,8 @@ pub record InCourse (first : ControllerIs) (left : ℕ) (frames : List PortFrame
   pub history : v.history ≡ first.history ++ parts_history (scan_parts made)
   pub leaves : LeavesScans v (left - many)
   pub count : length made ≡ many
-  pub all : scan_parts made ++ parts_of (scans_to_come v (left - many) (frames_kept rest))
-      ≡ parts_of (scans_to_come first left (frames_kept frames))
+  pub all : scan_parts made ++ parts_of (scans_to_come v (left - many) (frames_heard rest))
+      ≡ parts_of (scans_to_come first left (frames_heard frames))
   pub few : HasNumbersFor v rest
 
 pub course-begins : (first : ControllerIs) (left : ℕ) (frames : List PortFrame)
@@ -242,7 +244,7 @@ course-begins first left frames whole few =
       history = sym (append-nil first.history);
       leaves = subst (LeavesScans first) none whole;
       count = refl;
-      all = ap (λ (n : ℕ). parts_of (scans_to_come first n (frames_kept frames))) (sym none);
+      all = ap (λ (n : ℕ). parts_of (scans_to_come first n (frames_heard frames))) (sym none);
       few = few;
     }
 
@@ -251,9 +253,9 @@ module _ (first : ControllerIs) (left : ℕ) (frames : List PortFrame) (v : Cont
     (made : List ScanMade) (rest : List PortFrame) (many : ℕ)
     (course : InCourse first left frames v made rest many) (u : ControllerIs) (result : ScanMade)
     (behind : ℕ) (less : left - many ≡ suc behind)
-    (scan : IsScanMade v behind (frames_kept rest) result u) where
+    (scan : IsScanMade v behind (frames_heard rest) result u) where
   abbrev here : List AsciiFrame
-  here = frames_kept rest
+  here = frames_heard rest
 
   one : OneMore v behind here u.reserved
   one = one-more v behind here u.reserved (subst (LeavesScans v) less course.leaves) scan.goes
@@ -272,7 +274,7 @@ module _ (first : ControllerIs) (left : ℕ) (frames : List PortFrame) (v : Cont
   parts-push = map-append scan_part made (result ∷ [])
 
   cut : (rest : List PortFrame)
-      → length (take 1 (frames_kept rest)) + length (drop 1 rest) ≡ length rest
+      → length (take 1 (frames_heard rest)) + length (drop 1 rest) ≡ length rest
   cut [] = refl
   cut (one ∷ rest) = omega arith
 
@@ -307,10 +309,10 @@ module _ (first : ControllerIs) (left : ℕ) (frames : List PortFrame) (v : Cont
             (subst (λ (u : ControllerIs). LeavesScans u behind) (sym u-is) one.leaves);
         count = length-append made (result ∷ []) ∙ omega (arith, course.count);
         all = ap (λ (parts : List ScanPart). parts
-            ++ parts_of (scans_to_come u (left - suc many) (frames_kept (drop 1 rest)))) parts-push
+            ++ parts_of (scans_to_come u (left - suc many) (frames_heard (drop 1 rest)))) parts-push
             ∙ append_assoc (scan_parts made) (scan_part result ∷ []) _
             ∙ ap (λ (n : ℕ). scan_parts made ++ (scan_part result
-            ∷ parts_of (scans_to_come u n (frames_kept (drop 1 rest))))) next-many
+            ∷ parts_of (scans_to_come u n (frames_heard (drop 1 rest))))) next-many
             ∙ ap (λ (frames : List AsciiFrame). scan_parts made ++ (scan_part result
             ∷ parts_of (scans_to_come u behind frames))) (kept-rest rest)
             ∙ ap (λ (u : ControllerIs). scan_parts made ++ (scan_part result
@@ -327,10 +329,10 @@ module _ (first : ControllerIs) (left : ℕ) (frames : List PortFrame) (v : Cont
 pub course-full : (first : ControllerIs) (left : ℕ) (frames : List PortFrame) (v : ControllerIs)
     (made : List ScanMade) (rest : List PortFrame) (many : ℕ)
     → InCourse first left frames v made rest many
-    → scan_parts made ≡ take many (parts_of (scans_to_come first left (frames_kept frames)))
+    → scan_parts made ≡ take many (parts_of (scans_to_come first left (frames_heard frames)))
 course-full first left frames v made rest many course =
     sym (take_at (scan_parts made)
-    (parts_of (scans_to_come v (left - many) (frames_kept rest))) many
+    (parts_of (scans_to_come v (left - many) (frames_heard rest))) many
     (length-map made scan_part ∙ course.count))
     ∙ ap (take many) course.all
 
@@ -338,15 +340,15 @@ course-full first left frames v made rest many course =
 pub course-over : (first : ControllerIs) (left : ℕ) (frames : List PortFrame) (v : ControllerIs)
     (made : List ScanMade) (rest : List PortFrame) (many most : ℕ)
     → InCourse first left frames v made rest many → many ≤ most → has_ended v ≡ true
-    → scan_parts made ≡ take most (parts_of (scans_to_come first left (frames_kept frames)))
+    → scan_parts made ≡ take most (parts_of (scans_to_come first left (frames_heard frames)))
 course-over first left frames v made rest many most course within ended =
-    let none : parts_of (scans_to_come v (left - many) (frames_kept rest)) ≡ [] =
-    ap parts_of (none-to-come v (left - many) (frames_kept rest) course.leaves ended) in
-    let all : scan_parts made ≡ parts_of (scans_to_come first left (frames_kept frames)) =
+    let none : parts_of (scans_to_come v (left - many) (frames_heard rest)) ≡ [] =
+    ap parts_of (none-to-come v (left - many) (frames_heard rest) course.leaves ended) in
+    let all : scan_parts made ≡ parts_of (scans_to_come first left (frames_heard frames)) =
     sym (append-nil (scan_parts made))
     ∙ ap (λ (parts : List ScanPart). scan_parts made ++ parts) (sym none)
     ∙ course.all in
     all
-    ∙ sym (take_all most (parts_of (scans_to_come first left (frames_kept frames)))
+    ∙ sym (take_all most (parts_of (scans_to_come first left (frames_heard frames)))
     (let count = length-map made scan_part in
     omega (arith, ap length all, count, course.count, within)))

@@ -9,12 +9,12 @@ use Rattle.ring_core.specs.Machine.{fate_reaches}
 use Rattle.controller_core.specs.declared.entry.Entry.{Entry}
 use Rattle.controller_core.specs.declared.fixed.Fixed.{Fixed}
 use Rattle.controller_core.specs.Controller.{ControllerIs, has_ended, state_of}
-use Rattle.panel_session.specs.Serving.{reply_texts, request_count, served_entries}
+use Rattle.panel_session.specs.Serving.{request_count}
 use Rattle.panel_session.specs.Session.{BenchScan, bench_scan}
 use Rattle.hot_standby.specs.declared.packet.Packet.{Packet}
 use Rattle.hot_standby.specs.Part.{MayComeNext}
 use Rattle.hot_standby.specs.Standby.{IsNextScan, MayTake, StandbyIs, scans_held, with_packet}
-use Rattle.standby_pair.specs.declared.frames.PortFrame.{PortFrame}
+use Rattle.panel_session.specs.declared.asked.PortFrame.{PortFrame}
 use Rattle.standby_pair.specs.declared.scanning.ScanMade.{ScanMade}
 use Rattle.standby_pair.specs.declared.sending.Link.{Link}
 use Rattle.standby_pair.specs.Course.{ScanPart, numbered_next, part_of}
@@ -22,25 +22,9 @@ use Rattle.standby_pair.specs.Pair.{Line, Piece, Replies, Switch, times_written}
 use Rattle.standby_pair.specs.Sending.{Sending, is_told, last_number, sending, sent_behind}
 use Rattle.standby_pair.specs.Sending.{told_of}
 
--- The address and the PDU of a frame that is kept.
-abbrev pub frame_kept : PortFrame → AsciiFrame
-frame_kept frame = record { address = frame.address; pdu = frame.pdu }
-
-abbrev pub frames_kept : List PortFrame → List AsciiFrame
-frames_kept frames = map frame_kept frames
-
 -- The frames of these that are served in a scan: the next one, or all in the last.
 abbrev pub frames_in : Bool → List PortFrame → List PortFrame
 frames_in last frames = if last then frames else take 1 frames
-
--- The entries that such frames make where they are served next, and the replies to them.
-abbrev pub entries_next : ControllerIs → List PortFrame → List Entry
-entries_next v frames =
-    served_entries v.fixed (state_of v) (numbered_next v.history (frames_kept frames))
-
-abbrev pub replies_next : ControllerIs → List PortFrame → List ℕ
-replies_next v frames =
-    reply_texts v.fixed (state_of v) (numbered_next v.history (frames_kept frames))
 
 -- What belongs to a scan that was made.
 abbrev pub scan_part : ScanMade → ScanPart

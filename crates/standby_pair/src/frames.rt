@@ -1,74 +1,12 @@
-//! The frames on a stream that are for a node.
-ghost use Rattle.std.specs.Prelude.{◌≡◌, ◌++◌, drop, IfOk, OnOk};
-ghost use Rattle.ascii_port.specs.Frames.{frame_of};
-ghost use Rattle.ascii_port.specs.Hearing.{HasFrame};
-ghost use Rattle.panel_session.specs.Asked.{own_frame};
-ghost use Rattle.panel_session.specs.Serving.{frames_for};
-ghost use Rattle.standby_pair.specs.Kept.{frame_kept, frames_kept};
+//! The frames that are left of those on a stream.
+ghost use Rattle.std.specs.Prelude.{◌≡◌, drop};
+ghost use Rattle.panel_session.specs.Asked.{frames_heard};
 
-use ascii_port::{Fed, Port};
-use plant_types::Pdu;
-use std::alloc::{AllocError, Global};
+use panel_session::PortFrame;
 
-/// A frame that is for a node.
-#[derive(Drop)]
-pub(crate) struct PortFrame {
-    pub(crate) address: u8,
-    pub(crate) pdu: Pdu,
-}
-
-/// The frame that came with the last byte.
-fn frame_at(alloc: Global, port: &Port) -> Result<PortFrame, AllocError>
-    requires { HasFrame port.now }
-    ensures { IfOk result (λ frame. frame_kept frame ≡ frame_of port.now.bytes) }
-{
-    let address = port.address();
-    match Pdu::of(alloc, port.pdu())? {
-        Some(pdu) => Ok(PortFrame { address, pdu }),
-        None => unreachable!(),
-    }
-}
-
-/// Adds the frame that came with the last byte, if it is for a node.
-fn add_frame(
-    alloc: Global,
-    list: &mut Vec<PortFrame>,
-    node: u8,
-    port: &Port,
-) -> Result<(), AllocError>
-    requires { HasFrame port.now }
-    ensures { OnOk result (frames_kept list.new.items ≡ frames_kept list.old.items
-        ++ own_frame node port.now) }
-{
-    let address = port.address();
-    if address == node || address == 0 {
-        list.push(frame_at(alloc, port)?)?;
-    }
-    Ok(())
-}
-
-/// The frames on a stream with the address of a node, or with that of all, 0.
-pub(crate) fn frames_for(
-    alloc: Global,
-    node: u8,
-    stream: &[u8],
-) -> Result<Vec<PortFrame>, AllocError>
-    ensures frames { IfOk result (λ list. frames_kept list.items ≡ frames_for node stream.now) }
-{
-    let mut port = Port::new();
-    let mut list = Vec::new(alloc);
-    for byte in stream {
-        match port.feed(*byte) {
-            Fed::More => {}
-            Fed::Frame => add_frame(alloc, &mut list, node, &port)?,
-        }
-    }
-    Ok(list)
-}
-
-/// The frames behind so many.
+/// The frames after so many.
 pub(crate) fn frames_behind(frames: &[PortFrame], many: usize) -> &[PortFrame]
-    ensures { frames_kept result.now ≡ drop many (frames_kept frames.now) }
+    ensures { frames_heard result.now ≡ drop many (frames_heard frames.now) }
 {
     &frames[frames.len().min(many)..]
 }

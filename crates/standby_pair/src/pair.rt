@@ -6,18 +6,19 @@ ghost use Rattle.controller_core.specs.Machine.{IsRunnable};
 ghost use Rattle.panel_session.specs.Serving.{frames_for};
 ghost use Rattle.panel_session.specs.Session.{bench_history};
 ghost use Rattle.standby_pair.specs.Course.{parts_of, scans_to_come};
-ghost use Rattle.standby_pair.specs.Kept.{frames_kept, parts_history, replies_between};
+ghost use Rattle.standby_pair.specs.Kept.{parts_history, replies_between};
+ghost use Rattle.panel_session.specs.Asked.{frames_heard};
 ghost use Rattle.standby_pair.specs.Kept.{scan_parts};
 ghost use Rattle.standby_pair.specs.Pair.{pair_text, switch_line, RepliesComeOnceOrTwice};
 ghost use Rattle.standby_pair.specs.Pair.{SwitchesInTime};
 
-use crate::frames::{PortFrame, frames_behind, frames_for};
+use crate::frames::frames_behind;
 use crate::scanning::{ScanMade, copies, make_scans};
 use crate::sending::Link;
 use crate::words::Words8;
 use controller_core::Entry;
 use hot_standby::Standby;
-use panel_session::Bench;
+use panel_session::{Bench, PortFrame, frames_for};
 use plant_types::{ControllerPlan, Fate, List};
 use std::alloc::{AllocError, Global};
 use std::fmt::Write;
@@ -112,7 +113,7 @@ fn primary_scans(
     requires few { length frames.now < 2 ^ 32 }
     ensures parts { IfOk result (λ made. scan_parts made.items ≡ take fail (parts_of
         (scans_to_come (at_start (fixed_with plan.now scan_time watchdog scans)) scans
-        (frames_kept frames.now)))) }
+        (frames_heard frames.now)))) }
     ensures legal { IfOk result (λ made. IsLegal (fixed_with plan.now scan_time watchdog scans)
         (parts_history (scan_parts made.items))) }
 {

@@ -2,17 +2,14 @@
 ghost use Rattle.std.specs.Prelude.{◌≡◌, ◌+◌, ◌<◌, ◌≤◌, ◌^◌, ◌++◌, ◌==◌, ◌||◌, length, not, take};
 ghost use Rattle.std.specs.Prelude.{IfOk, OnOk};
 ghost use Rattle.std.specs.List.{list_any};
-ghost use Rattle.controller_core.specs.Controller.{state_of};
-ghost use Rattle.panel_session.specs.Serving.{after_request, reply_text, request_count};
+ghost use Rattle.panel_session.specs.Asked.{entries_to_come, frames_heard, replies_to_come};
+ghost use Rattle.panel_session.specs.Serving.{request_count};
 ghost use Rattle.standby_pair.specs.Course.{ends_a_scan, parts_of, scans_to_come, LeavesScans};
-ghost use Rattle.standby_pair.specs.Kept.{entries_next, frame_kept, frames_in, frames_kept};
-ghost use Rattle.standby_pair.specs.Kept.{parts_history, replies_next, scan_parts, HasNumbersFor};
+ghost use Rattle.standby_pair.specs.Kept.{frames_in, parts_history, scan_parts, HasNumbersFor};
 ghost use Rattle.standby_pair.specs.Kept.{MadeScan};
 
-use crate::frames::PortFrame;
-use ascii_port::frame_text;
 use controller_core::Entry;
-use panel_session::{Bench, BenchEnd};
+use panel_session::{Bench, BenchEnd, PortFrame, serve_all};
 use plant_types::{Copied, List};
 use std::alloc::{AllocError, Global};
 
@@ -36,29 +33,6 @@ pub(crate) fn copies(alloc: Global, entries: &[Entry]) -> Result<List<Entry>, Al
     Ok(list)
 }
 
-/// Serves a frame, and adds the reply to one with the node's own address.
-fn serve_frame(
-    alloc: Global,
-    node: u8,
-    bench: &mut Bench,
-    frame: &PortFrame,
-    replies: &mut Vec<u8>,
-) -> Result<(), AllocError>
-    requires { request_count bench.old.history + 1 < 2 ^ 32 }
-    ensures bench { OnOk result (bench.new ≡ after_request bench.old frame.now.pdu) }
-    ensures replies { OnOk result (replies.new.items ≡ replies.old.items
-        ++ reply_text node (state_of bench.old) (frame_kept frame.now)) }
-{
-    let reply = bench.serve(&frame.pdu)?;
-    if frame.address != node {
-        return Ok(());
-    }
-    if let Some(reply) = reply {
-        replies.extend_from_slice(&frame_text(alloc, node, &reply)?)?;
-    }
-    Ok(())
-}
-
 /// Serves frames one after another, and answers the replies.
 fn serve_frames(
     alloc: Global,
@@ -70,13 +44,11 @@ fn serve_frames(
     requires few { request_count bench.old.history + length frames.now < 2 ^ 32 }
     ensures fixed { OnOk result (bench.new.fixed ≡ bench.old.fixed) }
     ensures history { OnOk result (bench.new.history ≡ bench.old.history
-        ++ entries_next bench.old frames.now) }
-    ensures replies { IfOk result (λ replies. replies.items ≡ replies_next bench.old frames.now) }
+        ++ entries_to_come bench.old frames.now) }
+    ensures replies { IfOk result (λ replies. replies.items ≡ replies_to_come bench.old frames.now) }
 {
     let mut replies = Vec::new(alloc);
-    for frame in frames {
-        serve_frame(alloc, node, bench, frame, &mut replies)?;
-    }
+    serve_all(alloc, node, bench, frames, &mut replies)?;
     Ok(replies)
 }
 
@@ -125,7 +97,7 @@ fn make_scan(
     requires node { bench.old.fixed.plan.node ≡ node }
     requires leaves { LeavesScans bench.old (left + 1) }
     requires few { HasNumbersFor bench.old frames.now }
-    ensures { IfOk result (λ made. MadeScan bench.old left (frames_kept frames.now) made bench.new) }
+    ensures { IfOk result (λ made. MadeScan bench.old left (frames_heard frames.now) made bench.new) }
 {
     let before = bench.history().len();
     let BenchEnd::Done = bench.scan()? else {
@@ -156,7 +128,7 @@ pub(crate) fn make_scans(
     requires few { HasNumbersFor bench.old frames.now }
     requires many { many ≤ left }
     ensures parts { IfOk result (λ made. scan_parts made.items ≡
-        take many (parts_of (scans_to_come bench.old left (frames_kept frames.now)))) }
+        take many (parts_of (scans_to_come bench.old left (frames_heard frames.now)))) }
     ensures fixed { OnOk result (bench.new.fixed ≡ bench.old.fixed) }
     ensures history { IfOk result (λ made. bench.new.history ≡ bench.old.history
         ++ parts_history (scan_parts made.items)) }

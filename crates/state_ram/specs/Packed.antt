@@ -36,7 +36,7 @@ words_of_kind words Input = words.inputs
 words_of_kind words InputRegister = words.input_registers
 words_of_kind words Register = words.registers
 
--- These words with the words of one kind replaced. This project's own.
+-- Packed words with those of one kind replaced. This project's own.
 abbrev pub with_words_of_kind : Words → RefKind → List ℕ → Words
 with_words_of_kind words Coil other = record words { coils = other }
 with_words_of_kind words Input other = record words { inputs = other }
@@ -71,7 +71,7 @@ packed_number words at = number_in at.kind (words_of_kind words at.kind) (at.num
 abbrev pub group_of : Words → Ref → ℕ
 group_of words at = slice_index_or (words_of_kind words at.kind) ((at.number - 1) / 16) 0
 
--- These words with the word of sixteen discretes that holds one of them replaced. This project's
+-- Packed words with the word of sixteen discretes that holds one of them replaced. This project's
 -- own.
 abbrev pub with_group : Words → Ref → ℕ → Words
 with_group words at word =

@@ -1,14 +1,14 @@
 //! The first law: what a station asked on the ring is what its calls ask.
-ghost use Rattle.std.specs.Prelude.{◌≡◌, ◌++◌, [], ◌+◌, None, IfOk, IfSome, OnOk, filter_map, map};
+ghost use Rattle.std.specs.Prelude.{◌≡◌, ◌↔◌, ◌++◌, [], ◌+◌, None, IfOk, IfSome, OnOk, IsTrue};
+ghost use Rattle.std.specs.Prelude.{filter_map, map};
 ghost use Rattle.std.specs.List.{cons_option};
 ghost use Rattle.tied_lists.specs.Items.{asked_by, asked_of, net_ask};
 ghost use Rattle.joint_history.specs.Bridges.{side_items};
 ghost use Rattle.joint_history.specs.Reading.{called_of, host_items_of, items_of};
-ghost use Rattle.station_laws.specs.Readings.{calls_in, host_calls_in, side_calls_in};
+ghost use Rattle.station_laws.specs.Readings.{calls_in, host_calls_in, route_by, side_calls_in};
 ghost use Rattle.station_laws.specs.Picked.{AreWithin, picked};
 
 use crate::differing::Same;
-use crate::same::same_way;
 use bridge_relay::BridgeEntry;
 use controller_core::{Call, CallKind, Entry};
 use host_port::HostEntry;
@@ -34,6 +34,19 @@ impl Model for Asking {
     ghost Value = { Asked };
 
     ghost view = { λ a. record { id = a.id; route = route_by a.way; pdu = a.pdu } };
+}
+
+/// Whether two routes are one, each by its first address and those after it, or none.
+fn same_way(one: &Option<(u8, Route)>, other: &Option<(u8, Route)>) -> bool
+    ensures { IsTrue result ↔ (route_by one.now ≡ route_by other.now) }
+{
+    match one {
+        None => other.is_none(),
+        Some((to, rest)) => match other {
+            None => false,
+            Some((another, others)) => *to == *another && rest.addresses() == others.addresses(),
+        },
+    }
 }
 
 impl Same for Asking {

@@ -16,8 +16,8 @@ ghost use Rattle.station_laws.specs.Picked.{AreWithin, picked};
 
 use crate::by_call::ByCall;
 use crate::differing::Same;
-use crate::same::same_result;
 use bridge_relay::{BridgeEntry, RelayResult};
+use compared_items::same_result;
 use controller_core::{Call, CallKind, Entry};
 use host_port::{HostEntry, HostResult};
 use mstr_block::{CallId, MstrResult};

@@ -11,11 +11,9 @@ mod ending;
 mod failing;
 mod law;
 mod replying;
-mod same;
 mod stations;
 
 pub use by_call::ByCall;
 pub use failing::{count_fails, downs};
 pub use law::Law;
-pub use same::{same_frame, same_result, same_words};
 pub use stations::{controller_breaks, host_breaks, side_breaks};

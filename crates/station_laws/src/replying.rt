@@ -10,7 +10,7 @@ ghost use Rattle.station_laws.specs.Picked.{AreWithin, picked};
 ghost use Rattle.station_laws.specs.Taking.{DueNext, due_at, due_behind, entry_taken, frame_taken};
 
 use crate::differing::Same;
-use crate::same::same_bytes;
+use compared_items::same_bytes;
 use controller_core::Entry;
 use host_port::HostEntry;
 use mstr_block::{CallId, MstrResult};

@@ -55,7 +55,7 @@ pub record Tied (station : Station) (a : Items) (b : List RingEntry) : Type 0 wh
   pub ends : EndsAreMet station a b
   pub downs : DownsAreFails a b
 
--- They keep all of them, but for calls that were not posted yet.
+-- Two lists keep all these ties, but for calls that were not posted yet.
 pub record TiedBut (station : Station) (rest : List Called) (a : Items) (b : List RingEntry)
     : Type 0 where
   pub asks : AsksAreCallsBut rest a b

@@ -116,7 +116,7 @@ drops-few sizes drops h =
     )
 
 -- what holds of each item and of one more holds of all
-all-push : {A : Type 0} (P : A → Type 0) (xs : List A) (x : A) → AllByRecursion P xs → P x
+pub all-push : {A : Type 0} (P : A → Type 0) (xs : List A) (x : A) → AllByRecursion P xs → P x
     → AllByRecursion P (xs ++ x ∷ [])
 all-push P [] x all here = (here, tt)
 all-push P (y ∷ ys) x all here = (all.0, all-push P ys x all.1 here)

@@ -3,3 +3,4 @@ pub mod Drops
 pub mod Tests
 pub mod Rows
 pub mod DropTests
+pub mod Feeding

@@ -20,7 +20,7 @@ pub enum Health {
 /// The drops of a controller: what the field gives them, and what they give it.
 #[derive(Drop)]
 pub struct Cop {
-    drops: List<IoDrop>,
+    pub(crate) drops: List<IoDrop>,
 }
 
 impl Model for Cop {

@@ -1,5 +1,6 @@
 //! What is done with a controller, and whether it answers what it must.
 use controller_core::{Call, CallKind, Controller, Entry, StepEnd};
+use ladder_solver::NetworkFlow;
 use mstr_block::{CallId, MstrResult};
 use plant_types::{Block, Pdu, Ref};
 use scan_order::ScanStep;
@@ -34,6 +35,17 @@ pub enum Act {
     Finish(&'static [u16]),
     /// Follows a Begin, and not an End before it.
     FollowBegin,
+    /// Follows the Solve of this row, and notes just these networks.
+    Conducts(u16, &'static [Noted]),
+    /// Does not follow the Solve of this row, and notes nothing.
+    NotDue(u16),
+}
+
+/// A network of segment 1 that was solved, and the rows that were live at the right border of each
+/// column that was solved to its end: bit 0 is row 1.
+pub struct Noted {
+    pub network: usize,
+    pub masks: &'static [u8],
 }
 
 /// Who asks.
@@ -133,6 +145,46 @@ fn follows_begin(controller: &mut Controller) -> Result<bool, AllocError> {
     controller.follow(&Entry::Begin)
 }
 
+fn has_borders(flow: &NetworkFlow, masks: &[u8]) -> bool {
+    for (i, border) in flow.borders.iter().enumerate() {
+        if *border != masks.get(i).copied() {
+            return false;
+        }
+    }
+    true
+}
+
+/// Whether these networks are noted, in this order, and no others.
+fn are_noted(flows: &[NetworkFlow], noted: &[Noted]) -> bool {
+    if flows.len() != noted.len() {
+        return false;
+    }
+    for (flow, network) in flows.iter().zip(noted) {
+        let site = (flow.segment, flow.network);
+        if site != (1, network.network) || !has_borders(flow, network.masks) {
+            return false;
+        }
+    }
+    true
+}
+
+fn conducts(
+    alloc: Global,
+    controller: &mut Controller,
+    row: u16,
+    noted: &[Noted],
+) -> Result<bool, AllocError> {
+    let mut notes = Vec::new(alloc);
+    let followed = controller.follow_noting(&Entry::Solve(row), &mut notes)?;
+    Ok(followed && are_noted(notes.as_slice(), noted))
+}
+
+fn is_not_due(alloc: Global, controller: &mut Controller, row: u16) -> Result<bool, AllocError> {
+    let mut notes = Vec::new(alloc);
+    let followed = controller.follow_noting(&Entry::Solve(row), &mut notes)?;
+    Ok(!followed && notes.as_slice().is_empty())
+}
+
 /// Whether an act goes as it says.
 fn goes(alloc: Global, controller: &mut Controller, act: &Act) -> Result<bool, Fail> {
     match act {
@@ -154,6 +206,8 @@ fn goes(alloc: Global, controller: &mut Controller, act: &Act) -> Result<bool, F
         Act::Collect => Ok(collects(controller)?),
         Act::Finish(words) => Ok(finishes(controller, words)?),
         Act::FollowBegin => Ok(follows_begin(controller)?),
+        Act::Conducts(row, noted) => Ok(conducts(alloc, controller, *row, noted)?),
+        Act::NotDue(row) => Ok(is_not_due(alloc, controller, *row)?),
     }
 }
 

@@ -6,7 +6,7 @@ ghost use Rattle.plant_types.specs.Passing.{IsChecked};
 use controller_core::Controller;
 use plant_types::{
     Cell, ControllerPlan, Element, List, MathOp, Network, Operand, OrderRow, PowerRow, Ref,
-    RefKind, Segment, checks_are_exact,
+    RefKind, Segment, Short, checks_are_exact,
 };
 use std::alloc::{AllocError, AllocGlobal, Global};
 use std::process::Abort;
@@ -15,7 +15,7 @@ use std::process::Abort;
 #[derive(Clone, Copy)]
 pub struct Plan {
     pub panel: &'static [Ref],
-    /// The cells of each network of its segment.
+    /// The pieces of each network of its segment.
     pub networks: &'static [&'static [Piece]],
     /// How often the segment is solved in a scan: at most 3 times.
     pub rows: usize,
@@ -34,13 +34,15 @@ const ROW: OrderRow = OrderRow {
     output: None,
 };
 
-/// A cell of a network.
+/// A cell of a network, or a vertical short.
 #[derive(Clone, Copy)]
 pub enum Piece {
     /// Its row, its column and its element.
     At(u8, u8, Element),
     /// An ADD in column 1: its row, its two numbers, and where their sum goes.
     Sum(u8, u16, u16, Ref),
+    /// The upper of the two rows that it joins, and its column.
+    Joins(u8, u8),
 }
 
 /// Coil 00001.
@@ -55,14 +57,20 @@ pub const COIL_2: Ref = Ref {
     number: 2,
 };
 
-fn cell_of(piece: Piece) -> Cell {
+/// Coil 00003.
+pub const COIL_3: Ref = Ref {
+    kind: RefKind::Coil,
+    number: 3,
+};
+
+fn cell_of(piece: Piece) -> Option<Cell> {
     match piece {
-        Piece::At(row, column, element) => Cell {
+        Piece::At(row, column, element) => Some(Cell {
             row,
             column,
             element,
-        },
-        Piece::Sum(row, one, other, low) => Cell {
+        }),
+        Piece::Sum(row, one, other, low) => Some(Cell {
             row,
             column: 1,
             element: Element::Math {
@@ -71,16 +79,29 @@ fn cell_of(piece: Piece) -> Cell {
                 mid: Operand::Const(other),
                 low,
             },
-        },
+        }),
+        Piece::Joins(_, _) => None,
     }
 }
 
 fn cells_of(alloc: Global, pieces: &[Piece]) -> Result<List<Cell>, AllocError> {
     let mut cells = List::new(alloc);
     for piece in pieces {
-        cells.push(cell_of(*piece))?;
+        if let Some(cell) = cell_of(*piece) {
+            cells.push(cell)?;
+        }
     }
     Ok(cells)
+}
+
+fn shorts_of(alloc: Global, pieces: &[Piece]) -> Result<List<Short>, AllocError> {
+    let mut shorts = List::new(alloc);
+    for piece in pieces {
+        if let Piece::Joins(row, column) = *piece {
+            shorts.push(Short { row, column })?;
+        }
+    }
+    Ok(shorts)
 }
 
 fn networks_of(alloc: Global, networks: &[&[Piece]]) -> Result<List<Network>, AllocError> {
@@ -88,7 +109,7 @@ fn networks_of(alloc: Global, networks: &[&[Piece]]) -> Result<List<Network>, Al
     for pieces in networks {
         list.push(Network {
             cells: cells_of(alloc, pieces)?,
-            shorts: List::new(alloc),
+            shorts: shorts_of(alloc, pieces)?,
         })?;
     }
     Ok(list)

@@ -1,15 +1,10 @@
 //! Controllers whose power fails: what falls, what holds, and what others are told.
 use super::acts::Act;
-use super::plans::{COIL_1, COIL_2, Piece, Plan};
+use super::plans::{COIL_1, COIL_2, COIL_3, Piece, Plan};
 use super::{Case, show};
 use plant_types::{Element, Operand, PowerRow, Ref, RefKind};
 use scan_order::ScanStep;
 use std::test::Fail;
-
-const COIL_3: Ref = Ref {
-    kind: RefKind::Coil,
-    number: 3,
-};
 
 const COIL_4: Ref = Ref {
     kind: RefKind::Coil,

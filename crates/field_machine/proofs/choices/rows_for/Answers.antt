@@ -1,4 +1,4 @@
-use Rattle.std.proofs.Common.{◌≡◌, drop, sym, ap, ◌∙◌, subst, arith}
+use Rattle.std.proofs.Common.{◌≡◌, sym, ap, ◌∙◌, subst, arith}
 use Rattle.std.specs.Prelude.{IfOk}
 use Rattle.traffic_cop.proofs.DropLemmas.{named_here, named_later, named_none}
 use Rattle.field_runs.specs.Told.{rows_for, rows_in}

@@ -1,7 +1,6 @@
-use Rattle.std.proofs.Common.{◌≡◌, ◌+◌, ◌++◌, List, drop, sym, ap, ◌∙◌, append_assoc, append-nil, arith, ℕ}
+use Rattle.std.proofs.Common.{◌+◌, ◌++◌, List, drop, sym, ap, ◌∙◌, append_assoc, append-nil, arith, ℕ}
 use Rattle.plant_types.specs.declared.network.Cell.{Cell}
 use Rattle.plant_types.specs.declared.network.Network.{Network}
-use Rattle.plant_types.specs.declared.network.Segment.{Segment}
 use Rattle.ladder_solver.specs.declared.places.BlockPlace.{BlockPlace}
 use Rattle.ladder_solver.specs.Edges.{places_by}
 use Rattle.field_machine.specs.Counters.{counters_in}

@@ -1,4 +1,4 @@
-use Rattle.std.proofs.Common.{◌≡◌, ◌+◌, get_or, sym, subst, List}
+use Rattle.std.proofs.Common.{get_or, sym, subst, List}
 use Rattle.grid_compile.specs.declared.grid.Grid.{Grid}
 use Rattle.ladder_solver.specs.Edges.{network_counts, HasEdgeBit}
 use Rattle.ladder_solver.specs.declared.places.BlockPlace.{BlockPlace}

@@ -8,4 +8,5 @@ abbrev pub invariant-loop-flow : goal.invariant-loop-flow
 invariant-loop-flow l =
     string_bytes l.text
     ++ flat_map (network_line l.node) (map (solved_in l.scan l.row) (drop l.flow-index l.flows))
-    ≡ string_bytes l.fn.text ++ flat_map (network_line l.node) (map (solved_in l.scan l.row) l.flows)
+    ≡ string_bytes l.fn.text
+    ++ flat_map (network_line l.node) (map (solved_in l.scan l.row) l.flows)

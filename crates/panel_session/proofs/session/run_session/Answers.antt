@@ -3,7 +3,7 @@ use Rattle.controller_core.specs.declared.fixed.Fixed.{Fixed}
 use Rattle.controller_core.specs.Controller.{ControllerIs, IsLegal, fixed_with, state_of}
 use Rattle.panel_session.specs.Asked.{frame_asked, next_frames}
 use Rattle.panel_session.specs.Serving.{reply_texts, requests_taken, served_entries}
-use Rattle.panel_session.specs.declared.asked.Asked.{Asked}
+use Rattle.panel_session.specs.declared.asked.PortFrame.{PortFrame}
 use Rattle.panel_session.proofs.ScanByScan.{each-once}
 use Rattle.panel_session.proofs.Sessions.{IsInSession, done-goes, ended-history, ended-text}
 use Rattle.panel_session.proofs.Sessions.{first-dropped, first-taken, over-ended, scan-count}
@@ -14,7 +14,7 @@ pub loop-text-init : goal.loop-text-init
 loop-text-init c =
     session-begins _ c.args.stream.now c.in_ok-bench.bench c.as_slice-left.result.now
     c.new-text.result.items c.requires.some c.in_ok-bench.ensures
-    (ap (λ (asked : List Asked). map frame_asked asked) c.as_slice-left.ensures.value
+    (ap (λ (asked : List PortFrame). map frame_asked asked) c.as_slice-left.ensures.value
     ∙ c.in_ok-asked.ensures.frames)
     c.new-text.ensures.items
 
@@ -49,7 +49,7 @@ loop-text-preserved c =
     c.split_at.ensures.front ∙ first-taken asked _ c.min.ensures in
     let back : c.split_at.result.1.now ≡ drop 1 asked =
     c.split_at.ensures.back ∙ first-dropped asked _ c.min.ensures in
-    subst (λ (rest : List Asked). IsInSession
+    subst (λ (rest : List PortFrame). IsInSession
     (fixed_with c.args.plan.now c.args.scan_time c.args.watchdog c.args.scans)
     c.args.stream.now c.serve_all.new.bench rest c.serve_all.new.text.items) (sym back)
     (session-goes-on _ c.args.stream.now c.loop-text.bench asked c.loop-text.text.items
@@ -58,10 +58,10 @@ loop-text-preserved c =
     (c.deref.ensures.value ∙ c.in_ok-line.ensures)
     c.in_ok-serve_all.ensures.fixed
     (c.in_ok-serve_all.ensures.history
-    ∙ ap (λ (asked : List Asked). w.history
+    ∙ ap (λ (asked : List PortFrame). w.history
     ++ served_entries w.fixed (state_of w) (next_frames w.history asked)) front)
     (c.in_ok-serve_all.ensures.text
-    ∙ ap (λ (asked : List Asked). c.extend_from_slice.new.self.items
+    ∙ ap (λ (asked : List PortFrame). c.extend_from_slice.new.self.items
     ++ reply_texts w.fixed (state_of w) (next_frames w.history asked)) front
     ∙ ap (λ (text : List ℕ). text
     ++ reply_texts w.fixed (state_of w) (next_frames w.history (take 1 asked)))

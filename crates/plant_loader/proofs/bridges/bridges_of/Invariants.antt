@@ -1,5 +1,5 @@
 use Rattle.std.proofs.Common.{◌≡◌, ◌+◌, map, drop}
-use Rattle.plant_loader.specs.InOrder.{numbered_from, each_behind}
+use Rattle.plant_tables.specs.InOrder.{numbered_from, each_behind}
 use Rattle.plant_loader.specs.Bridges.{bridge_behind, bridges_of}
 use Rattle.plant_loader.proofs.bridges.bridges_of.Given as goal
 

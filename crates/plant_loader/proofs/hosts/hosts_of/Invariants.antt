@@ -1,6 +1,6 @@
 use Rattle.std.proofs.Common.{◌≡◌, ◌+◌, map, drop}
 use Rattle.toml.specs.View.{table_view}
-use Rattle.plant_loader.specs.InOrder.{numbered_from, each_behind}
+use Rattle.plant_tables.specs.InOrder.{numbered_from, each_behind}
 use Rattle.plant_loader.specs.Hosts.{host_behind, hosts_of}
 use Rattle.plant_loader.proofs.hosts.hosts_of.Given as goal
 

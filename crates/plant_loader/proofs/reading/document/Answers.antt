@@ -1,6 +1,6 @@
 use Rattle.std.proofs.Common.{ap}
 use Rattle.cell_text.specs.Steps.{or_fault}
-use Rattle.plant_loader.specs.Refusals.{bad_toml}
+use Rattle.plant_tables.specs.Refusals.{bad_toml}
 use Rattle.plant_loader.proofs.Documents.{document-no_text, document-text}
 use Rattle.plant_loader.proofs.reading.document.Goals as goal
 

@@ -1,11 +1,11 @@
 use Rattle.std.proofs.Common.{◌≡◌, ◌∙◌, Ok, subst, sym, ap₂, arith}
 use Rattle.std.proofs.lemmas.List.{length-map}
 use Rattle.toml.specs.View.{table_view}
-use Rattle.plant_loader.specs.Given.{table_in, tables_in, texts_in}
-use Rattle.plant_loader.specs.Net.{read_nets}
+use Rattle.plant_tables.specs.Given.{table_in, tables_in, texts_in}
+use Rattle.plant_tables.specs.Net.{read_nets}
 use Rattle.plant_loader.specs.Bridges.{bridges_of}
 use Rattle.plant_loader.specs.Whole.{station_addresses, have_stations}
-use Rattle.plant_loader.proofs.NetLemmas.{AreNets, nets-are}
+use Rattle.plant_tables.proofs.NetLemmas.{AreNets, nets-are}
 use Rattle.plant_loader.proofs.WholeLemmas.{AreParts, controllers-nodes, hosts-nodes, left-nodes}
 use Rattle.plant_loader.proofs.WholeLemmas.{right-nodes}
 use Rattle.plant_loader.proofs.LoadedLemmas.{parts-there}

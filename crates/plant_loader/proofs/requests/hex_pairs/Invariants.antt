@@ -1,6 +1,6 @@
 use Rattle.std.proofs.Common.{◌≡◌, true, ◌++◌, length}
 use Rattle.std.specs.List.{list_all}
-use Rattle.plant_loader.specs.Hex.{is_hex_digit, hex_pairs}
+use Rattle.plant_tables.specs.Hex.{is_hex_digit, hex_pairs}
 use Rattle.plant_loader.proofs.requests.hex_pairs.Given as goal
 
 -- the bytes so far, before those of the digits left

@@ -1,5 +1,5 @@
 use Rattle.std.proofs.Common.{◌≡◌, ◌+◌, map, drop}
-use Rattle.plant_loader.specs.InOrder.{with_front, each_from}
+use Rattle.plant_tables.specs.InOrder.{with_front, each_from}
 use Rattle.plant_loader.specs.Requests.{numbered_request, requests_of}
 use Rattle.plant_loader.proofs.requests.requests_of.Given as goal
 

@@ -1,5 +1,5 @@
 use Rattle.std.proofs.Common.{◌≡◌, ◌+◌, drop}
-use Rattle.plant_loader.specs.InOrder.{each_passes}
+use Rattle.plant_tables.specs.InOrder.{each_passes}
 use Rattle.plant_loader.specs.Whole.{has_station, have_stations}
 use Rattle.plant_loader.proofs.whole.have_stations.Given as goal
 

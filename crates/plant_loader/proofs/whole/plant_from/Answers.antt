@@ -1,9 +1,9 @@
-use Rattle.std.proofs.Common.{◌≡◌, ◌++◌, map, subst, sym, ap, ap₂, ◌∙◌}
+use Rattle.std.proofs.Common.{◌++◌, map, subst, sym, ap₂, ◌∙◌}
 use Rattle.std.specs.List.{AllByRecursion}
 use Rattle.plant_types.specs.Plans.{IsNode}
 use Rattle.plant_loader.specs.declared.addresses.Address.{Address}
-use Rattle.plant_loader.specs.Net.{read_nets}
-use Rattle.plant_loader.specs.Whole.{station_addresses, end_addresses, all_addresses}
+use Rattle.plant_tables.specs.Net.{read_nets}
+use Rattle.plant_loader.specs.Whole.{station_addresses, end_addresses}
 use Rattle.plant_loader.specs.Whole.{nets_by_number}
 use Rattle.plant_loader.proofs.WholeLemmas.{addresses-nodes, ends-nodes, same-made}
 use Rattle.plant_loader.proofs.whole.plant_from.Goals as goal

@@ -1,6 +1,6 @@
 use Rattle.std.proofs.Common.{rules}
 use Rattle.std.proofs.lemmas.List.Sorted.{IsNonDecreasingBy-from_sort_by_key, answers_always}
-use Rattle.plant_loader.specs.declared.net.NetTable.{NetTable}
+use Rattle.plant_tables.specs.declared.net.NetTable.{NetTable}
 use Rattle.plant_loader.proofs.RisingLemmas.{sorted-by_network}
 use Rattle.plant_loader.proofs.whole.tables_by_number.Goals as goal
 

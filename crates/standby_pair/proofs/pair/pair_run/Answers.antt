@@ -9,7 +9,8 @@ use Rattle.hot_standby.specs.Standby.{bench_of, new_standby}
 use Rattle.standby_pair.specs.declared.scanning.ScanMade.{ScanMade}
 use Rattle.standby_pair.specs.declared.sending.Link.{Link}
 use Rattle.standby_pair.specs.Course.{LeavesScans, parts_of, scans_to_come}
-use Rattle.standby_pair.specs.Kept.{FollowEachOther, HasSent, frame_kept, frames_kept, link_to}
+use Rattle.standby_pair.specs.Kept.{FollowEachOther, HasSent, link_to}
+use Rattle.panel_session.specs.Asked.{frame_asked, frames_heard}
 use Rattle.standby_pair.specs.Kept.{parts_history, scan_part, scan_parts}
 use Rattle.standby_pair.specs.Pair.{bench_parts, pieces_text, primary_pieces, switch_line}
 use Rattle.standby_pair.proofs.Ends.{few-there, follow, frames-few, history-whole, later-are}
@@ -20,8 +21,8 @@ use Rattle.standby_pair.proofs.pair.pair_run.Goals as goal
 
 pub primary_scans-requires-clause-few : goal.primary_scans-requires-clause-few
 primary_scans-requires-clause-few c =
-    let heard = ap frames_kept c.deref.ensures.value ∙ c.in_ok-frames.ensures.frames in
-    let count = length-map c.deref.result.now frame_kept in
+    let heard = ap frames_heard c.deref.ensures.value ∙ c.in_ok-frames.ensures.frames in
+    let count = length-map c.deref.result.now frame_asked in
     let few = frames-few c.args.plan.now.node c.args.stream.now in
     omega (arith, count, few, ap length heard, c.requires.short)
 
@@ -32,9 +33,9 @@ send_all-requires-clause-follow c =
     let letters = c.args.fates.now in
     let fail = c.args.fail in
     let some : 1 ≤ c.args.scans = omega (arith, c.requires.fails.0, c.requires.fails.1) in
-    let heard = ap frames_kept c.deref.ensures.value ∙ c.in_ok-frames.ensures.frames in
+    let heard = ap frames_heard c.deref.ensures.value ∙ c.in_ok-frames.ensures.frames in
     let parts = scan_parts c.in_ok-made.made.items in
-    let parts_is = parts-are fixed stream fail parts (frames_kept c.deref.result.now) some heard
+    let parts_is = parts-are fixed stream fail parts (frames_heard c.deref.result.now) some heard
     c.in_ok-made.ensures.parts in
     let link-is = c.of-link.ensures ∙ ap link_to c.in_ok-standby.ensures in
     subst (λ (link : Link). FollowEachOther link.standby.fixed (scan_parts c.deref-2.result.now))
@@ -50,9 +51,9 @@ send_all-requires-clause-begins c =
     let letters = c.args.fates.now in
     let fail = c.args.fail in
     let some : 1 ≤ c.args.scans = omega (arith, c.requires.fails.0, c.requires.fails.1) in
-    let heard = ap frames_kept c.deref.ensures.value ∙ c.in_ok-frames.ensures.frames in
+    let heard = ap frames_heard c.deref.ensures.value ∙ c.in_ok-frames.ensures.frames in
     let parts = scan_parts c.in_ok-made.made.items in
-    let parts_is = parts-are fixed stream fail parts (frames_kept c.deref.result.now) some heard
+    let parts_is = parts-are fixed stream fail parts (frames_heard c.deref.result.now) some heard
     c.in_ok-made.ensures.parts in
     let link-is = c.of-link.ensures ∙ ap link_to c.in_ok-standby.ensures in
     subst (λ (link : Link). HasSent link.standby.fixed letters (scan_parts c.deref-2.result.now) 0
@@ -69,9 +70,9 @@ push_between-requires-clause-from c =
     let letters = c.args.fates.now in
     let fail = c.args.fail in
     let some : 1 ≤ c.args.scans = omega (arith, c.requires.fails.0, c.requires.fails.1) in
-    let heard = ap frames_kept c.deref.ensures.value ∙ c.in_ok-frames.ensures.frames in
+    let heard = ap frames_heard c.deref.ensures.value ∙ c.in_ok-frames.ensures.frames in
     let parts = scan_parts c.in_ok-made.made.items in
-    let parts_is = parts-are fixed stream fail parts (frames_kept c.deref.result.now) some heard
+    let parts_is = parts-are fixed stream fail parts (frames_heard c.deref.result.now) some heard
     c.in_ok-made.ensures.parts in
     let link-is = c.of-link.ensures ∙ ap link_to c.in_ok-standby.ensures in
     let link = c.send_all.new.self in
@@ -100,9 +101,9 @@ push_between-requires-clause-to c =
     let letters = c.args.fates.now in
     let fail = c.args.fail in
     let some : 1 ≤ c.args.scans = omega (arith, c.requires.fails.0, c.requires.fails.1) in
-    let heard = ap frames_kept c.deref.ensures.value ∙ c.in_ok-frames.ensures.frames in
+    let heard = ap frames_heard c.deref.ensures.value ∙ c.in_ok-frames.ensures.frames in
     let parts = scan_parts c.in_ok-made.made.items in
-    let parts_is = parts-are fixed stream fail parts (frames_kept c.deref.result.now) some heard
+    let parts_is = parts-are fixed stream fail parts (frames_heard c.deref.result.now) some heard
     c.in_ok-made.ensures.parts in
     let link-is = c.of-link.ensures ∙ ap link_to c.in_ok-standby.ensures in
     let link = c.send_all.new.self in
@@ -132,9 +133,9 @@ overflow_sub-left c =
     let letters = c.args.fates.now in
     let fail = c.args.fail in
     let some : 1 ≤ c.args.scans = omega (arith, c.requires.fails.0, c.requires.fails.1) in
-    let heard = ap frames_kept c.deref.ensures.value ∙ c.in_ok-frames.ensures.frames in
+    let heard = ap frames_heard c.deref.ensures.value ∙ c.in_ok-frames.ensures.frames in
     let parts = scan_parts c.in_ok-made.made.items in
-    let parts_is = parts-are fixed stream fail parts (frames_kept c.deref.result.now) some heard
+    let parts_is = parts-are fixed stream fail parts (frames_heard c.deref.result.now) some heard
     c.in_ok-made.ensures.parts in
     let link-is = c.of-link.ensures ∙ ap link_to c.in_ok-standby.ensures in
     let link = c.send_all.new.self in
@@ -163,9 +164,9 @@ make_scans-requires-clause-leaves c =
     let letters = c.args.fates.now in
     let fail = c.args.fail in
     let some : 1 ≤ c.args.scans = omega (arith, c.requires.fails.0, c.requires.fails.1) in
-    let heard = ap frames_kept c.deref.ensures.value ∙ c.in_ok-frames.ensures.frames in
+    let heard = ap frames_heard c.deref.ensures.value ∙ c.in_ok-frames.ensures.frames in
     let parts = scan_parts c.in_ok-made.made.items in
-    let parts_is = parts-are fixed stream fail parts (frames_kept c.deref.result.now) some heard
+    let parts_is = parts-are fixed stream fail parts (frames_heard c.deref.result.now) some heard
     c.in_ok-made.ensures.parts in
     let link-is = c.of-link.ensures ∙ ap link_to c.in_ok-standby.ensures in
     let link = c.send_all.new.self in
@@ -188,9 +189,9 @@ make_scans-requires-clause-leaves c =
     let left = c.args.scans - held in
     let bench-is = c.into_bench-bench.ensures ∙ ap bench_of c.into_standby.ensures ∙ at.bench in
     let rest = c.frames_behind-rest.result.now in
-    let rest-is : frames_kept rest ≡ drop held (frames_for fixed.plan.node stream) =
+    let rest-is : frames_heard rest ≡ drop held (frames_for fixed.plan.node stream) =
     c.frames_behind-rest.ensures
-    ∙ ap (drop held) (ap frames_kept c.deref-5.ensures.value ∙ c.in_ok-frames.ensures.frames) in
+    ∙ ap (drop held) (ap frames_heard c.deref-5.ensures.value ∙ c.in_ok-frames.ensures.frames) in
     subst (λ (v : ControllerIs). LeavesScans v left) (sym bench-is)
     (leaves-there fixed stream some fail held at.within)
 
@@ -201,9 +202,9 @@ make_scans-requires-clause-few c = λ goes.
     let letters = c.args.fates.now in
     let fail = c.args.fail in
     let some : 1 ≤ c.args.scans = omega (arith, c.requires.fails.0, c.requires.fails.1) in
-    let heard = ap frames_kept c.deref.ensures.value ∙ c.in_ok-frames.ensures.frames in
+    let heard = ap frames_heard c.deref.ensures.value ∙ c.in_ok-frames.ensures.frames in
     let parts = scan_parts c.in_ok-made.made.items in
-    let parts_is = parts-are fixed stream fail parts (frames_kept c.deref.result.now) some heard
+    let parts_is = parts-are fixed stream fail parts (frames_heard c.deref.result.now) some heard
     c.in_ok-made.ensures.parts in
     let link-is = c.of-link.ensures ∙ ap link_to c.in_ok-standby.ensures in
     let link = c.send_all.new.self in
@@ -226,13 +227,13 @@ make_scans-requires-clause-few c = λ goes.
     let left = c.args.scans - held in
     let bench-is = c.into_bench-bench.ensures ∙ ap bench_of c.into_standby.ensures ∙ at.bench in
     let rest = c.frames_behind-rest.result.now in
-    let rest-is : frames_kept rest ≡ drop held (frames_for fixed.plan.node stream) =
+    let rest-is : frames_heard rest ≡ drop held (frames_for fixed.plan.node stream) =
     c.frames_behind-rest.ensures
-    ∙ ap (drop held) (ap frames_kept c.deref-5.ensures.value ∙ c.in_ok-frames.ensures.frames) in
+    ∙ ap (drop held) (ap frames_heard c.deref-5.ensures.value ∙ c.in_ok-frames.ensures.frames) in
     let few = few-there fixed stream some fail held at.within
     (subst (λ (v : ControllerIs). has_ended v ≡ false) bench-is goes) in
     let same = ap (λ (v : ControllerIs). request_count v.history) bench-is in
-    let count = length-map rest frame_kept in
+    let count = length-map rest frame_asked in
     let most = frames-few c.args.plan.now.node stream in
     omega (arith, few, same, count, ap length rest-is, most, c.requires.short)
 
@@ -243,9 +244,9 @@ returns c =
     let letters = c.args.fates.now in
     let fail = c.args.fail in
     let some : 1 ≤ c.args.scans = omega (arith, c.requires.fails.0, c.requires.fails.1) in
-    let heard = ap frames_kept c.deref.ensures.value ∙ c.in_ok-frames.ensures.frames in
+    let heard = ap frames_heard c.deref.ensures.value ∙ c.in_ok-frames.ensures.frames in
     let parts = scan_parts c.in_ok-made.made.items in
-    let parts_is = parts-are fixed stream fail parts (frames_kept c.deref.result.now) some heard
+    let parts_is = parts-are fixed stream fail parts (frames_heard c.deref.result.now) some heard
     c.in_ok-made.ensures.parts in
     let link-is = c.of-link.ensures ∙ ap link_to c.in_ok-standby.ensures in
     let link = c.send_all.new.self in
@@ -268,14 +269,14 @@ returns c =
     let left = c.args.scans - held in
     let bench-is = c.into_bench-bench.ensures ∙ ap bench_of c.into_standby.ensures ∙ at.bench in
     let rest = c.frames_behind-rest.result.now in
-    let rest-is : frames_kept rest ≡ drop held (frames_for fixed.plan.node stream) =
+    let rest-is : frames_heard rest ≡ drop held (frames_for fixed.plan.node stream) =
     c.frames_behind-rest.ensures
-    ∙ ap (drop held) (ap frames_kept c.deref-5.ensures.value ∙ c.in_ok-frames.ensures.frames) in
+    ∙ ap (drop held) (ap frames_heard c.deref-5.ensures.value ∙ c.in_ok-frames.ensures.frames) in
     let later : scan_parts c.in_ok-later.later.items ≡ drop held (bench_parts fixed stream) =
     c.in_ok-later.ensures.parts
-    ∙ ap (λ (v : ControllerIs). take left (parts_of (scans_to_come v left (frames_kept rest))))
+    ∙ ap (λ (v : ControllerIs). take left (parts_of (scans_to_come v left (frames_heard rest))))
     bench-is
-    ∙ later-are fixed stream some fail held at.within (frames_kept rest) rest-is in
+    ∙ later-are fixed stream some fail held at.within (frames_heard rest) rest-is in
     let bench = c.make_scans.new.bench in
     let history_is = c.in_ok-history.ensures ∙ c.history.ensures.history in
     let same : bench.fixed ≡ fixed =

@@ -4,7 +4,8 @@ use Rattle.controller_core.specs.declared.fixed.Fixed.{Fixed}
 use Rattle.controller_core.specs.Controller.{ControllerIs, IsLegal, fixed_with}
 use Rattle.panel_session.specs.Serving.{request_count}
 use Rattle.standby_pair.specs.Course.{LeavesScans, parts_of, scans_to_come}
-use Rattle.standby_pair.specs.Kept.{frames_kept, parts_history, scan_parts}
+use Rattle.standby_pair.specs.Kept.{parts_history, scan_parts}
+use Rattle.panel_session.specs.Asked.{frames_heard}
 use Rattle.standby_pair.proofs.Courses.{start-leaves}
 use Rattle.standby_pair.proofs.pair.primary_scans.Goals as goal
 
@@ -26,7 +27,7 @@ pub returns-clause-parts : goal.returns-clause-parts
 returns-clause-parts c =
     c.in_ok-made.ensures.parts
     ∙ ap (λ (v : ControllerIs). take c.args.fail (parts_of (scans_to_come v c.args.scans
-    (frames_kept c.args.frames.now)))) c.in_ok-bench.ensures
+    (frames_heard c.args.frames.now)))) c.in_ok-bench.ensures
 
 pub returns-clause-legal : goal.returns-clause-legal
 returns-clause-legal c =

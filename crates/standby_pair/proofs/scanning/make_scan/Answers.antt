@@ -3,9 +3,9 @@ use Rattle.std.specs.List.{list_any}
 use Rattle.controller_core.specs.declared.entry.Entry.{Entry}
 use Rattle.controller_core.specs.declared.fixed.Fixed.{Fixed}
 use Rattle.panel_session.proofs.Sessions.{done-goes, over-ended}
-use Rattle.standby_pair.specs.declared.frames.PortFrame.{PortFrame}
+use Rattle.panel_session.specs.declared.asked.PortFrame.{PortFrame}
 use Rattle.standby_pair.specs.Course.{ends_a_scan}
-use Rattle.standby_pair.specs.Kept.{entries_next, replies_next}
+use Rattle.panel_session.specs.Asked.{entries_to_come, replies_to_come}
 use Rattle.standby_pair.proofs.Making.{fixed-is, in-few, last-is, over-same, same-count, scan-is}
 use Rattle.standby_pair.proofs.Making.{slice-behind}
 use Rattle.standby_pair.proofs.scanning.make_scan.Goals as goal
@@ -50,10 +50,10 @@ returns c =
     (ap (λ (entries : List Entry). not (list_any ends_a_scan entries)) made))
     c.in_ok-replies.ensures.fixed
     (c.in_ok-replies.ensures.history
-    ∙ ap (λ (l : List PortFrame). w.history ++ entries_next w l) c.frames_in.ensures)
+    ∙ ap (λ (l : List PortFrame). w.history ++ entries_to_come w l) c.frames_in.ensures)
     c.in_ok-line.ensures
     (c.in_ok-entries.ensures
     ∙ slice-behind c.history-2.result.now v.history c.serve_frames.new.bench.history
     (length c.history-before.result.now) before c.history-2.ensures.history)
     (c.in_ok-replies.ensures.replies
-    ∙ ap (λ (l : List PortFrame). replies_next w l) c.frames_in.ensures)
+    ∙ ap (λ (l : List PortFrame). replies_to_come w l) c.frames_in.ensures)

@@ -1,5 +1,5 @@
-use Rattle.std.proofs.Common.{rules, ◌++◌, ap, ◌∙◌}
-use Rattle.controller_core.proofs.NextEntry.{conducts_due, due_of, scan_step}
+use Rattle.std.proofs.Common.{rules}
+use Rattle.controller_core.proofs.NextEntry.{due_of, scan_step}
 use Rattle.controller_core.proofs.controller.Controller.follow_step_noting.Goals as goal
 
 pub returns-then-not-is_due-clause-legal : goal.returns-then-not-is_due-clause-legal

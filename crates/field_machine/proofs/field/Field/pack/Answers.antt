@@ -1,12 +1,11 @@
-use Rattle.std.proofs.Common.{◌≡◌, ◌+◌, ◌%◌, ◌++◌, ◌∷◌, [], ℕ, List, sym, ap, subst, ◌∙◌, refl}
+use Rattle.std.proofs.Common.{◌≡◌, ◌%◌, ◌++◌, ◌∷◌, [], ℕ, List, sym, ap, subst, ◌∙◌, refl}
 use Rattle.std.specs.Prelude.{Result, Ok, Err, OnOk}
 use Rattle.grid_compile.specs.declared.grid.Grid.{Grid}
 use Rattle.ladder_solver.specs.declared.places.BlockPlace.{BlockPlace}
 use Rattle.ladder_solver.specs.Edges.{network_counts, HasEdgeBit}
 use Rattle.key_store.specs.Words.{flat_words}
 use Rattle.field_machine.specs.Counters.{Among}
-use Rattle.field_machine.specs.Keys.{edge_words, IsKeyOf}
-use Rattle.field_machine.specs.Work.{work_state}
+use Rattle.field_machine.specs.Keys.{edge_words}
 use Rattle.field_machine.proofs.Counting.{listed-bits}
 use Rattle.field_machine.proofs.States.{words-fit}
 use Rattle.field_machine.proofs.field.Field.pack.Goals as goal

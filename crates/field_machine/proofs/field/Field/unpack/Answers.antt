@@ -1,8 +1,8 @@
-use Rattle.std.proofs.Common.{◌≡◌, ◌+◌, ℕ, true, List, drop, length, replicate, sym, ap, subst, ◌∙◌, refl}
+use Rattle.std.proofs.Common.{◌≡◌, true, List, drop, length, replicate, sym, ap, subst, ◌∙◌}
 use Rattle.std.specs.FinSet.{empty}
 use Rattle.plant_types.specs.Checks.{sizes_of}
 use Rattle.plant_types.specs.Discretes.{discretes_on}
-use Rattle.plant_types.specs.Sizes.{Sizes, cleared, discretes, discretes_of}
+use Rattle.plant_types.specs.Sizes.{Sizes, cleared, discretes_of}
 use Rattle.plant_types.specs.Store.{Keeps}
 use Rattle.state_ram.specs.Packed.{Words, packed_contents, packed_sizes}
 use Rattle.grid_compile.specs.declared.grid.Grid.{Grid}

@@ -1,4 +1,4 @@
-use Rattle.std.proofs.Common.{◌≡◌, ◌+◌, ℕ, List, length, replicate, sym, ap, subst, ◌∙◌, arith}
+use Rattle.std.proofs.Common.{◌≡◌, ◌+◌, length, replicate, sym, ap, subst, ◌∙◌, arith}
 use Rattle.plant_types.specs.Checks.{sizes_of}
 use Rattle.controller_core.specs.Replay.{start}
 use Rattle.key_store.specs.Words.{word_count}

@@ -19,7 +19,8 @@ returns c =
     (λ added. record {
       first = refl;
       texts = told_solve c.args.node c.args.row first c.args.scan c.args.flows.now
-          (map string_bytes items) (map string_bytes (set items at next)) (string_bytes text) from to
+          (map string_bytes items) (map string_bytes (set items at next)) (string_bytes text)
+          from to
           (ap string_bytes c.index_mut-text.ensures.value
           ∙ sym (get_or-map string_bytes items at text (string_bytes text) within))
           (map-set string_bytes items at next ∙ ap (set (map string_bytes items) at) added);

@@ -1,0 +1,11 @@
+pub mod Checked
+pub mod DrivenLemmas
+pub mod PieceSteps
+pub mod KeptLemmas
+pub mod InOrderLemmas
+pub mod ScriptLemmas
+pub mod SegmentLemmas
+pub mod DropLemmas
+pub mod OrderLemmas
+pub mod FailureLemmas
+pub mod ControllerLemmas

@@ -1,0 +1,18 @@
+use Rattle.std.proofs.Common.{◌<◌, length, subst, sym}
+use Rattle.controller_tables.specs.Program.{ReadProgram}
+use Rattle.controller_tables.proofs.KeptLemmas.{KeepsProgram-network}
+use Rattle.controller_tables.proofs.program.Program.with_network.Goals as goal
+
+pub invariant_of-result : goal.invariant_of-result
+invariant_of-result c =
+    let read : ReadProgram = record {
+      count = c.self.inside.count;
+      segments = c.self.inside.segments;
+      networks = c.self.inside.networks;
+      cells = c.self.inside.cells;
+      shorts = c.self.inside.shorts;
+    } in
+    let few = subst (λ (r : ReadProgram). length r.networks < 1000)
+    (sym c.self.view_is) c.requires in
+    rw (c.new.ensures, c.new-2.ensures, c.in_ok-push.ensures.ok) (KeepsProgram-network
+    c.self.inside.driven.keys c.self.inside.labels.keys c.self.inside.messages read few c.self.invariant)

@@ -1,0 +1,11 @@
+pub mod Controller
+pub mod Texts
+pub mod Drops
+pub mod Driven
+pub mod Pieces
+pub mod Orders
+pub mod Program
+pub mod Kept
+pub mod Failures
+pub mod Stations
+pub mod Accepted

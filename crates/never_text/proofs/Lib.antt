@@ -1,0 +1,4 @@
+pub mod OneScan
+pub mod RunLines
+pub mod Stopping
+pub mod Showing

@@ -1,0 +1,9 @@
+pub mod Parts
+pub mod Numbers
+pub mod WireLines
+pub mod LineLemmas
+pub mod PlaceLemmas
+pub mod FlagLemmas
+pub mod PlantLemmas
+pub mod ReadLemmas
+pub mod TestedLemmas

@@ -1,8 +1,0 @@
-use Rattle.plant_loader.proofs.Checked.{with_texts-within}
-use Rattle.plant_loader.proofs.pieces.with_segment_texts.Goals as goal
-
-pub with_segment-requires : goal.with_segment-requires
-with_segment-requires c =
-    let within = with_texts-within c.args.owner _ c.args.program c.in_ok-program.program
-    c.in_ok-program.ensures c.requires.between.cells in
-    rw within.segments c.requires.segments

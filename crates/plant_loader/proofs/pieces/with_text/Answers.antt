@@ -1,9 +1,0 @@
-use Rattle.plant_loader.specs.Pieces.{pieces_of}
-use Rattle.plant_loader.proofs.Checked.{with_pieces-before}
-use Rattle.plant_loader.proofs.pieces.with_text.Goals as goal
-
-pub with_network-requires : goal.with_network-requires
-with_network-requires c =
-    let same = with_pieces-before c.args.owner (pieces_of c.args.text.now) c.args.program
-    c.in_ok-program.program c.in_ok-program.ensures in
-    rw same.networks c.requires

@@ -1,0 +1,9 @@
+pub mod Refusals
+pub mod InOrder
+pub mod Given
+pub mod Keys
+pub mod Tables
+pub mod Net
+pub mod Hex
+pub mod Numerals
+pub mod Routes

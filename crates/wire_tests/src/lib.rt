@@ -1,0 +1,5 @@
+//! Tests of the lines of wires.
+#![tactic(auto)]
+
+#[cfg(test)]
+mod lines;
