@@ -81,12 +81,12 @@ def panel_of(count):
     return [f"{number:05}" for number in range(1, count + 1)]
 
 
-def plain_solver(folder):
-    """The plain solver, built; None where there is no Rust compiler."""
+def plain_solver(folder, source="main"):
+    """The plain solver, or the plain search that uses it, built; None where there is no Rust compiler."""
     if shutil.which("rustc") is None:
         return None
-    program = os.path.join(folder, "plain")
-    source = os.path.join(TOP, "bench/plain/main.rs")
+    program = os.path.join(folder, f"plain_{source}")
+    source = os.path.join(TOP, f"bench/plain/{source}.rs")
     subprocess.run(["rustc", "--edition", "2021", "-O", "-o", program, source], check=True)
     return program
 

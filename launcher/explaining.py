@@ -18,8 +18,12 @@ STEPS = {"module": "modules", "network": "networks", "order": "orders", "request
 OWN_STEPS = {"network": "network", "bridge": "bridges"}
 # How many characters of a line are shown.
 SHOWN = 100
-# A fault of the words and the plant together, and not of the plant file.
-NO_CONTROLLER = (17, "a session of a node without a controller")
+# Places of faults of the words and the plant together, and not of the plant file.
+OF_WORDS = ("session", "never")
+NO_CONTROLLER = (17, "a node without a controller")
+LOSES_POWER, ASKS_OTHERS = (19, "a controller that loses its power"), (19, "a controller with a message block")
+NO_REFERENCE = (20, "a reference that the controller does not have")
+WITH_WORDS = {NO_CONTROLLER, LOSES_POWER, ASKS_OTHERS, NO_REFERENCE}
 NO_NAMES = Names()
 # The faults that may be about a reference: BadRef, BadCell, BadShape, CoilTwice and BadOrder. What they say has no other number of five digits.
 ABOUT_REFERENCES = range(5, 10)
@@ -35,12 +39,12 @@ class Refusal:
     """A line `refused <number> <name> <place>`, and the path of its place."""
 
     def __init__(self, line):
-        found = re.fullmatch(r"refused (\d+) (\w+) (plant|net|session|(?:[a-z]+ \d+ ?)+)\n?", line)
+        found = re.fullmatch(r"refused (\d+) (\w+) (plant|net|session|never|(?:[a-z]+ \d+ ?)+)\n?", line)
         if not found:
             raise ValueError(f"no refusal line: {line!r}")
         self.number, self.name = int(found[1]), found[2]
         self.path, self.what = (("net",) if found[3] == "net" else ()), found[3]
-        if found[3] not in ("plant", "net", "session"):
+        if found[3] not in ("plant", "net", *OF_WORDS):
             words = found[3].split()
             if words[0] in OWN_STEPS:
                 self.path, self.what = (OWN_STEPS[words[0]], int(words[1]) - 1), words[0]
@@ -110,12 +114,30 @@ def told(name, spots, number, fault, finding):
 
 
 def no_controller(plant, refusal):
-    """Why there is no session: no line of the file is at fault."""
+    """Why there is no session, no pair or no search: no line of the file is at fault."""
     nodes = sorted(controller["node"] for controller in plant.document["controller"])
     *others, last = map(str, nodes)
     has = f"controllers at nodes {', '.join(others)} and {last}" if others else f"a controller at node {last}"
     yield f"{refusal.number} {refusal.name}, {NO_CONTROLLER[1]}: the plant has {has}"
     yield f"what to do: {advice()[NO_CONTROLLER].replace('`', '')}"
+
+
+def no_reference(plant, refusal):
+    """Why it cannot be asked what never comes: which coils and inputs there are."""
+    has = [f"controller {table['node']} has coils = {table.get('coils', 0)} and inputs = {table.get('inputs', 0)}" for table in plant.document["controller"]]
+    yield f"{refusal.number} {refusal.name}, {NO_REFERENCE[1]}: {', '.join(has)}"
+    yield f"what to do: {advice()[NO_REFERENCE].replace('`', '')}"
+
+
+def not_alone(plant, node):
+    """What takes a controller its power, or ties it to other nodes. In this refusal a controller is named by its node."""
+    place, table = next((place, table) for place, table in enumerate(plant.document["controller"]) if table["node"] == node)
+    if table.get("power"):
+        return Finding(*LOSES_POWER, f"node {node} has power = {table['power']}", ("controller", place, "power", 0))
+    networks = [(segment, number) for segment, one in enumerate(table["segment"]) for number in range(len(one["networks"]))]
+    pieces = (piece for segment, number in networks for piece in cells.pieces_at(plant, ("controller", place, "segment", segment, "networks", number)))
+    message = next((piece for piece in pieces if piece.name == "MSTR"), None)
+    return message and Finding(*ASKS_OTHERS, f"node {node} asks others, and their answers are not of its field", message)
 
 
 def with_names(plant, refusal, finding, names):
@@ -140,9 +162,12 @@ def explain(name, data, refusal, names=NO_NAMES):
         row = text.split("\n")[line - 1]
         return told(name, [(line, shown(row))], refusal.number, refusal.name, Finding(1, reason, detail))
     plant = Plant(text, tomllib.loads(text), Places(text), schema())
-    if refusal.what == "session":
-        return no_controller(plant, refusal)
-    finding = next((it for it in findings(plant, refusal) if it.fault == refusal.number), None)
+    if refusal.what in OF_WORDS:
+        return no_reference(plant, refusal) if refusal.number == NO_REFERENCE[0] else no_controller(plant, refusal)
+    if refusal.number == LOSES_POWER[0]:
+        finding = not_alone(plant, refusal.path[1] + 1)
+    else:
+        finding = next((it for it in findings(plant, refusal) if it.fault == refusal.number), None)
     if finding is None:
         return []
     spots = [spot_of(plant, spot) for spot in finding.spots]

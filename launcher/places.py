@@ -20,6 +20,8 @@ class Span:
 class Places:
     def __init__(self, text):
         self.text, self.at, self.found, self.counts = text, 0, {(): Span(0, 0, 0)}, {}
+        # Where each table begins, and its path.
+        self.headers = []
         table = ()
         while self.skip() < len(text):
             table = self.header() if text[self.at] == "[" else self.pair(table)
@@ -55,6 +57,7 @@ class Places:
         self.at += 1 + is_array
         span = Span(begin, begin, self.at)
         self.found[path] = span
+        self.headers.append((begin, path))
         # A list of tables, and a table that is only named in the name of another, begin where the first of these does.
         for length in range(1, len(path)):
             self.found.setdefault(path[:length], span)

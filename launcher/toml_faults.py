@@ -103,9 +103,9 @@ def of_mark(row):
     """What a line begins that is no TOML, but the mark of a journal or of a port, or nearly so."""
     mark = row.strip().upper()
     if mark.startswith("%JOURNAL"):
-        return "a journal where none is read", "`run`, `trace` and `live` read a plant alone, and others a journal after a line that is exactly %JOURNAL"
+        return "a journal where none is read", "`run`, `trace`, `live` and `never` read a plant alone, and others a journal after a line that is exactly %JOURNAL"
     if mark.startswith("%SESSION"):
-        return "bytes of a port where none are read", "only `session` reads them, after a line that is exactly %SESSION"
+        return "bytes of a port where none are read", "only `session` and `standby` read them, after a line that is exactly %SESSION"
     return None
 
 

@@ -438,6 +438,17 @@ def try_compare_page(window, folder):
     results.equal("compare: the networks of both", ([True, False], []), (drawn, window.errors()))
 
 
+def try_found(window, folder):
+    """The page of a run that `never` found opens with its last scan, and draws the controller alone."""
+    page = os.path.join(folder, "hoist.html")
+    words = ["never", "4", "00016", os.path.join(TOP, "plants/interlocks/hoist_fault.toml"), "--page", page]
+    done = subprocess.run([program.LAUNCHER, *words], capture_output=True, text=True, check=False)
+    results.equal("a page of what was found", 9, done.returncode)
+    window.open("file://" + page)
+    results.equal("it opens with its last scan", ("2", done.stdout.splitlines()[-1]), (window.field("#scan", "value"), window.text("#panel")))
+    results.equal("its errors", [], window.errors())
+
+
 def try_pages(folder):
     if not browser.installed():
         print("look: pages NOT RUN, since there is no Chromium")
@@ -457,6 +468,7 @@ def try_pages(folder):
         try_eight_rings(window, folder)
         try_own_port(window, folder)
         try_compare_page(window, folder)
+        try_found(window, folder)
     finally:
         window.close()
 

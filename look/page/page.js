@@ -344,7 +344,7 @@ function begin() {
   showChartOf(0);
   listen();
   const wanted = /scan=(\d+)/.exec(location.hash);
-  view.moveTo(wanted ? Number(wanted[1]) : 1);
+  view.moveTo(wanted ? Number(wanted[1]) : data.cursor || 1);
 }
 
 begin();
