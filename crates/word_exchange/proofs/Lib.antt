@@ -4,3 +4,9 @@ pub mod Growing
 pub mod Staying
 pub mod Exchanging
 pub mod Counted
+pub mod TakingRows
+pub mod GivingRows
+pub mod ReadingOn
+pub mod Following
+pub mod Repeating
+pub mod Ruled

@@ -4,3 +4,6 @@ pub mod Refresh
 pub mod Moments
 pub mod Rows
 pub mod Exchange
+pub mod Feeding
+pub mod Running
+pub mod Scripts

@@ -2,6 +2,8 @@
 ghost use Rattle.word_exchange.specs.Exchange.{ExchangesAreCounted, RepetitionsExchange, RowsStay};
 ghost use Rattle.word_exchange.specs.Moments.{RepetitionsGoOn};
 ghost use Rattle.word_exchange.specs.Refresh.{SendingsFollow};
+ghost use Rattle.word_exchange.specs.Running.{ReadersFollow};
+ghost use Rattle.word_exchange.specs.Scripts.{RowsFollowRules};
 
 /// What a wire's from drop sends follows the moments of a run.
 pub fn sendings_follow()
@@ -26,4 +28,14 @@ pub fn repetitions_exchange()
 /// The input exchanges of a drop in a history are those that its controller has counted.
 pub fn exchanges_are_counted()
     ensures { ExchangesAreCounted }
+{}
+
+/// A reader that has read all of a run reads what came to it.
+pub fn readers_follow()
+    ensures { ReadersFollow }
+{}
+
+/// Rows that are fed to a plant come last to the scripts that a rule gives it.
+pub fn rows_follow_rules()
+    ensures { RowsFollowRules }
 {}

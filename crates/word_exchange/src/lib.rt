@@ -3,13 +3,16 @@
 #![tactic(auto)]
 
 mod exchanges;
+mod feeding;
 mod laws;
 mod rows;
+mod running;
 mod sending;
 
 pub use exchanges::{exchanges_among, inputs_a_scan};
 pub use laws::{
-    exchanges_are_counted, repetitions_exchange, repetitions_go_on, rows_stay, sendings_follow,
+    exchanges_are_counted, readers_follow, repetitions_exchange, repetitions_go_on,
+    rows_follow_rules, rows_stay, sendings_follow,
 };
 pub use rows::{own_row, row_made};
 pub use sending::Sending;
