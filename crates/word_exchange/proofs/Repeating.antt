@@ -14,8 +14,8 @@ use Rattle.serial_run.specs.Stations.{log_of, StandsOn}
 use Rattle.serial_feed.specs.Standing.{are_gone, made_by, RepeatedIf, SerialIs, StandsForSome}
 use Rattle.serial_feed.specs.Standing.{Turned}
 use Rattle.word_exchange.specs.declared.running.WireReader.{WireReader}
-use Rattle.word_exchange.specs.Moments.{node_of_log, GoesOn, RepetitionsGoOn}
-use Rattle.word_exchange.specs.Running.{HasRead, HasReadAll, ReadersFollow, ReadsWhatCame}
+use Rattle.word_exchange.specs.Moments.{node_of_log, JointGoesOn, RepetitionsGoOn}
+use Rattle.word_exchange.specs.Running.{HasReadWithin, HasReadAll, ReadersFollow, ReadsWhatCame}
 use Rattle.word_exchange.specs.Words.{entries_of}
 
 same-nodes : (plant : Plant) (scans : ℕ) (rings : List RingStation) (plans : List ControllerPlan)
@@ -29,7 +29,7 @@ same-nodes plant scans rings (p ∷ plans) (s ∷ stations) all =
     let rest = same-nodes plant scans rings plans stations all.1 in
     λ i. here i ∷ rest i
 
-stays-on : (old new : Joint) → new ≡ old → GoesOn old new
+stays-on : (old new : Joint) → new ≡ old → JointGoesOn old new
 stays-on old new same = record {
   nodes = ap (λ (j : Joint). map node_of_log j.controllers) same;
   entries = λ node. ([], ap (entries_of node) same ∙ sym (append-nil (entries_of node old)));
@@ -39,12 +39,12 @@ stays-on old new same = record {
 
 goes-by : RepetitionsGoOn → (plant : Plant) (scans : ℕ) (old new : Joint) (gone : Bool)
     → map node_of_log old.controllers ≡ controller_nodes plant
-    → RepeatedIf gone plant scans old new → GoesOn old new
+    → RepeatedIf gone plant scans old new → JointGoesOn old new
 goes-by go-on plant scans old new true nodes same = stays-on old new same
 goes-by go-on plant scans old new false nodes made = go-on plant scans old new nodes made
 
 turn-goes : RepetitionsGoOn → (old new : SerialIs) (left : Bool) → StandsForSome old
-    → Turned old new left → GoesOn (made_by old) (made_by new)
+    → Turned old new left → JointGoesOn (made_by old) (made_by new)
 turn-goes go-on old new left some turned =
     goes-by go-on some.plant some.scans (made_by old) (made_by new) (are_gone old)
     (same-nodes some.plant some.scans old.run.rings.items some.plant.controllers
@@ -59,5 +59,5 @@ all-came go-on follow old new left readers some turned read k d within =
     (turn-goes go-on old new left some turned)
 
 pub all-have : (old new : SerialIs) (readers : List WireReader)
-    → All (ReadsWhatCame old new) readers → All (HasRead new) readers
+    → All (ReadsWhatCame old new) readers → All (HasReadWithin new) readers
 all-have old new readers came k d within = (came k d within).has

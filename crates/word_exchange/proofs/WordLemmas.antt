@@ -21,7 +21,7 @@ use Rattle.peer_cop.specs.declared.wire.Wire.{Wire}
 use Rattle.peer_cop.specs.Plants.{drop_of, plan_of}
 use Rattle.peer_cop.proofs.PlantLemmas.{named_find}
 use Rattle.word_exchange.specs.declared.sending.Sending.{Sending}
-use Rattle.word_exchange.specs.Refresh.{GoesOnBy, Refreshed, SendingsFollow}
+use Rattle.word_exchange.specs.Refresh.{JointGoesOnBy, Refreshed, SendingsFollow}
 use Rattle.word_exchange.specs.Sendings.{sending_of, words_from, words_if}
 use Rattle.word_exchange.specs.Words.{entries_of, if_passed, is_pass_of, last_output, last_passed}
 use Rattle.word_exchange.specs.Words.{output_to, passes_of, words_in, words_latest}
@@ -198,7 +198,7 @@ module _ (plant : Plant) (before : List Joint) (old new : Joint) (plan : Control
     (drop : IoDrop) (wire : Wire) (entries : List Entry) (ring : List RingEntry) (sending : Sending)
     (has_plan : plan_of plant wire.from ≡ Some plan)
     (has_drop : drop_of plant wire.from wire.from_drop ≡ Some drop)
-    (goes : GoesOnBy plan entries ring old new)
+    (goes : JointGoesOnBy plan entries ring old new)
     (fresh : Refreshed plan entries ring (sending_of plant (before ++ old ∷ []) wire) sending)
   where
     number-is : wire.from_drop ≡ drop.number

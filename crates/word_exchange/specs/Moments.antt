@@ -16,7 +16,7 @@ node_of_log log = log.node
 
 -- A joint history goes on from another one: the list of each controller and that of each ring are
 -- there, and more may have come to them.
-pub record GoesOn (old new : Joint) : Type 0 where
+pub record JointGoesOn (old new : Joint) : Type 0 where
   pub nodes : map node_of_log new.controllers ≡ map node_of_log old.controllers
   pub entries : (node : ℕ)
       → (more : List Entry) × (entries_of node new ≡ entries_of node old ++ more)
@@ -29,4 +29,4 @@ abbrev pub RepetitionsGoOn : Type 0
 RepetitionsGoOn =
     (plant : Plant) (scans : ℕ) (old new : Joint)
     → map node_of_log old.controllers ≡ controller_nodes plant → IsRepetition plant scans old new
-    → GoesOn old new
+    → JointGoesOn old new

@@ -27,7 +27,7 @@ pub record Refreshed (plan : ControllerPlan) (entries : List Entry) (ring : List
 
 -- A joint history goes on from another one: these entries came to the history of a controller, and
 -- these to its ring.
-pub record GoesOnBy (plan : ControllerPlan) (entries : List Entry) (ring : List RingEntry)
+pub record JointGoesOnBy (plan : ControllerPlan) (entries : List Entry) (ring : List RingEntry)
     (old new : Joint) : Type 0 where
   pub entries_are : entries_of plan.node new ≡ entries_of plan.node old ++ entries
   pub ring_is : noted_on plan.network new ≡ noted_on plan.network old ++ ring
@@ -39,6 +39,6 @@ SendingsFollow =
     (plant : Plant) (before : List Joint) (old new : Joint) (plan : ControllerPlan) (drop : IoDrop)
     (wire : Wire) (entries : List Entry) (ring : List RingEntry) (sending : Sending)
     → plan_of plant wire.from ≡ Some plan → drop_of plant wire.from wire.from_drop ≡ Some drop
-    → GoesOnBy plan entries ring old new
+    → JointGoesOnBy plan entries ring old new
     → Refreshed plan entries ring (sending_of plant (before ++ old ∷ []) wire) sending
     → sending ≡ sending_of plant (before ++ old ∷ new ∷ []) wire

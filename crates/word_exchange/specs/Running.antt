@@ -7,8 +7,8 @@ use Rattle.serial_run.specs.Feeding.{history_of}
 use Rattle.serial_run.specs.Stations.{station_ring}
 use Rattle.serial_feed.specs.Standing.{made_by, SerialIs, Turned}
 use Rattle.word_exchange.specs.declared.running.WireReader.{WireReader}
-use Rattle.word_exchange.specs.Moments.{GoesOn}
-use Rattle.word_exchange.specs.Refresh.{GoesOnBy, Refreshed}
+use Rattle.word_exchange.specs.Moments.{JointGoesOn}
+use Rattle.word_exchange.specs.Refresh.{JointGoesOnBy, Refreshed}
 
 -- What the controller of a wire's from drop has noted, and what its ring has.
 abbrev pub entries_now : SerialIs → WireReader → List Entry
@@ -18,7 +18,7 @@ abbrev pub ring_now : SerialIs → WireReader → List RingEntry
 ring_now serial reader = (station_ring serial.run reader.plan.now.network).history
 
 -- What was read of a run is there.
-pub record HasRead (serial : SerialIs) (reader : WireReader) : Type 0 where
+pub record HasReadWithin (serial : SerialIs) (reader : WireReader) : Type 0 where
   pub entries : reader.entries ≤ length (entries_now serial reader)
   pub ring : reader.ring ≤ length (ring_now serial reader)
 
@@ -39,15 +39,15 @@ pub record HasReadAll (serial : SerialIs) (reader : WireReader) : Type 0 where
 -- What was not read yet is what came to the lists of a joint history: those of the from drop's
 -- controller and of its ring.
 pub record ReadsWhatCame (old new : SerialIs) (reader : WireReader) : Type 0 where
-  pub has : HasRead new reader
-  pub came : GoesOnBy reader.plan.now (drop reader.entries (entries_now new reader))
+  pub has : HasReadWithin new reader
+  pub came : JointGoesOnBy reader.plan.now (drop reader.entries (entries_now new reader))
       (drop reader.ring (ring_now new reader)) (made_by old) (made_by new)
 
 -- A reader that has read all reads what came, where the joint history goes on.
 abbrev pub ReadersFollow : Type 0
 ReadersFollow =
     (old new : SerialIs) (reader : WireReader) → HasReadAll old reader
-    → GoesOn (made_by old) (made_by new) → ReadsWhatCame old new reader
+    → JointGoesOn (made_by old) (made_by new) → ReadsWhatCame old new reader
 
 -- A serial run made one repetition, or nothing where all scans were gone, and the readers of all
 -- wires read what came.

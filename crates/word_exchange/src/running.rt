@@ -2,7 +2,7 @@
 ghost use Rattle.std.specs.Prelude.{◌≡◌, IfOk, OnErr, OnOk};
 ghost use Rattle.std.specs.List.{All, AllZip};
 ghost use Rattle.serial_feed.specs.Standing.{StandsForSome};
-ghost use Rattle.word_exchange.specs.Running.{HasRead, HasReadAll, ReadsOn, RepeatedAndRead};
+ghost use Rattle.word_exchange.specs.Running.{HasReadWithin, HasReadAll, ReadsOn, RepeatedAndRead};
 
 use crate::laws::{readers_follow, repetitions_go_on};
 use crate::sending::Sending;
@@ -23,7 +23,7 @@ impl WireReader<'_> {
     /// Reads what a serial run noted since. The only error is that memory ran out; nothing changed
     /// then.
     fn read_on(&mut self, alloc: Global, serial: &Serial) -> Result<(), AllocError>
-        requires { HasRead serial.now self.old }
+        requires { HasReadWithin serial.now self.old }
         ensures ok { OnOk result (ReadsOn serial.now self.old self.new) }
         ensures err { OnErr result (self.new ≡ self.old) }
     {
@@ -45,7 +45,7 @@ pub(crate) fn read_all(
     readers: &mut [WireReader<'_>],
     serial: &Serial,
 ) -> Result<(), AllocError>
-    requires { All (HasRead serial.now) readers.old }
+    requires { All (HasReadWithin serial.now) readers.old }
     ensures { OnOk result (AllZip (ReadsOn serial.now) readers.old readers.new) }
 {
     for at in 0..readers.len() {

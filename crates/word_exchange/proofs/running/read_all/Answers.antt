@@ -1,5 +1,5 @@
 use Rattle.std.proofs.Common.{◌+◌, arith}
-use Rattle.word_exchange.specs.Running.{HasRead, ReadsOn}
+use Rattle.word_exchange.specs.Running.{HasReadWithin, ReadsOn}
 use Rattle.word_exchange.proofs.ReadingOn.{all-changed, item-as, none-changed, one-changed}
 use Rattle.word_exchange.proofs.running.read_all.Goals as goal
 
@@ -8,7 +8,7 @@ loop-at-init c = none-changed (ReadsOn c.args.serial.now) c.args.readers.now
 
 pub read_on-requires : goal.read_on-requires
 read_on-requires c =
-    item-as (ReadsOn c.args.serial.now) (HasRead c.args.serial.now) c.args.readers.now
+    item-as (ReadsOn c.args.serial.now) (HasReadWithin c.args.serial.now) c.args.readers.now
     c.loop-at.readers c.loop-at.at c.index-readers-at.result c.loop-at-test.true c.requires
     c.loop-at.invariant
 
