@@ -5,6 +5,7 @@ import tomllib
 
 import cells
 import reasons
+import wires
 from names import Names
 from places import Places
 from reasons import Finding, Plant
@@ -15,15 +16,18 @@ PAGE = os.path.join(TOP, "docs/guide/REFUSALS.md")
 ROW = re.compile(r"^\| `(\d+ \w+)` \| ([^|]+) \| [^|]+ \| ([^|]+) \|$", re.MULTILINE)
 STEPS = {"module": "modules", "network": "networks", "order": "orders", "request": "requests"}
 # The steps of places that begin so, where a network is one of several.
-OWN_STEPS = {"network": "network", "bridge": "bridges"}
+OWN_STEPS = {"network": "network", "bridge": "bridges", "wire": "wire"}
 # How many characters of a line are shown.
 SHOWN = 100
 # Places of faults of the words and the plant together, and not of the plant file.
-OF_WORDS = ("session", "never")
+OF_WORDS = ("session", "never", "same")
 NO_CONTROLLER = (17, "a node without a controller")
 LOSES_POWER, ASKS_OTHERS = (19, "a controller that loses its power"), (19, "a controller with a message block")
 NO_REFERENCE = (20, "a reference that the controller does not have")
-WITH_WORDS = {NO_CONTROLLER, LOSES_POWER, ASKS_OTHERS, NO_REFERENCE}
+BAD_WIRE = 18
+OTHER_PANEL, OTHER_SCAN_TIME = (21, "panels that differ"), (21, "scan times that differ")
+ONE_DROP, OTHER_MODULES, OTHER_ROWS = (21, "a drop of one of the two alone"), (21, "a drop with other modules"), (21, "a drop with other rows")
+WITH_WORDS = {NO_CONTROLLER, LOSES_POWER, ASKS_OTHERS, NO_REFERENCE, OTHER_PANEL, OTHER_SCAN_TIME, ONE_DROP, OTHER_MODULES, OTHER_ROWS}
 NO_NAMES = Names()
 # The faults that may be about a reference: BadRef, BadCell, BadShape, CoilTwice and BadOrder. What they say has no other number of five digits.
 ABOUT_REFERENCES = range(5, 10)
@@ -39,12 +43,13 @@ class Refusal:
     """A line `refused <number> <name> <place>`, and the path of its place."""
 
     def __init__(self, line):
-        found = re.fullmatch(r"refused (\d+) (\w+) (plant|net|session|never|(?:[a-z]+ \d+ ?)+)\n?", line)
+        found = re.fullmatch(r"refused (\d+) (\w+) (?:new )?(plant|net|session|never|same|panel|scan_time|(?:[a-z]+ \d+ ?)+)\n?", line)
         if not found:
             raise ValueError(f"no refusal line: {line!r}")
+        self.is_new = " new " in line
         self.number, self.name = int(found[1]), found[2]
         self.path, self.what = (("net",) if found[3] == "net" else ()), found[3]
-        if found[3] not in ("plant", "net", *OF_WORDS):
+        if found[3] not in ("plant", "net", "panel", "scan_time", *OF_WORDS):
             words = found[3].split()
             if words[0] in OWN_STEPS:
                 self.path, self.what = (OWN_STEPS[words[0]], int(words[1]) - 1), words[0]
@@ -101,12 +106,12 @@ def spot_of(plant, spot):
     return plant.places.line_at(span.key), shown(plant.text[span.key : span.end])
 
 
-def told(name, spots, number, fault, finding):
-    """The lines that explain."""
+def told(name, spots, number, fault, finding, other=""):
+    """The lines that explain. What a spot is against stands in the same file, or in another one."""
     (line, text), *others = spots
     yield f"{name} line {line}: {text}"
     for line, text in others:
-        yield f"  against line {line}: {text}"
+        yield f"  against {other}{' ' if other else ''}line {line}: {text}"
     yield f"{number} {fault}, {finding.reason}: {finding.detail}"
     words = advice().get((number, finding.reason))
     if words:
@@ -114,11 +119,12 @@ def told(name, spots, number, fault, finding):
 
 
 def no_controller(plant, refusal):
-    """Why there is no session, no pair or no search: no line of the file is at fault."""
+    """Why there is no session, no standby or no search: no line of the file is at fault."""
     nodes = sorted(controller["node"] for controller in plant.document["controller"])
     *others, last = map(str, nodes)
     has = f"controllers at nodes {', '.join(others)} and {last}" if others else f"a controller at node {last}"
-    yield f"{refusal.number} {refusal.name}, {NO_CONTROLLER[1]}: the plant has {has}"
+    which = {"same": "new plant" if refusal.is_new else "old plant"}.get(refusal.what, "plant")
+    yield f"{refusal.number} {refusal.name}, {NO_CONTROLLER[1]}: the {which} has {has}"
     yield f"what to do: {advice()[NO_CONTROLLER].replace('`', '')}"
 
 
@@ -147,8 +153,23 @@ def with_names(plant, refusal, finding, names):
     return names.in_text(plant.at(refusal.path[:2]).get("node"), finding.detail)
 
 
-def explain(name, data, refusal, names=NO_NAMES):
-    """The lines that explain the refusal of a file's bytes; none where these tests find nothing wrong there."""
+def of_wire(name, data, refusal, own_file):
+    """The lines that explain the refusal of a wire, after a plant or in a file of their own."""
+    plant, lines = wires.cut(data)
+    finding = wires.finding_of(tomllib.loads(plant.decode()), lines or b"", refusal.path[1] + 1)
+    if finding is None:
+        return []
+    rows = [row.decode(errors="replace") for row in (lines or b"").split(b"\n")]
+    before = 0 if own_file else plant.count(b"\n") + 1
+    # What stands at the end of a wire may be what is wrong with it.
+    spots = [(before + spot, seen(rows[spot - 1][:SHOWN]) + " .." * (len(rows[spot - 1]) > SHOWN)) for spot in finding.spots]
+    return told(own_file or name, spots, refusal.number, refusal.name, finding)
+
+
+def explain(name, data, refusal, names=NO_NAMES, own_file=None):
+    """The lines that explain the refusal of a file's bytes; none where these tests find nothing wrong there. Wires may stand in a file of their own."""
+    if refusal.number == BAD_WIRE:
+        return of_wire(name, data, refusal, own_file)
     try:
         text = data.decode()
     except UnicodeDecodeError as error:

@@ -6,6 +6,9 @@ import tomllib
 from elements import words_of
 from places import Places
 
+# The line between two plants.
+MARK = b"%NEW\n"
+BETWEEN = re.compile(rb"^%NEW(?:\n|\Z)", re.MULTILINE)
 MOST_ROWS = 10000
 INPUTS_OF_A_MODULE = 16
 # How many rows stand in a line of a script that is written here.
@@ -14,6 +17,12 @@ ROWS_A_LINE = 8
 
 class FieldFault(Exception):
     """What is wrong with the inputs that were named."""
+
+
+def two_plants(data):
+    """The old plant of an input, and the new one, which begins behind the first line that is exactly %NEW."""
+    mark = BETWEEN.search(data)
+    return (data[: mark.start()], data[mark.end() :]) if mark else (data, b"")
 
 
 def inputs_of(words):

@@ -100,12 +100,16 @@ def wrong_header(text):
 
 
 def of_mark(row):
-    """What a line begins that is no TOML, but the mark of a journal or of a port, or nearly so."""
+    """What a line begins that is no TOML, but the mark of a journal, of a port, of wires or of a second plant, or nearly so."""
     mark = row.strip().upper()
     if mark.startswith("%JOURNAL"):
-        return "a journal where none is read", "`run`, `trace`, `live` and `never` read a plant alone, and others a journal after a line that is exactly %JOURNAL"
+        return "a journal where none is read", "`run`, `trace`, `live`, `never` and `same` read no journal, and others a journal after a line that is exactly %JOURNAL"
     if mark.startswith("%SESSION"):
         return "bytes of a port where none are read", "only `session` and `standby` read them, after a line that is exactly %SESSION"
+    if mark.startswith("%COP"):
+        return "wires where none are read", "only `cop` reads them, after a line that is exactly %COP"
+    if mark.startswith("%NEW"):
+        return "a second plant where none is read", "only `same` reads two, the second after a line that is exactly %NEW"
     return None
 
 

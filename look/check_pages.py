@@ -449,6 +449,20 @@ def try_found(window, folder):
     results.equal("its errors", [], window.errors())
 
 
+def try_apart(window, folder):
+    """The page of the runs that `same` found has both, and opens with their last scan."""
+    page = os.path.join(folder, "turns.html")
+    files = [os.path.join(TOP, f"plants/rewrites/turns_{side}.toml") for side in ("old", "new")]
+    words = ["same", "6", *files, "--any", "10001-10003", "--page", page]
+    done = subprocess.run([program.LAUNCHER, *words], capture_output=True, text=True, check=False)
+    results.equal("a page of what tells two apart", 9, done.returncode)
+    window.open("file://" + page)
+    old, new = done.stdout.splitlines()[-2:]
+    shown = [line for line in window.text("#panel").splitlines() if line.startswith("S ")]
+    results.equal("it opens with the scan that does", ("3", [old, new]), (window.field("#scan", "value"), shown))
+    results.equal("its errors too", [], window.errors())
+
+
 def try_pages(folder):
     if not browser.installed():
         print("look: pages NOT RUN, since there is no Chromium")
@@ -469,6 +483,7 @@ def try_pages(folder):
         try_own_port(window, folder)
         try_compare_page(window, folder)
         try_found(window, folder)
+        try_apart(window, folder)
     finally:
         window.close()
 

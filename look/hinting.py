@@ -344,9 +344,14 @@ def lost_way(plant, node, route, asks_registers):
     return plant.lost_on(node, route)
 
 
-def hints_of(plant):
+def checks_of(plant):
+    """The hints of each controller of a plant, which know who reads and who writes there."""
+    return [ControllerHints(one, plant) for one in plant.controllers]
+
+
+def hints_of(plant, checks=None):
     """All hints of a plant, by line."""
-    checks = [ControllerHints(one, plant) for one in plant.controllers]
+    checks = checks or checks_of(plant)
     found = []
     for check in checks:
         found += check.all([other for other in checks if other is not check])

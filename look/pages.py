@@ -7,6 +7,7 @@ import ladder
 import journal as journals
 import modbus
 import packing
+import wires as lines_of_wires
 
 FOLDER = os.path.join(os.path.dirname(os.path.abspath(__file__)), "page")
 SCRIPTS = ("reading.js", "names.js", "layout.js", "timing.js", "messages.js", "web.js", "flow.js", "networks.js", "page.js")
@@ -106,6 +107,20 @@ def places_of(one):
             does = "drives" if kind in ("in", "inw") else "reads"
             found.append(place(first, size, does, module, f"drop {drop['number']}"))
     return found
+
+
+def wires_at(one, wires):
+    """The references of a controller that wires reach or take, as places."""
+    tables = {table["number"]: table for table in one.table.get("drop", [])}
+    for wire in wires:
+        if wire.node == one.node:
+            at = f"wire {wire.line}, from drop {wire.from_drop} of node {wire.source}"
+            for first, count in lines_of_wires.input_words(tables[wire.drop])[wire.word - 1 :][: wire.count]:
+                yield place(first, count, "drives", wire.text, at)
+        if wire.source == one.node:
+            at = f"wire {wire.line}, to drop {wire.drop} of node {wire.node}"
+            for first, count in lines_of_wires.output_words(tables[wire.from_drop])[wire.from_word - 1 :][: wire.count]:
+                yield place(first, count, "reads", wire.text, at)
 
 
 def requests_at(node, calls):
@@ -214,8 +229,8 @@ def names_data(plant, names):
     return {node: of_node for node, of_node in data.items() if of_node}
 
 
-def plant_data(plant, names):
-    controllers = [controller_data(one, places_of(one)) for one in plant.controllers]
+def plant_data(plant, names, wires=()):
+    controllers = [controller_data(one, places_of(one) + list(wires_at(one, wires))) for one in plant.controllers]
     head = []
     for line, text in plant.comments:
         if line != len(head) + 1:

@@ -5,10 +5,12 @@ import signal
 import subprocess
 import sys
 from concurrent.futures import ThreadPoolExecutor
+from dataclasses import dataclass
 
 TOP = os.path.dirname(os.path.dirname(os.path.abspath(__file__)))
 sys.path.append(os.path.join(TOP, "launcher"))
 import journal as journals  # noqa: E402
+import wires  # noqa: E402
 from names import names_beside, names_for  # noqa: E402, F401
 from output import WRITE_FAULT, end_unread, named, say, write  # noqa: E402, F401
 
@@ -110,6 +112,34 @@ def add_values(plant, scans, panel, others, journal_text=None, told=None):
 def read_file(name):
     with open(name, "rb") as file:
         return file.read()
+
+
+@dataclass(frozen=True)
+class Wired:
+    """The wires of a plant, and the file in which they stand, after so many lines of it."""
+
+    wires: list
+    file: str
+    before: int
+
+
+def plant_and_wires(file, data):
+    """The plant in the bytes of a file, and its wires, which stand after it or in the file beside it; None where there are none. Where the program
+    refuses them, or the plant, it does so here."""
+    found = wires.wires_for(file, data)
+    if found is None:
+        return data, None
+    lines, where, before = found
+    if where == file:
+        call(["cop", "1"], data, file)
+    elif "PLANT984_PROGRAM" in os.environ:
+        call(["cop", "1"], b"\n".join([data.rstrip(b"\n"), b"%COP", lines]))
+    else:
+        # So the launcher can show the lines of both files.
+        status, out = ended([LAUNCHER, *(["--unproved"] if UNPROVED else []), "cop", "1", file, where], subprocess.DEVNULL)
+        if status != 0:
+            raise ProgramEnd(status, out.decode(errors="replace"))
+    return wires.cut(data)[0], Wired(wires.read_wires(lines), where, before)
 
 
 def end_with(error):

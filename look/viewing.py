@@ -1,20 +1,25 @@
 """Runs that are looked at: that of a plant, or those that journals tell, as a page draws them. All values come from the program."""
+import itertools
+
 import flow
 import journal as journals
 import pages
 import pairs
 import plantfile
 import program
+import wiring
 
 ILLEGAL = 7
 # What is done for a page of a plant's run, step by step.
 STEPS = ("runs the plant", "reads the plant", "runs it again for the values that no panel shows", "reads what ran", "asks where power flowed", "makes the page")
 
 
-def run_of_trace(scans, plant, data, journal_text, panel, progress):
-    program.all_values(plant, scans, panel, told=progress.done)
+def run_of_trace(scans, plant, data, journal_text, panel, progress, wired=None):
+    # Where there are wires, what runs is the plant that has the rows that they bring.
+    program.all_values(plantfile.read_plant(data) if wired else plant, scans, panel, told=progress.done)
     progress.next()
-    run = Looked(f"trace {scans}", plant, panel, "legal", journals.read_journal(journal_text), scans)
+    name = f"cop {scans}, with {program.shown(wired.file)}" if wired else f"trace {scans}"
+    run = Looked(name, plant, panel, "legal", journals.read_journal(journal_text), scans)
     progress.next()
     run.data["flow"] = flow.for_page(plant, scans, data)
     return run
@@ -68,17 +73,35 @@ def run_of_journal(scans, plant, data, name, serial_text):
     return run
 
 
+def traced(scans, file, data, wired, told=None):
+    """The plant that is run for so many scans, with wires that which has the rows that they bring, and its trace; `told` hears of each run."""
+    words = ["trace", str(scans)]
+    if not wired:
+        return data, program.call(words, data, file)
+    tries = wiring.Exchange(data, wired.wires).tries(scans)
+    due = next(tries)
+    for count in itertools.count(1):
+        if told:
+            told(count, scans + 1)
+        text = program.call(words, due)
+        try:
+            due = tries.send(text)
+        except StopIteration as end:
+            return end.value, text
+
+
 def read_runs(scans, file, journal_names, progress):
-    """The plant, and the runs that are looked at."""
+    """The plant, its wires or None, and the runs that are looked at."""
     # The serial run comes first: a refused plant is refused here, before anything is read of it.
-    data = program.read_file(file)
-    journal_text, panel_text = journals.split_trace(program.call(["trace", str(scans)], data, file))
+    data, wired = program.plant_and_wires(file, program.read_file(file))
+    due, text = traced(scans, None if wired else file, data, None if journal_names else wired, progress.done)
+    journal_text, panel_text = journals.split_trace(text)
     progress.next()
     plant = plantfile.read_plant(data)
     progress.next()
     if not journal_names:
-        return plant, [run_of_trace(scans, plant, data, journal_text, journals.read_panel(panel_text), progress)]
-    return plant, [run_of_journal(scans, plant, data, name, journal_text) for name in journal_names]
+        return plant, wired, [run_of_trace(scans, plant, due, journal_text, journals.read_panel(panel_text), progress, wired)]
+    return plant, None, [run_of_journal(scans, plant, data, name, journal_text) for name in journal_names]
 
 
 def page_of_run(scans, title, plant, names, run, cursor):

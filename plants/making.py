@@ -1,4 +1,6 @@
 """Makes plants of one controller at random: networks of relays, shorts, timers, counters, sums, skips and subroutines."""
+import re
+
 DRIVEN, COILS, INPUTS, REGISTERS, LABELS = 16, 64, 16, 32, 3
 
 
@@ -171,3 +173,146 @@ def searched(chance):
     for networks in [*segments, *([routines] if has_routines else [])]:
         lines += ["[[controller.segment]]", "networks = ["] + [f'"{text}",' for text in networks] + ["]"]
     return ("\n".join(lines) + "\n").encode()
+
+
+# Changes of such a plant: some that no panel shows, and some that one shows after a while.
+
+
+def changed_once(chance, pattern, change, text):
+    """A text in which one piece of a form, if there is any, is another."""
+    found = list(re.finditer(pattern, text, re.M))
+    if not found:
+        return text
+    one = chance.choice(found)
+    return text[: one.start()] + change(one) + text[one.end() :]
+
+
+def other(chance, words, one):
+    """One of some words that is not this one."""
+    return chance.choice([word for word in words if word != one])
+
+
+def with_rows_moved(chance, text):
+    """A script with its rows in another order, and some twice."""
+
+    def moved(found):
+        rows = [row.swapcase() if "X" not in row else row for row in found[1].split(", ")]
+        rows += chance.sample(rows, chance.randint(0, 1))
+        chance.shuffle(rows)
+        return f"script = [{', '.join(rows)}]"
+
+    return changed_once(chance, r'^script = \[(".*")\]$', moved, text)
+
+
+def with_coil_renamed(chance, text):
+    number = chance.randint(3, SEARCHED_COILS)
+    return text.replace(f"0000{number}", f"0001{number - 3}")
+
+
+def with_registers_swapped(chance, text):
+    one, two = chance.sample(range(2, SEARCHED_REGISTERS + 1), 2)
+    return text.replace(f"4000{one}", "4xxxx").replace(f"4000{two}", f"4000{one}").replace("4xxxx", f"4000{two}")
+
+
+def with_networks_swapped(chance, text):
+    return changed_once(chance, r'^(".*",)\n(".*",)$', lambda found: f"{found[2]}\n{found[1]}", text)
+
+
+def with_contact_changed(chance, text):
+    return changed_once(chance, r"\b(NO|NC|PT|NT)\b", lambda found: other(chance, ("NO", "NC", "PT", "NT"), found[1]), text)
+
+
+def with_number_changed(chance, text):
+    return changed_once(chance, r"\b(UCTR|DCTR|T1\.0|T0\.1|T\.01|SKP) ([1-3])", lambda found: f"{found[1]} {other(chance, '123', found[2])}", text)
+
+
+def with_contact_negated_twice(chance, text):
+    """A contact in the place of which a coil of its own has the opposite, below the networks or above them."""
+    names = []
+
+    def negated(found):
+        names.append(found[2])
+        return f"{'NC' if found[1] == 'NO' else 'NO'} 00009"
+
+    text = changed_once(chance, r"\b(NO|NC) ([01]\d{4})", negated, text)
+    if not names or "CO 00009" in text:
+        return text
+    network = f'"1,1 NC {names[0]}; 1,2 CO 00009",'
+    place = chance.choice((r"^networks = \[$", r'^networks = \[$(?=\n".*",\n\])'))
+    return changed_once(chance, place, lambda found: f"{found[0]}\n{network}", text)
+
+
+def with_network_added(chance, text):
+    return changed_once(chance, r"^networks = \[$", lambda found: f'{found[0]}\n"1,1 H",', text)
+
+
+def with_watchdog_changed(chance, text):
+    return changed_once(chance, r"^watchdog = (\d+)$", lambda found: f"watchdog = {other(chance, (6, 8, 10, 500), int(found[1]))}", text)
+
+
+def with_order_changed(chance, text):
+    """A row of the order of solve more, one less, or one that reads another drop."""
+
+    def changed(found):
+        rows = found[1].split(", ")
+        place = chance.randrange(len(rows))
+        words = rows[place].strip('"').split()
+        kind = chance.random()
+        if kind < 0.3 and len(rows) > 1:
+            del rows[place]
+        elif kind < 0.5:
+            rows.insert(chance.randint(0, len(rows)), rows[place])
+        else:
+            numbers = re.findall(r"^number = (\d+)$", text, re.M)
+            rows[place] = f'"{words[0]} {words[1]} {other(chance, [*numbers, "-"], words[2])} {words[3]}"'
+        return f"orders = [{', '.join(rows)}]"
+
+    return changed_once(chance, r"^orders = \[(.*)\]$", changed, text)
+
+
+# None of these is seen in a panel but for a stop by the watchdog, or a value from before.
+UNSEEN = (with_rows_moved, with_coil_renamed, with_registers_swapped, with_network_added, with_contact_negated_twice)
+SEEN = (with_networks_swapped, with_contact_changed, with_number_changed, with_watchdog_changed, with_order_changed)
+
+
+def rewritten(chance, data):
+    """A plant with some of these changes."""
+    text = data.decode()
+    for _ in range(chance.randint(0, 3)):
+        text = chance.choice(UNSEEN)(chance, text)
+    for _ in range(chance.randint(1, 4)):
+        text = chance.choice(SEEN)(chance, text)
+    return text.encode()
+
+
+def two(chance):
+    """A plant and a change of it. In one of two the panel tells of the last of some steps, which may take several scans."""
+    old = searched(chance)
+    if chance.random() < 0.5:
+        return old, rewritten(chance, old)
+    # The last of some steps is shown, in the new one alone: 00007 is never on.
+    steps = searched_steps(chance, ["00017", "00018", "00019"])
+    last = re.search(r"CO (\d+)", steps[0])[1] if steps else searched_discrete(chance)
+    text = re.sub(r"^panel = .*$", 'panel = ["00008"]', old.decode().replace("coils = 16", "coils = 32"), flags=re.M)
+    lines = [[*steps, f"1,1 NO {last}; 1,2 {contact} 00007; 1,3 CO 00008"] for contact in ("NO", "NC")]
+    old, new = [text.replace("networks = [\n", "networks = [\n" + "".join(f'"{line}",\n' for line in networks), 1) for networks in lines]
+    for _ in range(chance.randint(0, 2)):
+        new = chance.choice(UNSEEN)(chance, new)
+    return old.encode(), new.encode()
+
+
+def unlike(chance, data):
+    """A plant that no field can be brought to beside another one, or that can after all."""
+    text = data.decode()
+    for _ in range(chance.randint(1, 2)):
+        pattern, change = chance.choice((
+            (r"^scan_time = (\d+)$", lambda found: f"scan_time = {other(chance, (10, 50, 100), int(found[1]))}"),
+            (r'^panel = \["00001", ', lambda found: "panel = ["),
+            (r'^modules = \["in (\d+)", ', lambda found: f'modules = ["in {found[1]}", "out 00001", '),
+            (r"^modules = .*", lambda found: f"{found[0]} # its field"),
+            (r'^script = \["[^"]*"(, )?', lambda found: "script = ["),
+            (r"^script = \[\]$", lambda found: 'script = ["0000"]'),
+            (r"^script = \[", lambda found: f'script = ["{chance.choice(("X", "0000", "E000"))}"' + ", "),
+        ))
+        text = changed_once(chance, pattern, change, text)
+    return text.encode()

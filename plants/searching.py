@@ -1,9 +1,10 @@
 """Searches all runs of a controller's field in plain Python, for `plants/never`: states in breadth, each made by a walk over the ladder (plants/walking.py).
+And all runs of two controllers in one field, for `plants/same`.
 
 A state is what no scan tells from another: the references, the edge bits, the stop code and the clock modulo 100 ticks.
 """
 import itertools
-from collections import deque
+from collections import Counter, deque
 
 import walking
 
@@ -110,3 +111,127 @@ class Field:
             return f"holds {count}{f' to {depth}' if depth else ''}\n"
         lines = [f"I {scan} {drop} {row}" for scan, way in enumerate(ways, 1) for drop, row in self.exchanges(way)]
         return "\n".join([f"fails {len(ways)}", *lines, *self.panel(ways)]) + "\n"
+
+
+class Pair:
+    """Two controllers that run side by side in one field: at each scan the j-th exchange of a drop in that scan brings both the same row."""
+
+    def __init__(self, old, new, node):
+        self.old, self.new = Field(old, node), Field(new, node)
+        # The exchanges of a scan, a drop and j: those of the old one in their order, and then those that the new one has beside them.
+        own = numbered(self.old.drops)
+        self.slots = own + [slot for slot in numbered(self.new.drops) if slot not in own]
+        rows = {drop: brought(self.old, drop) for drop, _ in self.slots}
+        turned = [range(1, len(rows[drop]) + 1) for drop, _ in reversed(self.slots)]
+        self.ways = [way[::-1] for way in itertools.product(*turned)]
+        # The row of the new script that brings what a row of the old one does.
+        there = {drop: {row: place for place, row in enumerate(brought(self.new, drop), 1)} for drop in rows}
+        self.turned = {(drop, place): there[drop][row] for drop in rows for place, row in enumerate(rows[drop], 1)}
+
+    @property
+    def start(self):
+        return (self.old.start, self.new.start)
+
+    def exchanges(self, way):
+        """The input exchanges of a scan in which the field brings these rows: drop and row of the old script."""
+        return [(drop, row) for (drop, _), row in zip(self.slots, way)]
+
+    def ways_of(self, way):
+        """What that brings each of the two, for each row of its order of solve."""
+        told = dict(zip(self.slots, way))
+        old, new = iter(numbered(self.old.drops)), iter(numbered(self.new.drops))
+        left = tuple(1 if drop is None else told[next(old)] for drop in self.old.drops)
+        right = tuple(1 if drop is None else self.turned[drop, told[next(new)]] for drop in self.new.drops)
+        return left, right
+
+    def next(self, pair, way):
+        left, right = self.ways_of(way)
+        return (self.old.next(pair[0], left), self.new.next(pair[1], right))
+
+    def is_so(self, pair):
+        """Whether the panel lines of the scan that ended so differ."""
+        return shown(self.old.one, pair[0]) != shown(self.new.one, pair[1])
+
+    def search(self, depth=None, most=SCANS):
+        """How many pairs of states there are, and None; or None, and the ways of the first scans after which the panel lines differ, as few as there are."""
+        found = {self.start: (None, None, 0)}
+        queue = deque(found)
+        while queue:
+            pair = queue.popleft()
+            if self.is_so(pair):
+                return None, self.old.path_to(pair, found)
+            after = found[pair][2] + 1
+            # Where one has stopped both have, and nothing comes any more.
+            if pair[0][1] or depth is not None and after > depth:
+                continue
+            for way in self.ways:
+                new = self.next(pair, way)
+                if new not in found:
+                    found[new] = (pair, way, after)
+                    queue.append(new)
+            most -= len(self.ways)
+            if most < 0:
+                raise TooMany
+        return len(found), None
+
+    def panels(self, ways):
+        """Both panel lines of the last of these scans, the old one's first."""
+        pair = self.start
+        for way in ways:
+            pair = self.next(pair, way)
+        sides = zip((self.old.one, self.new.one), pair)
+        return [" ".join([f"S {len(ways)} N {one.node}", *shown(one, state)]) for one, state in sides]
+
+    def text(self, depth=None):
+        """What is due, where the rows of a run are those that are found first."""
+        count, ways = self.search(depth)
+        if ways is None:
+            return f"holds {count}{f' to {depth}' if depth else ''}\n"
+        lines = [f"I {scan} {drop} {row}" for scan, way in enumerate(ways, 1) for drop, row in self.exchanges(way)]
+        return "\n".join([f"fails {len(ways)}", *lines, *self.panels(ways)]) + "\n"
+
+
+def numbered(drops):
+    """The exchanges of a scan: each drop that is read, and for which time in that scan."""
+    times = Counter()
+    found = []
+    for drop in drops:
+        if drop is not None:
+            times[drop] += 1
+            found.append((drop, times[drop]))
+    return found
+
+
+def brought(field, number):
+    """What each row of a drop's script brings, as words."""
+    return rows_of(field.walk.drops[number])
+
+
+def rows_of(drop):
+    """The rows of a script, as words; an empty one is one row of zeros."""
+    size = sum(1 if kind == "in" else int(more[0]) for kind, _, *more in map(walking.words_of, drop["modules"]) if kind in ("in", "inw"))
+    return [tuple(word.upper() for word in walking.words_of(row)) for row in drop.get("script") or [" ".join(["0000"] * size)]]
+
+
+def difference(old, new, node):
+    """The first thing in which two controllers differ so that no field can be that of both, as the place of a refusal, or None."""
+    sides = [(plant, plant.controller(node)) for plant in (old, new)]
+    if sides[0][1].panel != sides[1][1].panel:
+        return "panel"
+    times = [plant.document.get("scan_time", 10) for plant, _ in sides]
+    if times[0] != times[1]:
+        return "scan_time"
+    drops = [{drop["number"]: takes(drop) for drop in one.table.get("drop", [])} for _, one in sides]
+    numbers = [number for number in sorted({*drops[0], *drops[1]}) if drops[0].get(number) != drops[1].get(number)]
+    return f"drop {numbers[0]}" if numbers else None
+
+
+def takes(drop):
+    """What a drop takes: its modules in their order, and its rows in any order, however often."""
+    return [tuple(walking.words_of(module)) for module in drop["modules"]], set(rows_of(drop))
+
+
+def shown(one, state):
+    """What a panel line shows of a state."""
+    values = dict(state[3])
+    return ["STOP 1"] if state[1] else [f"{name}={values.get(int(name), 0)}" for name in one.panel]

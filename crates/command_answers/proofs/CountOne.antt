@@ -4,7 +4,7 @@ use Rattle.controller_core.specs.declared.fixed.Fixed.{Fixed}
 use Rattle.controller_core.specs.Replay.{ControllerState}
 use Rattle.field_runs.specs.Alike.{IsAlike}
 use Rattle.field_machine.specs.Never.{IsNeverSo, state_of_run}
-use Rattle.command_answers.proofs.AsMany.{Each, no-longer}
+use Rattle.field_pair.proofs.AsMany.{Each, no-longer}
 
 alike-back : (s t : ControllerState) → IsAlike s t → IsAlike t s
 alike-back s t alike = record {

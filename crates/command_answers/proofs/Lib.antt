@@ -3,5 +3,5 @@ mod OneDue
 mod Runs
 mod Written
 mod PlanAt
-mod AsMany
 mod CountOne
+mod OneWired

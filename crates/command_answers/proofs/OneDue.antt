@@ -26,31 +26,42 @@ use Rattle.joint_law.specs.Spots.{IsSpot}
 use Rattle.joint_law.specs.declared.verdict.Spot.{Spot}
 use Rattle.joint_law.specs.declared.verdict.Verdict.TheVariants.{Legal, Illegal}
 use Rattle.one_run.specs.OneRun.{IsRunOf, OneSerialRun}
+use Rattle.panel_text.specs.Panel.{panel}
+use Rattle.peer_cop.specs.declared.wire.Wire.{Wire}
+use Rattle.peer_cop.specs.Lines.{lines_of}
+use Rattle.peer_cop.specs.Tested.{TestedPlantsCanBeWired}
+use Rattle.one_exchange.specs.OneExchange.{IsExchangeRun, OneExchange}
 use Rattle.summary_text.specs.Summary.{summary}
 use Rattle.flow_text.specs.Power.{flow}
 use Rattle.controller_core.specs.declared.fixed.Fixed.{Fixed}
 use Rattle.plant_types.specs.Checks.{sizes_of}
 use Rattle.joint_history.specs.JointLaws.{fixed_of}
+use Rattle.joint_history.specs.Runnable.{CanRunPlant}
 use Rattle.field_runs.specs.Played.{with_scripts}
 use Rattle.field_machine.specs.Alone.{is_alone}
 use Rattle.field_machine.specs.Asked.{can_ask, is_so}
 use Rattle.never_text.specs.Texts.{holds_text}
 use Rattle.field_machine.specs.declared.asked.Asked.{Asked}
+use Rattle.field_pair.specs.declared.alike.Difference.{Difference}
+use Rattle.same_text.specs.OneAnswer.{OneAnswerSame}
 use Rattle.command_answers.specs.declared.status.Status.{Status}
 use Rattle.command_answers.specs.declared.status.Status.TheVariants as ends
 use Rattle.command_words.specs.declared.words.Command.{Command}
-use Rattle.command_words.specs.declared.words.Command.TheVariants.{Do, Flow, Gen, Session}
-use Rattle.command_words.specs.declared.words.Command.TheVariants.{Never, Standby}
+use Rattle.command_words.specs.declared.words.Command.TheVariants.{Cop, Do, Flow, Gen}
+use Rattle.command_words.specs.declared.words.Command.TheVariants.{Never, Same, Session, Standby}
 use Rattle.input_cuts.specs.Cut.{CanCut, IsCutAfter, IsCutBefore}
-use Rattle.command_answers.specs.Cut.{journal_mark, port_mark}
+use Rattle.command_answers.specs.Cut.{journal_mark, new_mark, port_mark, wires_mark}
 use Rattle.command_answers.specs.Judged.{IsIllegalAt, IsNoRun, IsRunRead, wrong_line_text}
 use Rattle.command_answers.specs.Judged.{spot_text}
-use Rattle.command_answers.specs.Due.{Due, IsDueOf, IsDueWith, IsFile, IsHistory, IsIllegal}
+use Rattle.command_answers.specs.Due.{Due, IsCopDue, IsDueOf, IsDueWith, IsExchangeShown, IsFile}
+use Rattle.command_answers.specs.Due.{IsBeside, IsBesideAlone, IsBesideAt, IsCompared, IsHistory}
+use Rattle.command_answers.specs.Due.{IsIllegal, IsSameDue, bad_wire}
 use Rattle.command_answers.specs.Due.{IsNever, IsNeverDue, IsPairDue, IsSearched, IsSessionDue}
 use Rattle.command_answers.specs.Due.{IsShown, IsSometimes, IsTaskFile, asked_of, has_journal}
 use Rattle.command_answers.specs.Due.{IsWholeSerialRun, illegal_text, judges, plan_at, task_text}
 use Rattle.command_answers.specs.OneDue.{Agree, OneDue}
 use Rattle.command_answers.proofs.CountOne.{count-one}
+use Rattle.command_answers.proofs.OneWired.{bad-one, wires-one, wires-or_bad}
 
 -- ---- where an input is cut
 
@@ -127,6 +138,10 @@ file-one (Standby node fail scans) input file behind file' behind' is is' =
     after-one port_mark input file behind file' behind' is is'
 file-one (Never node asked depth) input file behind file' behind' is is' =
     (is.0 ∙ sym is'.0, is.1 ∙ sym is'.1)
+file-one (Cop scans) input file behind file' behind' is is' =
+    after-one wires_mark input file behind file' behind' is is'
+file-one (Same node depth) input file behind file' behind' is is' =
+    after-one new_mark input file behind file' behind' is is'
 
 -- ---- the first wrong line
 
@@ -233,9 +248,12 @@ text-one bytes number number' one other =
 
 -- ---- what a journal comes to
 
--- what is known of runs, of journals and of verdicts
+-- what is known of runs, of word exchanges, of journals and of verdicts
 pub record DueLaws : Type 0 where
   pub runs : OneSerialRun
+  pub wired : TestedPlantsCanBeWired
+  pub exchanges : OneExchange
+  pub same : OneAnswerSame
   pub texts : OneHistoryOfAText
   pub verdicts : VerdictsAgree
 
@@ -401,30 +419,128 @@ never-one (Some plan) asked depth plant one other is is' =
     searched-one (is_alone plan) (can_ask (sizes_of plan) asked) (fixed_of plant 1 plan) asked depth
     one other is is'
 
+-- and so does what is due of a word exchange
+exchange-one : DueLaws → (plant : Plant) (wires : List Wire) (scans : ℕ) (one other : Due)
+    → CanRunPlant plant → IsExchangeShown plant wires scans one → IsExchangeShown plant wires scans other
+    → one ≡ other
+exchange-one laws plant wires scans one other can due due' =
+    let shown = due.shown in
+    let also = due'.shown in
+    let same = laws.exchanges plant wires scans due.fed due'.fed shown.joint also.joint can
+    (run-of one due) (run-of other due') in
+    due-is one other (shown.status ∙ sym also.status)
+    (shown.text ∙ ap₂ panel same.0 same.1 ∙ sym also.text)
+  where
+    run-of : (what : Due) (some : IsExchangeShown plant wires scans what)
+        → IsExchangeRun plant wires scans some.fed some.shown.joint
+    run-of what some = record {
+      exchange = some.exchange;
+      run = record { legal = some.shown.history.whole.legal; ties = some.shown.history.whole.tied };
+    }
+
+cop-one : DueLaws → (scans : ℕ) (plant : Plant) (behind : List ℕ) (one other : Due)
+    → IsLoaded plant → IsCopDue scans plant behind one → IsCopDue scans plant behind other
+    → one ≡ other
+cop-one laws scans plant behind one other loaded (inl due) (inl due') =
+    let wired = laws.wired plant loaded.checked loaded.drops in
+    let same = wires-one plant (lines_of behind) due'.wires due.wires wired due'.are due.are in
+    let can : CanRunPlant plant =
+    record { sound = loaded.checked; controllers = loaded.runnable } in
+    exchange-one laws plant due.wires scans one other can due.due
+    (subst (λ (wires : List Wire). IsExchangeShown plant wires scans other) same due'.due)
+cop-one laws scans plant behind one other loaded (inl due) (inr bad) =
+    absurd (wires-or_bad plant (lines_of behind) due.wires bad.line due.are bad.first)
+cop-one laws scans plant behind one other loaded (inr bad) (inl due) =
+    absurd (wires-or_bad plant (lines_of behind) due.wires bad.line due.are bad.first)
+cop-one laws scans plant behind one other loaded (inr bad) (inr bad') =
+    bad.due
+    ∙ ap bad_wire (bad-one plant (lines_of behind) bad.line bad'.line bad.first bad'.first)
+    ∙ sym bad'.due
+
+-- and so does what is due of two controllers that are to do the same
+compared-one : DueLaws → (difference : Option Difference) (old new : Fixed) (depth : Option ℕ)
+    (one other : Due) → IsCompared difference old new depth one
+    → IsCompared difference old new depth other → Agree one other
+compared-one laws (Some difference) old new depth one other is is' =
+    same-agree one other (is ∙ sym is')
+compared-one laws None old new depth one other (inl same) (inl also) =
+    let count = laws.same.count old new depth same.pairs also.pairs same.same also.same in
+    same-agree one other (due-is one other (same.status ∙ sym also.status)
+    (same.text ∙ ap (holds_text depth) count ∙ sym also.text))
+compared-one laws None old new depth one other (inl same) (inr apart) =
+    absurd (laws.same.apart old new depth same.pairs apart.runs same.same apart.first)
+compared-one laws None old new depth one other (inr apart) (inl same) =
+    absurd (laws.same.apart old new depth same.pairs apart.runs same.same apart.first)
+compared-one laws None old new depth one other (inr apart) (inr also) = record {
+  status = apart.status ∙ sym also.status;
+  text = λ kept. absurd (kept apart.status);
+}
+
+beside-one : DueLaws → (old new : Fixed) (depth : Option ℕ) (one other : Due)
+    → IsBeside old new depth one → IsBeside old new depth other → Agree one other
+beside-one laws old new depth one other due due' =
+    let same = laws.same.difference old.plan new.plan old.scan_time new.scan_time due'.difference
+    due.difference due'.first due.first in
+    compared-one laws due.difference old new depth one other due.due
+    (subst (λ (difference : Option Difference). IsCompared difference old new depth other) same
+    due'.due)
+
+alone-one : DueLaws → (alone new_alone : Bool) (old new : Fixed) (depth : Option ℕ)
+    (one other : Due) → IsBesideAlone alone new_alone old new depth one
+    → IsBesideAlone alone new_alone old new depth other → Agree one other
+alone-one laws false new_alone old new depth one other is is' =
+    same-agree one other (is ∙ sym is')
+alone-one laws true false old new depth one other is is' = same-agree one other (is ∙ sym is')
+alone-one laws true true old new depth one other due due' =
+    beside-one laws old new depth one other due due'
+
+at-one : DueLaws → (found new_found : Option ControllerPlan) (plant new : Plant)
+    (depth : Option ℕ) (one other : Due) → IsBesideAt found new_found plant new depth one
+    → IsBesideAt found new_found plant new depth other → Agree one other
+at-one laws None new_found plant new depth one other is is' = same-agree one other (is ∙ sym is')
+at-one laws (Some plan) None plant new depth one other is is' =
+    same-agree one other (is ∙ sym is')
+at-one laws (Some plan) (Some new_plan) plant new depth one other due due' =
+    alone-one laws (is_alone plan) (is_alone new_plan) (fixed_of plant 1 plan)
+    (fixed_of new 1 new_plan) depth one other due due'
+
+same-one : DueLaws → (node : ℕ) (depth : Option ℕ) (plant : Plant) (read : Result Plant Refusal)
+    (one other : Due) → IsSameDue node depth plant read one → IsSameDue node depth plant read other
+    → Agree one other
+same-one laws node depth plant (Ok new) one other due due' =
+    at-one laws (plan_at node plant.controllers) (plan_at node new.controllers) plant new depth
+    one other due due'
+same-one laws node depth plant (Err fault) one other is is' =
+    same-agree one other (is ∙ sym is')
+
 -- with a plant one thing is due
 with-one : DueLaws → (command : Command) (plant : Plant) (behind : List ℕ) (one other : Due)
-    → IsPlant plant
+    → IsLoaded plant
     → IsDueWith command plant behind one → IsDueWith command plant behind other
     → Agree one other
-with-one laws (Do task scans) plant behind one other sound due due' =
+with-one laws (Do task scans) plant behind one other loaded due due' =
     same-agree one other
-    (either-one laws (judges task) plant scans behind (task_text task plant) one other sound due
-    due')
-with-one laws (Gen number scans) plant behind one other sound due due' =
+    (either-one laws (judges task) plant scans behind (task_text task plant) one other loaded.checked
+    due due')
+with-one laws (Gen number scans) plant behind one other loaded due due' =
     same-agree one other
-    (shown-one laws false plant scans [] (summary plant) one other sound due due')
-with-one laws (Session node scans) plant behind one other sound due due' =
+    (shown-one laws false plant scans [] (summary plant) one other loaded.checked due due')
+with-one laws (Session node scans) plant behind one other loaded due due' =
     same-agree one other
     (session-one (plan_at node plant.controllers) scans plant behind one other due due')
-with-one laws (Flow first last) plant behind one other sound due due' =
+with-one laws (Flow first last) plant behind one other loaded due due' =
     same-agree one other
-    (either-one laws (has_journal behind) plant last behind (flow plant first last) one other sound
-    due due')
-with-one laws (Standby node fail scans) plant behind one other sound due due' =
+    (either-one laws (has_journal behind) plant last behind (flow plant first last) one other
+    loaded.checked due due')
+with-one laws (Standby node fail scans) plant behind one other loaded due due' =
     same-agree one other
     (pair-one (plan_at node plant.controllers) fail scans plant behind one other due due')
-with-one laws (Never node asked depth) plant behind one other sound due due' =
+with-one laws (Never node asked depth) plant behind one other loaded due due' =
     never-one (plan_at node plant.controllers) (asked_of asked) depth plant one other due due'
+with-one laws (Cop scans) plant behind one other loaded due due' =
+    same-agree one other (cop-one laws scans plant behind one other loaded due due')
+with-one laws (Same node depth) plant behind one other loaded due due' =
+    same-one laws node depth plant (plant_of Two behind) one other due due'
 
 -- and so it is with a plant file
 of-one : DueLaws → (command : Command) (file behind : List ℕ) (read : Result Plant Refusal)
@@ -433,7 +549,7 @@ of-one : DueLaws → (command : Command) (file behind : List ℕ) (read : Result
     → Agree one other
 of-one laws command file behind (Ok plant) one other is due due' =
     let loaded : IsLoaded plant = gives-loaded Two file (Ok plant) is in
-    with-one laws command plant behind one other loaded.checked due due'
+    with-one laws command plant behind one other loaded due due'
 of-one laws command file behind (Err fault) one other is due due' =
     same-agree one other (due ∙ sym due')
 

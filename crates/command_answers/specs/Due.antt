@@ -20,11 +20,16 @@ use Rattle.controller_core.specs.Controller.{IsLegal}
 use Rattle.joint_history.specs.declared.joint.Joint.{Joint}
 use Rattle.joint_history.specs.JointLaws.{fixed_of}
 use Rattle.joint_history.specs.Noted.{IsNoted}
+use Rattle.joint_history.specs.Runnable.{CanRunPlant}
 use Rattle.route_laws.specs.Effects.{EffectsAreRight}
 use Rattle.entry_causes.specs.Joint.{IsInOneOrder}
 use Rattle.end_times.specs.Joint.{AreBridgesInTime}
 use Rattle.turn_laws.specs.KeepsOn.{NoneSpent}
 use Rattle.serial_run.specs.Serial.{IsSerial}
+use Rattle.peer_cop.specs.declared.wire.Wire.{Wire}
+use Rattle.peer_cop.specs.Lines.{lines_of}
+use Rattle.peer_cop.specs.Wires.{AreWires, IsFirstBad}
+use Rattle.word_exchange.specs.Exchange.{IsExchange}
 use Rattle.joint_law.specs.Spots.{IsWholeRun}
 use Rattle.journal_text.specs.Fronts.{IsJournalOf}
 use Rattle.journal_text.specs.Journal.{journal}
@@ -40,19 +45,24 @@ use Rattle.field_machine.specs.Never.{IsFirstSo, IsNeverSo}
 use Rattle.field_machine.specs.declared.asked.Asked.{Asked}
 use Rattle.field_machine.specs.declared.asked.Asked.TheVariants as asks
 use Rattle.never_text.specs.Texts.{fails_text, holds_text}
+use Rattle.field_pair.specs.declared.alike.Difference.{Difference}
+use Rattle.field_pair.specs.declared.alike.Difference.TheVariants as differences
+use Rattle.field_pair.specs.Alike.{IsFirstDifference}
+use Rattle.field_pair.specs.Same.{ApartRuns, IsFirstApart, IsSameFor}
+use Rattle.same_text.specs.Texts.{apart_text}
 use Rattle.command_answers.specs.declared.answered.Answer.{Answer}
 use Rattle.command_answers.specs.declared.judging.Judged.{Judged}
 use Rattle.command_answers.specs.declared.judging.Judged.TheVariants.{Whole, Illegal}
 use Rattle.command_answers.specs.declared.status.Status.{Status}
 use Rattle.command_answers.specs.declared.status.Status.TheVariants as ends
 use Rattle.command_words.specs.declared.words.Command.{Command}
-use Rattle.command_words.specs.declared.words.Command.TheVariants.{Do, Flow, Gen, Session}
-use Rattle.command_words.specs.declared.words.Command.TheVariants.{Never, Standby}
+use Rattle.command_words.specs.declared.words.Command.TheVariants.{Cop, Do, Flow, Gen}
+use Rattle.command_words.specs.declared.words.Command.TheVariants.{Never, Same, Session, Standby}
 use Rattle.command_words.specs.declared.words.Question.{Question}
 use Rattle.command_words.specs.declared.words.Question.TheVariants.{On, Stop}
 use Rattle.command_words.specs.declared.words.Task.{Task}
 use Rattle.command_words.specs.declared.words.Task.TheVariants.{Run, Trace, Check, Replay}
-use Rattle.command_answers.specs.Cut.{IsCut, IsCutAtPort}
+use Rattle.command_answers.specs.Cut.{IsCut, IsCutAtNew, IsCutAtPort, IsCutAtWires}
 use Rattle.command_answers.specs.Judged.{IsIllegalAt, IsRunRead}
 use Rattle.joint_history.specs.Nets.{noted_on_rings}
 
@@ -89,6 +99,8 @@ reads_input (Session node scans) = true
 reads_input (Flow first last) = true
 reads_input (Standby node fail scans) = true
 reads_input (Never node asked depth) = true
+reads_input (Cop scans) = true
+reads_input (Same node depth) = true
 
 -- Whether a task takes the joint history of a journal after the plant file, and not that of a run.
 abbrev pub judges : Task → Bool
@@ -103,8 +115,8 @@ abbrev pub IsTaskFile : Bool → List ℕ → List ℕ → List ℕ → Type 0
 IsTaskFile true input file journal = IsCut input file journal
 IsTaskFile false input file journal = (file ≡ input) × (journal ≡ [])
 
--- The plant file of a command, and what stands after it: a journal, or the bytes of a port; for a
--- number the file that it stands for.
+-- The plant file of a command, and what stands after it: a journal, the bytes of a port, wires, or
+-- another plant file; for a number the file that it stands for.
 abbrev pub IsFile : Command → List ℕ → List ℕ → List ℕ → Type 0
 IsFile (Do task scans) input file behind = IsTaskFile (judges task) input file behind
 IsFile (Gen number scans) input file behind = (file ≡ plant_text number) × (behind ≡ [])
@@ -112,6 +124,8 @@ IsFile (Session node scans) input file behind = IsCutAtPort input file behind
 IsFile (Flow first last) input file behind = IsCut input file behind
 IsFile (Standby node fail scans) input file behind = IsCutAtPort input file behind
 IsFile (Never node asked depth) input file behind = (file ≡ input) × (behind ≡ [])
+IsFile (Cop scans) input file behind = IsCutAtWires input file behind
+IsFile (Same node depth) input file behind = IsCutAtNew input file behind
 
 -- The joint history is that of the plant's serial run, and a complete run: legal, with the laws
 -- between its lists kept, and complete; the entries of each ring and of the stations on it have one
@@ -267,6 +281,108 @@ IsNeverDue (Some plan) asked depth plant what =
     IsSearched (is_alone plan) (can_ask (sizes_of plan) asked) (fixed_of plant 1 plan) asked
     depth what
 
+-- The first line that is no wire of a plant behind the wires before it, counted from 1.
+abbrev pub bad_wire : ℕ → Due
+bad_wire line = refused_with (codes "18 BadWire") (codes "wire " ++ decimal line)
+
+-- What is due for the word exchange of a plant and its wires: of the plant with the rows that the
+-- wires bring about, which can be run, all that is due for `run`.
+pub record IsExchangeShown (plant : Plant) (wires : List Wire) (scans : ℕ) (what : Due)
+    : Type 0 where
+  pub fed : Plant
+  pub runs : CanRunPlant fed
+  pub shown : IsShown false fed scans [] (task_text Run fed) what
+  pub exchange : IsExchange plant wires scans fed shown.joint
+
+-- The lines behind a plant file are wires of the plant, and what is due for its word exchange.
+pub record IsWired (plant : Plant) (scans : ℕ) (behind : List ℕ) (what : Due) : Type 0 where
+  pub wires : List Wire
+  pub are : AreWires plant (lines_of behind) wires
+  pub due : IsExchangeShown plant wires scans what
+
+-- A line behind a plant file is no wire, and the first such line is told.
+pub record HasBadWire (plant : Plant) (behind : List ℕ) (what : Due) : Type 0 where
+  pub line : ℕ
+  pub first : IsFirstBad plant (lines_of behind) line
+  pub due : what ≡ bad_wire line
+
+-- What is due for a word exchange.
+abbrev pub IsCopDue : ℕ → Plant → List ℕ → Due → Type 0
+IsCopDue scans plant behind what = IsWired plant scans behind what ⊎ HasBadWire plant behind what
+
+-- What is due with a fault of the new one of two plants: its refusal, where the place is told to be
+-- of the new one.
+abbrev pub refused_new : Refusal → Due
+refused_new fault = refused_with (fault_text fault.0) (codes "new " ++ place_text fault.1)
+
+-- Two plants are asked of a node without a controller in the old one, or in the new one; of a
+-- controller of the new one that is not alone; and of controllers that differ.
+abbrev pub no_old_controller : Due
+no_old_controller = refused_with (codes "17 NoController") (codes "same")
+
+abbrev pub no_new_controller : Due
+no_new_controller = refused_with (codes "17 NoController") (codes "new same")
+
+abbrev pub new_not_alone : ℕ → Due
+new_not_alone node = refused_with (codes "19 NotAlone") (codes "new controller " ++ decimal node)
+
+abbrev pub difference_text : Difference → List ℕ
+difference_text differences.Panel = codes "panel"
+difference_text differences.ScanTime = codes "scan_time"
+difference_text (differences.Drop number) = codes "drop " ++ decimal number
+
+abbrev pub not_alike : Difference → Due
+not_alike difference = refused_with (codes "21 NotAlike") (difference_text difference)
+
+-- What is due where two controllers do the same: to how many pairs of states their runs come, no
+-- two of them alike.
+pub record IsSame (old new : Fixed) (depth : Option ℕ) (what : Due) : Type 0 where
+  pub pairs : ℕ
+  pub same : IsSameFor old new depth pairs
+  pub status : what.status ≡ ends.Ok
+  pub text : what.text ≡ holds_text depth pairs
+
+-- What is due where two controllers are told apart: two runs side by side, than which none that are
+-- told apart are shorter, with what the field brought, and what both panels showed at the end.
+pub record IsToldApart (old new : Fixed) (depth : Option ℕ) (what : Due) : Type 0 where
+  pub runs : ApartRuns
+  pub first : IsFirstApart old new depth runs
+  pub status : what.status ≡ ends.Found
+  pub text : what.text ≡ apart_text old new runs
+
+-- What is due for two controllers by the first thing in which they differ, if there is one.
+abbrev pub IsCompared : Option Difference → Fixed → Fixed → Option ℕ → Due → Type 0
+IsCompared (Some difference) old new depth what = what ≡ not_alike difference
+IsCompared None old new depth what = IsSame old new depth what ⊎ IsToldApart old new depth what
+
+pub record IsBeside (old new : Fixed) (depth : Option ℕ) (what : Due) : Type 0 where
+  pub difference : Option Difference
+  pub first : IsFirstDifference old.plan new.plan old.scan_time new.scan_time difference
+  pub due : IsCompared difference old new depth what
+
+-- What is due for two controllers by whether the old one is alone, and whether the new one is.
+abbrev pub IsBesideAlone : Bool → Bool → Fixed → Fixed → Option ℕ → Due → Type 0
+IsBesideAlone false alone old new depth what = what ≡ not_alone old.plan.node
+IsBesideAlone true false old new depth what = what ≡ new_not_alone new.plan.node
+IsBesideAlone true true old new depth what = IsBeside old new depth what
+
+-- What is due for a node of two plants by whether the old one has a controller with it, and whether
+-- the new one has.
+abbrev pub IsBesideAt : Option ControllerPlan → Option ControllerPlan → Plant → Plant → Option ℕ
+    → Due → Type 0
+IsBesideAt None found plant new depth what = what ≡ no_old_controller
+IsBesideAt (Some one) None plant new depth what = what ≡ no_new_controller
+IsBesideAt (Some one) (Some other) plant new depth what =
+    IsBesideAlone (is_alone one) (is_alone other) (fixed_of plant 1 one) (fixed_of new 1 other)
+    depth what
+
+-- What is due for a node of a plant, and of a new one by what its file reads as: a plant, or a
+-- fault.
+abbrev pub IsSameDue : ℕ → Option ℕ → Plant → Result Plant Refusal → Due → Type 0
+IsSameDue node depth plant (Ok new) what =
+    IsBesideAt (plan_at node plant.controllers) (plan_at node new.controllers) plant new depth what
+IsSameDue node depth plant (Err fault) what = what ≡ refused_new fault
+
 -- Whether a journal stands behind a plant file.
 abbrev pub has_journal : List ℕ → Bool
 has_journal [] = false
@@ -281,7 +397,8 @@ IsFlowDue first last plant behind what =
     ⊎ IsIllegal (has_journal behind) plant last behind what
 
 -- What is due with a plant that is accepted: for a task, for the summary of a run, a session, what
--- conducted, a pair, or for what a controller never comes to.
+-- conducted, a pair, for what a controller never comes to, for a word exchange, or for two
+-- controllers that are to do the same.
 abbrev pub IsDueWith : Command → Plant → List ℕ → Due → Type 0
 IsDueWith (Do task scans) plant behind what = IsTaskDue task scans plant behind what
 IsDueWith (Gen number scans) plant behind what =
@@ -293,6 +410,9 @@ IsDueWith (Standby node fail scans) plant behind what =
     IsPairDue (plan_at node plant.controllers) fail scans plant behind what
 IsDueWith (Never node asked depth) plant behind what =
     IsNeverDue (plan_at node plant.controllers) (asked_of asked) depth plant what
+IsDueWith (Cop scans) plant behind what = IsCopDue scans plant behind what
+IsDueWith (Same node depth) plant behind what =
+    IsSameDue node depth plant (plant_of Two behind) what
 
 -- What is due with a plant file that has a fault: its refusal.
 abbrev pub refused : Refusal → Due

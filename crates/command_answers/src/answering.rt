@@ -1,5 +1,7 @@
 //! What is due for a command and an input.
 ghost use Rattle.std.specs.Prelude.{◌≡◌, ◌<◌, ◌^◌, [], false, IfOk, length, string_bytes};
+ghost use Rattle.std.specs.List.{All};
+ghost use Rattle.controller_tables.specs.Accepted.{PassesDropTests};
 ghost use Rattle.plant_loader.specs.Plant.{plant_of};
 ghost use Rattle.joint_history.specs.JointLaws.{IsLegalJoint, most_scans};
 ghost use Rattle.joint_history.specs.Noted.{IsNoted};
@@ -14,11 +16,13 @@ ghost use Rattle.command_answers.specs.Due.{IsTaskDue, as_due, illegal_at, judge
 ghost use Rattle.command_answers.specs.Due.{refused, task_text};
 
 use crate::answered::Answer;
-use crate::cutting::{cut, cut_at_port};
+use crate::cops::answer_cop;
+use crate::cutting::{cut, cut_at_new, cut_at_port, cut_at_wires};
 use crate::flows::answer_flow;
 use crate::judging::{Judged, judge_journal};
 use crate::nevers::answer_never;
 use crate::pairs::answer_standby;
+use crate::sames::answer_same;
 use crate::sessions::answer_session;
 use crate::status::Status;
 use command_words::{Command, Task};
@@ -71,7 +75,7 @@ pub(crate) fn journal_tells_all(plant: &Plant, joint: &Joint)
 }
 
 /// The panel of a joint history, by the notes beside it.
-fn panel_of(alloc: Global, plant: &Plant, noted: &Noted) -> Result<Vec<u8>, AllocError>
+pub(crate) fn panel_of(alloc: Global, plant: &Plant, noted: &Noted) -> Result<Vec<u8>, AllocError>
     requires joint { IsLegalJoint plant.now most_scans noted.now.joint }
     requires notes { IsNoted plant.now noted.now }
     ensures { IfOk result (λ text. text.items ≡ panel plant.now noted.now.joint) }
@@ -209,6 +213,7 @@ fn answer_with(
 ) -> Result<Answer, AllocError>
     requires command { IsCommandInRange command }
     requires plant { CanRunPlant plant.now }
+    requires tested { All PassesDropTests plant.now.controllers }
     requires short { length behind.now < 2 ^ 32 }
     ensures { IfOk result (λ answer. IsDueWith command plant.now behind.now (as_due answer)) }
 {
@@ -221,6 +226,8 @@ fn answer_with(
             answer_standby(alloc, node, fail, scans, plant, behind)
         }
         Command::Never { node, asked, depth } => answer_never(alloc, node, asked, depth, plant),
+        Command::Cop { scans } => answer_cop(alloc, scans, plant, behind),
+        Command::Same { node, depth } => answer_same(alloc, node, depth, plant, behind),
     }
 }
 
@@ -280,5 +287,13 @@ pub fn answer_to(alloc: Global, command: Command, input: &[u8]) -> Result<Answer
             answer_over(alloc, command, file, journal)
         }
         Command::Never { .. } => answer_over(alloc, command, input, &[]),
+        Command::Cop { .. } => {
+            let (file, wires) = cut_at_wires(input);
+            answer_over(alloc, command, file, wires)
+        }
+        Command::Same { .. } => {
+            let (old, new) = cut_at_new(input);
+            answer_over(alloc, command, old, new)
+        }
     }
 }

@@ -4,7 +4,10 @@ ghost use Rattle.command_answers.specs.Written.{WrittenIsLegal};
 
 use joint_law::verdicts_agree;
 use journal_text::{one_history_of_a_text, one_journal_in_front};
+use one_exchange::one_exchange;
 use one_run::one_serial_run;
+use peer_cop::tested_plants_can_be_wired;
+use same_text::one_answer_same;
 
 /// For each command but that of a live run, and each input, at most one status is due, and at most
 /// one text with it; where a run was found, it may be any of the shortest.
@@ -12,6 +15,9 @@ pub fn one_due()
     ensures { OneDue }
 {
     one_serial_run();
+    tested_plants_can_be_wired();
+    one_exchange();
+    one_answer_same();
     one_history_of_a_text();
     verdicts_agree();
 }

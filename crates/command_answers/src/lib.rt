@@ -3,12 +3,14 @@
 
 mod answered;
 mod answering;
+mod cops;
 mod cutting;
 mod flows;
 mod judging;
 mod laws;
 mod nevers;
 mod pairs;
+mod sames;
 mod sessions;
 mod status;
 

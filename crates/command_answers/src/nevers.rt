@@ -41,7 +41,7 @@ fn never_no_controller(alloc: Global) -> Result<Answer, AllocError>
 }
 
 /// The line that the controller has power rows or message blocks, with the status Refused.
-fn not_alone(alloc: Global, node: u8) -> Result<Answer, AllocError>
+pub(crate) fn not_alone(alloc: Global, node: u8) -> Result<Answer, AllocError>
     ensures { IfOk result (λ answer. as_due answer ≡ not_alone node) }
 {
     let text = format!(in alloc; "refused 19 NotAlone controller {node}\n")?;

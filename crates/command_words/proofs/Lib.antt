@@ -7,3 +7,5 @@ mod ThreeNumbers
 mod SpelledStandby
 mod NeverWords
 mod SpelledNever
+mod SameWords
+mod SpelledSame

@@ -9,8 +9,11 @@ use Rattle.std.proofs.lemmas.Bool.{eqb-true}
 use Rattle.clap.specs.Walk.{Text, first_of}
 use Rattle.clap.specs.Simple.{App, matches_of, new_rule, with_rule}
 use Rattle.clap.specs.Faults.{fault_of}
+use Rattle.clap.specs.Words.{first_value, found_of}
+use Rattle.clap.specs.declared.parser.matches.ArgMatches.{ArgMatches}
 use Rattle.clap.proofs.OnLiterals.{clap_on_literals}
 use Rattle.command_words.specs.declared.words.Question.{Question}
+use Rattle.command_words.specs.Arguments.{HasDepth}
 use Rattle.command_words.specs.Nevers.{AreAsked, IsDepth, question_of}
 use Rattle.command_words.specs.Words.{without_dashes}
 use Rattle.command_words.proofs.OneNumber.{bare, decimal_is_plain, needed}
@@ -136,6 +139,13 @@ asked_are words passed first second third first_is second_is third_is node word 
 
     rest_same : {a b c d : Text} {xs ys : List Text} → a ∷ b ∷ xs ≡ c ∷ d ∷ ys → xs ≡ ys
     rest_same e = cc
+
+-- a depth that was found is one in its range
+pub depth-found : (matches : ArgMatches) (depth : Option ℕ)
+    → HasDepth matches depth
+    ↔ ((first_value (found_of matches) (codes "D") ≡ option_map decimal depth) × IsDepth depth)
+depth-found matches None = (λ has. (has, tt), λ both. both.0)
+depth-found matches (Some depth) = (λ has. (has.0, has.1), λ both. (both.0, both.1))
 
 -- a word that asks something is no flag
 question-plain : (word : Text) (asked : Question) → question_of word ≡ Some asked

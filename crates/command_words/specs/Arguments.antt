@@ -47,3 +47,8 @@ abbrev pub HasAsked : ArgMatches → ℕ × Question × Option ℕ → Type 0
 HasAsked matches three =
     HasNumeral matches (codes "K") most_address three.0 × HasQuestion matches three.1
     × HasDepth matches three.2
+
+-- The values of the two arguments are a node, and a depth or none.
+abbrev pub HasNodeAndDepth : ArgMatches → ℕ × Option ℕ → Type 0
+HasNodeAndDepth matches both =
+    HasNumeral matches (codes "K") most_address both.0 × HasDepth matches both.1

@@ -1,13 +1,13 @@
 -- The words of the command line, as bytes. This project's own.
 use Rattle.std.specs.Prelude.{◌≡◌, ◌↔◌, ℕ, if◌then◌else◌, List, [], ◌∷◌, Option, Some, bytes_eq}
-use Rattle.std.specs.Prelude.{codes}
+use Rattle.std.specs.Prelude.{codes, map, option_to_list}
 use Rattle.std.specs.Fmt.{decimal}
 use Rattle.plant_types.specs.Limits.{most_scans}
 use Rattle.plant_types.specs.Plans.{IsFromTo, IsNode}
 use Rattle.plant_gen.specs.Text.{IsPlantNumber}
 use Rattle.command_words.specs.declared.words.Command.{Command}
-use Rattle.command_words.specs.declared.words.Command.TheVariants.{Do, Flow, Gen, Session}
-use Rattle.command_words.specs.declared.words.Command.TheVariants.{Never, Standby}
+use Rattle.command_words.specs.declared.words.Command.TheVariants.{Cop, Do, Flow, Gen}
+use Rattle.command_words.specs.declared.words.Command.TheVariants.{Never, Same, Session, Standby}
 use Rattle.command_words.specs.declared.words.Question.{Question}
 use Rattle.command_words.specs.declared.words.Task.{Task}
 use Rattle.command_words.specs.declared.words.Task.TheVariants.{Run, Trace, Check, Replay}
@@ -55,6 +55,12 @@ abbrev pub AskNever : List (List ℕ) → ℕ × Question × Option ℕ → Type
 AskNever words three =
     AreAsked (without_dashes words) three.0 three.1 three.2 × IsNode three.0 × IsDepth three.2
 
+-- The words are a node and a depth where there is one, among which one `--` may stand.
+abbrev pub AskSame : List (List ℕ) → ℕ × Option ℕ → Type 0
+AskSame words both =
+    (without_dashes words ≡ decimal both.0 ∷ map decimal (option_to_list both.1)) × IsNode both.0
+    × IsDepth both.1
+
 -- The word that names a task.
 abbrev pub task_name : Task → List ℕ
 task_name Run = codes "run"
@@ -70,6 +76,8 @@ command_name (Session node scans) = codes "session"
 command_name (Flow first last) = codes "flow"
 command_name (Standby node fail scans) = codes "standby"
 command_name (Never node asked depth) = codes "never"
+command_name (Cop scans) = codes "cop"
+command_name (Same node depth) = codes "same"
 
 -- The words are those of a command after its name: its numbers, in decimal digits with no sign and
 -- no leading zero, and with them what is asked.
@@ -81,6 +89,8 @@ AreWordsOf (Flow first last) words = words ≡ decimal first ∷ decimal last �
 AreWordsOf (Standby node fail scans) words =
     words ≡ decimal node ∷ decimal fail ∷ decimal scans ∷ []
 AreWordsOf (Never node asked depth) words = AreAsked words node asked depth
+AreWordsOf (Cop scans) words = words ≡ decimal scans ∷ []
+AreWordsOf (Same node depth) words = words ≡ decimal node ∷ map decimal (option_to_list depth)
 
 -- The numbers of a command are in their ranges.
 abbrev pub IsCommandInRange : Command → Type 0
@@ -91,6 +101,8 @@ IsCommandInRange (Flow first last) = IsFromTo 1 last first × IsNumberOfScans la
 IsCommandInRange (Standby node fail scans) =
     IsNode node × IsFromTo 1 scans fail × IsNumberOfScans scans
 IsCommandInRange (Never node asked depth) = IsNode node × IsDepth depth
+IsCommandInRange (Cop scans) = IsNumberOfScans scans
+IsCommandInRange (Same node depth) = IsNode node × IsDepth depth
 
 -- A command of this name, and behind the name its words, among which one `--` may stand.
 pub record SpellsBehind (name : List ℕ) (behind : List (List ℕ)) (command : Command)

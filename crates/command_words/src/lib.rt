@@ -2,8 +2,10 @@
 #![tactic(auto)]
 
 mod arguments;
+mod cops;
 mod flows;
 mod nevers;
+mod sames;
 mod standbys;
 mod three_numbers;
 mod words;

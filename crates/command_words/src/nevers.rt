@@ -67,7 +67,7 @@ fn question_among(matches: &ArgMatches) -> Option<Question>
 }
 
 /// A depth as the value of an argument, or none where the argument has no value.
-fn depth_among(matches: &ArgMatches) -> Option<Option<u32>>
+pub(crate) fn depth_among(matches: &ArgMatches) -> Option<Option<u32>>
     ensures { ReadsJust (HasDepth matches.now) result }
 {
     match matches.get_str("D") {

@@ -4,8 +4,10 @@ ghost use Rattle.command_words.specs.Words.{ReadsJust, SpellsBehind, SpellsComma
 ghost use Rattle.command_words.specs.Words.{SpellsLiveBehind, task_name};
 
 use crate::arguments::{number_and_scans_of, scans_of};
+use crate::cops::cop_behind;
 use crate::flows::flow_behind;
 use crate::nevers::never_behind;
+use crate::sames::same_behind;
 use crate::standbys::standby_behind;
 use plant_types::{NODE_LIMIT, Ref};
 use std::alloc::{AllocError, Global};
@@ -78,6 +80,18 @@ pub enum Command {
         asked: Question,
         depth: Option<u32>,
     },
+    /// The panel lines of the run of so many scans, 1 to 2000, of the plant of the input, whose
+    /// controllers exchange words by the wires behind its file.
+    Cop {
+        scans: u32,
+    },
+    /// Whether the controllers with this node, 1 to 64, of two plants, the old one and the new one,
+    /// show the same in every run of their field, or in every one of at most so many scans, 1 to
+    /// 2000.
+    Same {
+        node: u8,
+        depth: Option<u32>,
+    },
 }
 
 /// The task of a name.
@@ -143,6 +157,8 @@ fn command_named(
         "flow" => flow_behind(alloc, behind),
         "standby" => standby_behind(alloc, behind),
         "never" => never_behind(alloc, behind),
+        "cop" => cop_behind(alloc, behind),
+        "same" => same_behind(alloc, behind),
         _ => match task_of(name) {
             Some(task) => task_behind(alloc, task, behind),
             None => Ok(None),

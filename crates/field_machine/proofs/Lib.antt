@@ -9,3 +9,4 @@ pub mod Exchanging
 pub mod TestAlone
 pub mod Fields
 pub mod Showing
+pub mod Registers

@@ -29,7 +29,7 @@ fn rows_for(drops: &[IoDrop], number: u8) -> Result<u32, AllocError>
 }
 
 /// How many rows the field has for the drop that a row of the order of solve reads.
-pub(crate) fn choices_for(drops: &[IoDrop], input: Option<u8>) -> Result<u32, AllocError>
+pub fn choices_for(drops: &[IoDrop], input: Option<u8>) -> Result<u32, AllocError>
     ensures { IfOk result (λ many. many ≡ choices_for drops.now input) }
 {
     match input {
@@ -51,7 +51,7 @@ pub(crate) fn choices_of(alloc: Global, plan: &ControllerPlan) -> Result<Vec<u32
 
 /// In how many ways the field can bring rows in a scan. Where they cannot be counted, so many states
 /// do not fit.
-pub(crate) fn product(choices: &[u32]) -> Result<usize, AllocError>
+pub fn product(choices: &[u32]) -> Result<usize, AllocError>
     ensures { IfOk result (λ ways. ways ≡ product choices.now) }
 {
     let mut ways: usize = 1;

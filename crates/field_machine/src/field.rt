@@ -47,7 +47,7 @@ impl Field {
     ghost use Rattle.field_machine.specs.Field.{IsField};
 
     /// The field of a plan that is alone.
-    pub(crate) fn new(alloc: Global, fixed: Fixed, asked: Asked) -> Result<Field, AllocError>
+    pub fn new(alloc: Global, fixed: Fixed, asked: Asked) -> Result<Field, AllocError>
         requires runs { IsRunnable fixed }
         requires alone { IsAlone fixed.plan }
         requires asked { CanBeAsked (sizes_of fixed.plan) asked }

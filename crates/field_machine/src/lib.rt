@@ -9,6 +9,7 @@ mod counters;
 mod exchanges;
 mod field;
 mod machine;
+mod reading;
 mod scanning;
 mod searching;
 mod shown;
@@ -16,6 +17,10 @@ mod work;
 
 pub use alone::{can_be_asked, is_alone};
 pub use asked::Asked;
+pub use choices::{choices_for, product};
 pub use exchanges::{Exchange, exchanges_of, with_scripts};
+pub use field::Field;
+pub use machine::{word_at, words_behind};
 pub use searching::{Found, search_field};
 pub use shown::{Shown, show_run};
+pub use work::Work;

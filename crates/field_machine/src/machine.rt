@@ -20,7 +20,7 @@ use std::alloc::AllocError;
 use timer_ops::Clock;
 
 /// The word at a place of a key, or 0.
-pub(crate) fn word_at(key: &[u16], place: usize) -> u16
+pub fn word_at(key: &[u16], place: usize) -> u16
     ensures { result ≡ slice_index key.now place }
 {
     match key.get(place) {
@@ -30,7 +30,7 @@ pub(crate) fn word_at(key: &[u16], place: usize) -> u16
 }
 
 /// The words behind so many.
-fn words_behind(key: &[u16], many: usize) -> &[u16]
+pub fn words_behind(key: &[u16], many: usize) -> &[u16]
     ensures { result.now ≡ drop many key.now }
 {
     if many < key.len() { &key[many..] } else { &[] }
@@ -74,7 +74,7 @@ impl Field {
     ghost use Rattle.field_machine.specs.Field.{IsField};
 
     /// The words of a key that hold references.
-    fn references<'a>(&self, key: &'a [u16]) -> &'a [u16]
+    pub(crate) fn references<'a>(&self, key: &'a [u16]) -> &'a [u16]
         ensures { result.now ≡ drop (length self.now.counters.items) (drop 2 key.now) }
     {
         words_behind(words_behind(key, 2), self.counters.len())
@@ -135,7 +135,7 @@ impl Field {
     }
 
     /// How many words a key has.
-    fn key_size(&self) -> usize
+    pub fn key_size(&self) -> usize
         ensures { result ≡ 2 + length self.now.counters.items
             + word_count (sizes_of self.now.fixed.plan) }
     {

@@ -55,7 +55,7 @@ fn ladder_of(alloc: Global, plan: &ControllerPlan) -> Result<Ladder, AllocError>
 
 impl Work {
     /// A work for a plan.
-    pub(crate) fn new(alloc: Global, plan: &ControllerPlan) -> Result<Work, AllocError>
+    pub fn new(alloc: Global, plan: &ControllerPlan) -> Result<Work, AllocError>
         requires { IsRunnablePlan plan.now }
         ensures { IfOk result (IsWorkOf plan.now) }
     {

@@ -37,7 +37,7 @@ alike-then s t u a b = record {
   clock = a.clock ∙ b.clock;
 }
 
-agrees-alike : (s t : ControllerState) → Agrees s t → IsAlike s t
+pub agrees-alike : (s t : ControllerState) → Agrees s t → IsAlike s t
 agrees-alike s t r = record {
   references = ap (λ (q : SolveState). q.map) r.solving;
   edges = ap (λ (q : SolveState). q.edges) r.solving;
@@ -45,7 +45,7 @@ agrees-alike s t r = record {
   clock = ap (λ (q : SolveState). q.clock.now % 100) r.solving;
 }
 
-agrees-settled : (plan : ControllerPlan) (s t : ControllerState) → Agrees s t → IsSettled plan t
+pub agrees-settled : (plan : ControllerPlan) (s t : ControllerState) → Agrees s t → IsSettled plan t
     → IsSettled plan s
 agrees-settled plan s t r settled = record {
   kept = ap (λ (q : SolveState). q.past) r.solving
@@ -78,14 +78,14 @@ same-behind fixed n rows s (step ∷ due) =
     fixed.watchdog n) (told_behind step rows) t due) (same-step fixed n (told_first rows) s step)
     ∙ same-behind fixed n (told_behind step rows) (stepped_with fixed (told_first rows) s step) due)
 
-below-less : (bound : Option ℕ) (n : ℕ) → IsBelow bound (n + 1) → IsBelow bound n
+pub below-less : (bound : Option ℕ) (n : ℕ) → IsBelow bound (n + 1) → IsBelow bound n
 below-less None n h = tt
 below-less (Some most) n h = omega (arith, h)
 
 module _ (stay : AlikeStatesStay) (settle : ScansSettle) (fixed : Fixed)
     (alone : IsAlone fixed.plan) where
   -- a scan of a state and of the one that its key stands for
-  scanned-alike : (told : List ℕ) (s kept : ControllerState) (b : Bool) → (s.stop == 0) ≡ b
+  pub scanned-alike : (told : List ℕ) (s kept : ControllerState) (b : Bool) → (s.stop == 0) ≡ b
       → (s.stop ≡ 0 → IsSettled fixed.plan s) → StandsFor fixed.plan s kept
       → IsAlike (scanned fixed told s) (scanned fixed told kept)
   scanned-alike told s kept true is settled stands =
@@ -100,7 +100,7 @@ module _ (stay : AlikeStatesStay) (settle : ScansSettle) (fixed : Fixed)
       (subst (λ (q : ControllerState). IsAlike s q) (sym other) stands.alike)
 
   -- a scan that did not stop settles
-  scanned-settled : (told : List ℕ) (s : ControllerState) (b : Bool) → (s.stop == 0) ≡ b
+  pub scanned-settled : (told : List ℕ) (s : ControllerState) (b : Bool) → (s.stop == 0) ≡ b
       → (s.stop ≡ 0 → IsSettled fixed.plan s) → (scanned fixed told s).stop ≡ 0
       → IsSettled fixed.plan (scanned fixed told s)
   scanned-settled told s true is settled goes =

@@ -184,8 +184,12 @@ module _ (plan : ControllerPlan) (scan_time watchdog scans : ℕ) where
     all-lines (suc n) goes =
         more-lines n (goes n (omega arith)) (all-lines n (λ k less. goes k (omega (arith, less))))
 
-    -- the panel of a run that goes on up to its last scan
+    -- the panel lines of a run that goes on up to its last scan
+    pub run-each : ((k : ℕ) → k < scans → (after k).stop ≡ 0)
+        → panel_lines run (run_of run) ≡ map line-at (range_with_len 1 scans)
+    run-each goes = (all-lines scans goes).lines
+
+    -- and its panel
     pub run-lines : ((k : ℕ) → k < scans → (after k).stop ≡ 0)
         → concat (panel_lines run (run_of run)) ≡ flat_map line-at (range_with_len 1 scans)
-    run-lines goes =
-        ap concat (all-lines scans goes).lines ∙ concat-map line-at (range_with_len 1 scans)
+    run-lines goes = ap concat (run-each goes) ∙ concat-map line-at (range_with_len 1 scans)

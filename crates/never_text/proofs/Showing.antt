@@ -32,7 +32,7 @@ use Rattle.never_text.proofs.OneScan.{scan_told}
 use Rattle.never_text.proofs.RunLines.{run-lines}
 
 -- the first of some values are those of the panel
-values-front : (m : Contents) (panel : List Ref) (rest : List ℕ)
+pub values-front : (m : Contents) (panel : List Ref) (rest : List ℕ)
     → noted_texts panel (values_of m panel ++ rest) ≡ flat_map (value_text m) panel
 values-front m [] rest = refl
 values-front m (at ∷ panel) rest =

@@ -14,7 +14,7 @@ use Rattle.field_machine.specs.Never.{state_of_run, IsFirstSo}
 use Rattle.never_text.specs.Lines.{StopsNoSooner}
 
 -- where a controller has stopped, it stays so
-stays-stopped : (plan : ControllerPlan) (scan_time watchdog n k : ℕ)
+pub stays-stopped : (plan : ControllerPlan) (scan_time watchdog n k : ℕ)
     → ((state_after plan scan_time watchdog n).stop == 0) ≡ false
     → state_after plan scan_time watchdog (n + k) ≡ state_after plan scan_time watchdog n
 stays-stopped plan scan_time watchdog n zero stopped =

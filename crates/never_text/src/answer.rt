@@ -39,8 +39,8 @@ fn push_depth(text: &mut String, depth: Option<u32>) -> Result<(), AllocError>
     }
 }
 
-/// The text where it is never so.
-fn holds_text(alloc: Global, states: usize, depth: Option<u32>) -> Result<Vec<u8>, AllocError>
+/// The text where it is never so, for so many states, and the depth up to which runs were looked at.
+pub fn holds_text(alloc: Global, states: usize, depth: Option<u32>) -> Result<Vec<u8>, AllocError>
     ensures { IfOk result (λ text. text.items ≡ holds_text depth states) }
 {
     let mut text = String::new(alloc);
@@ -50,18 +50,18 @@ fn holds_text(alloc: Global, states: usize, depth: Option<u32>) -> Result<Vec<u8
     Ok(text.into_bytes())
 }
 
-/// How many scans these ways are for. Where that is no `u32`, so many do not fit.
-fn scan_count(ways: &[usize]) -> Result<u32, AllocError>
-    ensures { IfOk result (λ scans. scans ≡ length ways.now) }
+/// How many scans these are. Where that is no `u32`, so many do not fit.
+pub fn scan_count<T>(told: &[T]) -> Result<u32, AllocError>
+    ensures { IfOk result (λ scans. scans ≡ length told.now) }
 {
-    match u32::try_from(ways.len()) {
+    match u32::try_from(told.len()) {
         Ok(scans) => Ok(scans),
         Err(_) => Err(AllocError),
     }
 }
 
 /// Adds the line of how many scans there are.
-fn push_head(text: &mut String, scans: u32) -> Result<(), AllocError>
+pub fn push_head(text: &mut String, scans: u32) -> Result<(), AllocError>
     ensures { OnOk result (string_bytes text.new ≡ string_bytes text.old ++ fails_line scans) }
 {
     write!(text, "fails {scans}\n")
@@ -93,7 +93,7 @@ fn fails_text(
 }
 
 /// A depth as a number of scans.
-fn limit_of(depth: Option<u32>) -> Option<usize>
+pub fn limit_of(depth: Option<u32>) -> Option<usize>
     ensures { result ≡ depth }
 {
     match depth {

@@ -12,7 +12,7 @@ use std::alloc::{AllocError, Global};
 use std::fmt::Write;
 
 /// Adds the lines of these input exchanges of a scan.
-fn push_scan(text: &mut String, scan: usize, exchanges: &[Exchange]) -> Result<(), AllocError>
+pub fn push_scan(text: &mut String, scan: usize, exchanges: &[Exchange]) -> Result<(), AllocError>
     ensures { OnOk result (string_bytes text.new ≡ string_bytes text.old
         ++ flat_map (exchange_line scan) exchanges.now) }
 {

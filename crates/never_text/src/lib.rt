@@ -6,4 +6,5 @@ mod answer;
 mod exchanges;
 mod panel;
 
-pub use answer::{NeverEnd, never_answer};
+pub use answer::{NeverEnd, holds_text, limit_of, never_answer, push_head, scan_count};
+pub use exchanges::push_scan;

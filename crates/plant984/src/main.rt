@@ -4,6 +4,8 @@
 ghost use Rattle.std.specs.Prelude.{◌≡◌, ◌⊎◌, IfErr};
 
 #[cfg(test)]
+mod cops;
+#[cfg(test)]
 mod flows;
 #[cfg(test)]
 mod hostile;
@@ -16,6 +18,8 @@ mod nevers;
 mod pairs;
 #[cfg(test)]
 mod rows;
+#[cfg(test)]
+mod sames;
 mod serial;
 #[cfg(test)]
 mod tests;

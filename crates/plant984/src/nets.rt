@@ -33,6 +33,7 @@ networks = ["1,1 ADD 41 1 40001; 4,1 ADD 43 0 40002"]
 "#
 }
 
+/// The journal of two scans of that plant.
 pub fn read2_journal() -> &'static str {
     "%JOURNAL
 C 2

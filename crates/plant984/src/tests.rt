@@ -254,72 +254,90 @@ fn touches_nothing(alloc: Global, line: &str) -> Result<bool, AllocError> {
     Ok(first == Status::Usage && outcome.is(Status::Ok, "S 1 N 1 00001=1\n"))
 }
 
+// Words that are no command, with one line for each; the first line has none.
+const NO_COMMANDS: &str = "
+run
+run 0
+run 01
+run -5
+run +1
+run 2001
+run 4294967297
+run 1 1
+run -- -- 1
+run -- 1 --
+run --
+-- run 1
+run -h
+run -V
+run --help 1
+walk 1
+Run 1
+1
+run 1x
+session 1
+session 0 1
+session 65 1
+session 1 2001
+session 01 1
+flow 1
+flow 0 1
+flow 2 1
+flow 01 1
+flow 1 2001
+flow 1 1 1
+standby
+standby 1 1
+standby 0 1 1
+standby 65 1 1
+standby 1 0 1
+standby 1 2 1
+standby 1 01 1
+standby 1 1 01
+standby 1 1 2001
+standby 1 2001 2001
+standby 1 1 1 1
+never
+never 1
+never 0 00001
+never 65 00001
+never 1 0001
+never 1 000001
+never 1 00000
+never 1 10000
+never 1 20001
+never 1 30001
+never 1 40001
+never 1 0000x
+never 1 stop
+never 1 STOPS
+never 1 00001 0
+never 1 00001 01
+never 1 00001 2001
+never 1 00001 1 1
+never STOP 1
+cop
+cop 0
+cop 01
+cop 2001
+cop 1 1
+cop -- -- 1
+Cop 1
+same
+same 0
+same 65
+same 01
+same 1 0
+same 1 01
+same 1 2001
+same 1 1 1
+same 1 00001
+same STOP
+--help";
+
 #[test]
 fn other_words_touch_nothing(rt: HostRuntime) -> Result<(), Fail> {
-    for line in [
-        "",
-        "run",
-        "run 0",
-        "run 01",
-        "run -5",
-        "run +1",
-        "run 2001",
-        "run 4294967297",
-        "run 1 1",
-        "run -- -- 1",
-        "run -- 1 --",
-        "run --",
-        "-- run 1",
-        "run -h",
-        "run -V",
-        "run --help 1",
-        "walk 1",
-        "Run 1",
-        "1",
-        "run 1x",
-        "session 1",
-        "session 0 1",
-        "session 65 1",
-        "session 1 2001",
-        "session 01 1",
-        "flow 1",
-        "flow 0 1",
-        "flow 2 1",
-        "flow 01 1",
-        "flow 1 2001",
-        "flow 1 1 1",
-        "standby",
-        "standby 1 1",
-        "standby 0 1 1",
-        "standby 65 1 1",
-        "standby 1 0 1",
-        "standby 1 2 1",
-        "standby 1 01 1",
-        "standby 1 1 01",
-        "standby 1 1 2001",
-        "standby 1 2001 2001",
-        "standby 1 1 1 1",
-        "never",
-        "never 1",
-        "never 0 00001",
-        "never 65 00001",
-        "never 1 0001",
-        "never 1 000001",
-        "never 1 00000",
-        "never 1 10000",
-        "never 1 20001",
-        "never 1 30001",
-        "never 1 40001",
-        "never 1 0000x",
-        "never 1 stop",
-        "never 1 STOPS",
-        "never 1 00001 0",
-        "never 1 00001 01",
-        "never 1 00001 2001",
-        "never 1 00001 1 1",
-        "never STOP 1",
-        "--help",
-    ] {
+    for line in NO_COMMANDS.split('\n') {
         assert!(rt; touches_nothing(rt.alloc(), line)?, "{line}");
     }
     Ok(())

@@ -4,3 +4,4 @@ pub mod FedRuns
 pub mod FedPlants
 pub mod FedStations
 pub mod Standings
+pub mod SerialLemmas

@@ -27,8 +27,8 @@ use Rattle.controller_core.specs.Run.{entries_from}
 use Rattle.joint_history.specs.declared.joint.ControllerLog.{ControllerLog}
 use Rattle.joint_history.specs.JointLaws.{fixed_of}
 use Rattle.joint_history.specs.Reading.{has_ended_at, is_ours}
-use Rattle.serial_run.specs.Serial.{log_with_scan, scanned}
-use Rattle.serial_run.proofs.Grown.{Further}
+use Rattle.serial_feed.specs.SerialRuns.{log_with_scan, scanned}
+use Rattle.serial_feed.proofs.SerialLemmas.{Further}
 use Rattle.word_exchange.specs.Exchange.{RepetitionsExchange}
 use Rattle.word_exchange.specs.Moments.{node_of_log}
 use Rattle.word_exchange.specs.Rows.{inputs_a_scan}

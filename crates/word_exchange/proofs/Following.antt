@@ -6,11 +6,11 @@ use Rattle.std.specs.List.{find}
 use Rattle.joint_history.specs.declared.joint.ControllerLog.{ControllerLog}
 use Rattle.joint_history.specs.declared.joint.RingLog.{RingLog}
 use Rattle.joint_history.specs.Nets.{noted_on, entries_if as ring_entries_if}
-use Rattle.serial_run.specs.declared.stations.ControllerStation.{ControllerStation}
-use Rattle.serial_run.specs.declared.stations.RingStation.{RingStation}
-use Rattle.serial_run.specs.Feeding.{history_if, history_of}
-use Rattle.serial_run.specs.Stations.{log_of, log_of_ring, ring_if, station_on}
-use Rattle.serial_run.specs.Stations.{station_ring}
+use Rattle.serial_feed.specs.SerialRuns.{ControllerStation}
+use Rattle.serial_feed.specs.SerialRuns.{RingStation}
+use Rattle.serial_feed.specs.SerialRuns.{history_if, history_of}
+use Rattle.serial_feed.specs.SerialRuns.{log_of, log_of_ring, ring_if, station_on}
+use Rattle.serial_feed.specs.SerialRuns.{station_ring}
 use Rattle.serial_feed.specs.Standing.{made_by, SerialIs}
 use Rattle.word_exchange.specs.Running.{entries_now, ring_now, ReadersFollow}
 use Rattle.word_exchange.specs.Words.{entries_if, entries_of}
@@ -60,7 +60,7 @@ ring-is network serial = ring-there network serial.run.rings.items
 
 -- ---- what came
 
-drop-front : {X : Type 0} (xs more : List X) → drop (length xs) (xs ++ more) ≡ more
+pub drop-front : {X : Type 0} (xs more : List X) → drop (length xs) (xs ++ more) ≡ more
 drop-front [] more = refl
 drop-front (x ∷ xs) more = drop-front xs more
 

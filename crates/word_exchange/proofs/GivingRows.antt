@@ -14,16 +14,18 @@ use Rattle.plant_types.specs.declared.plan.ControllerPlan.{ControllerPlan}
 use Rattle.plant_types.specs.declared.plan.Plant.{Plant}
 use Rattle.traffic_cop.specs.Drops.{drop_named}
 use Rattle.traffic_cop.specs.Feeding.{row_fed, with_row}
-use Rattle.serial_run.proofs.Lists.{from-places, map-there}
-use Rattle.serial_run.proofs.Repeats.{all-at}
+use Rattle.serial_feed.proofs.SerialLemmas.{from-places, map-there}
+use Rattle.serial_feed.proofs.SerialLemmas.{all-at}
 use Rattle.serial_feed.specs.Feeding.{plan_with, plant_fed}
-use Rattle.serial_feed.specs.Standing.{made_by, SerialIs, StandsFor}
+use Rattle.joint_history.specs.declared.joint.Joint.{Joint}
+use Rattle.serial_feed.specs.Standing.{are_gone, made_by, SerialIs}
 use Rattle.word_exchange.specs.declared.feeding.WiredDrop.{WiredDrop}
-use Rattle.word_exchange.specs.declared.sending.Sending.{Sending}
+use Rattle.word_exchange.specs.declared.running.WireReader.{WireReader}
 use Rattle.word_exchange.specs.Feeding.{plant_with_all, plant_with_rows, rows_wanted, with_rows}
 use Rattle.word_exchange.specs.Feeding.{with_script, AreGivenRows, AreOtherDrops}
 use Rattle.word_exchange.specs.Feeding.{CanTakeAll, CanTakeIf, HasMadeAtMost, HasScript}
-use Rattle.word_exchange.specs.Feeding.{HasScriptIn, IsGivenRows}
+use Rattle.word_exchange.specs.Feeding.{HasScriptIn, IsGivenRows, StandsBy}
+use Rattle.word_exchange.proofs.TakingRows.{by-own}
 
 -- ---- rows of another drop
 
@@ -88,17 +90,17 @@ still-rows plan drop script plant node number (row ∷ rows) apart has =
     still-rows plan drop script (plant_fed plant node number row) node number rows apart
     (still-has plan drop script plant node number row apart has)
 
-still-all : (sendings : List Sending) (one : WiredDrop) (plant : Plant) (wired : List WiredDrop)
+still-all : (readers : List WireReader) (one : WiredDrop) (plant : Plant) (wired : List WiredDrop)
     → All (λ (w : WiredDrop). AreOtherDrops w one) wired
     → HasScript one.plan.now one.drop.now one.script plant
-    → HasScript one.plan.now one.drop.now one.script (plant_with_all sendings plant wired)
-still-all sendings one plant [] apart has = has
-still-all sendings one plant (w ∷ wired) apart has =
-    still-all sendings one
-    (plant_with_rows plant w.plan.now.node w.drop.now.number (rows_wanted sendings w)) wired
+    → HasScript one.plan.now one.drop.now one.script (plant_with_all readers plant wired)
+still-all readers one plant [] apart has = has
+still-all readers one plant (w ∷ wired) apart has =
+    still-all readers one
+    (plant_with_rows plant w.plan.now.node w.drop.now.number (rows_wanted readers w)) wired
     (λ k d within. apart (suc k) d (omega (arith, within)))
     (still-rows one.plan.now one.drop.now one.script plant w.plan.now.node w.drop.now.number
-    (rows_wanted sendings w) (apart 0 w (omega arith)) has)
+    (rows_wanted readers w) (apart 0 w (omega arith)) has)
 
 -- ---- the state between two of the drops
 
@@ -107,45 +109,48 @@ drop-length [] = refl
 drop-length (x ∷ xs) = drop-length xs
 
 -- The first so many wired drops have their rows.
-pub record GivenSoFar (sendings : List Sending) (first wired : List WiredDrop) (at : ℕ)
+pub record GivenSoFar (readers : List WireReader) (first wired : List WiredDrop) (at : ℕ)
     (start now : SerialIs) : Type 0 where
-  pub wired_are : wired ≡ map (with_rows sendings) (take at first) ++ drop at first
+  pub wired_are : wired ≡ map (with_rows readers) (take at first) ++ drop at first
   pub made : made_by now ≡ made_by start
-  pub stands : (plant : Plant) (scans : ℕ) → StandsFor plant scans start
-      → StandsFor (plant_with_all sendings plant (take at first)) scans now
+  pub gone : are_gone now ≡ are_gone start
+  pub stands : (plant : Plant) (scans : ℕ) (after_each : List Joint)
+      → StandsBy plant scans after_each start
+      → StandsBy (plant_with_all readers plant (take at first)) scans after_each now
 
-pub none-given : (sendings : List Sending) (wired : List WiredDrop) (serial : SerialIs)
-    → GivenSoFar sendings wired wired 0 serial serial
-none-given sendings wired serial = record {
+pub none-given : (readers : List WireReader) (wired : List WiredDrop) (serial : SerialIs)
+    → GivenSoFar readers wired wired 0 serial serial
+none-given readers wired serial = record {
   wired_are = refl;
   made = refl;
-  stands = λ plant scans stands. stands;
+  gone = refl;
+  stands = λ plant scans after_each stands. stands;
 }
 
 -- the one at the place is as it was, and giving it its rows changes only it
-at-place : (sendings : List Sending) (first : List WiredDrop) (at : ℕ) → at < length first
+at-place : (readers : List WireReader) (first : List WiredDrop) (at : ℕ) → at < length first
     → (d : WiredDrop)
-    → get_or (map (with_rows sendings) (take at first) ++ drop at first) at d ≡ get_or first at d
-at-place sendings [] at within d = absurd (omega (arith, within))
-at-place sendings (w ∷ first) zero within d = refl
-at-place sendings (w ∷ first) (suc at) within d =
-    at-place sendings first at (omega (arith, within)) d
+    → get_or (map (with_rows readers) (take at first) ++ drop at first) at d ≡ get_or first at d
+at-place readers [] at within d = absurd (omega (arith, within))
+at-place readers (w ∷ first) zero within d = refl
+at-place readers (w ∷ first) (suc at) within d =
+    at-place readers first at (omega (arith, within)) d
 
-set-place : (sendings : List Sending) (first : List WiredDrop) (at next : ℕ) (d : WiredDrop)
+set-place : (readers : List WireReader) (first : List WiredDrop) (at next : ℕ) (d : WiredDrop)
     → at < length first → next ≡ suc at
-    → set (map (with_rows sendings) (take at first) ++ drop at first) at
-    (with_rows sendings (get_or first at d))
-    ≡ map (with_rows sendings) (take next first) ++ drop next first
-set-place sendings [] at next d within is = absurd (omega (arith, within))
-set-place sendings (w ∷ first) zero zero d within is = absurd (omega (arith, is))
-set-place sendings (w ∷ first) zero (suc next) d within is =
+    → set (map (with_rows readers) (take at first) ++ drop at first) at
+    (with_rows readers (get_or first at d))
+    ≡ map (with_rows readers) (take next first) ++ drop next first
+set-place readers [] at next d within is = absurd (omega (arith, within))
+set-place readers (w ∷ first) zero zero d within is = absurd (omega (arith, is))
+set-place readers (w ∷ first) zero (suc next) d within is =
     let none : next ≡ 0 = omega (arith, is) in
-    ap (λ n. map (with_rows sendings) (take (suc n) (w ∷ first)) ++ drop (suc n) (w ∷ first))
+    ap (λ n. map (with_rows readers) (take (suc n) (w ∷ first)) ++ drop (suc n) (w ∷ first))
     (sym none)
-set-place sendings (w ∷ first) (suc at) zero d within is = absurd (omega (arith, is))
-set-place sendings (w ∷ first) (suc at) (suc next) d within is =
-    ap (λ (l : List WiredDrop). with_rows sendings w ∷ l)
-    (set-place sendings first at next d (omega (arith, within)) (omega (arith, is)))
+set-place readers (w ∷ first) (suc at) zero d within is = absurd (omega (arith, is))
+set-place readers (w ∷ first) (suc at) (suc next) d within is =
+    ap (λ (l : List WiredDrop). with_rows readers w ∷ l)
+    (set-place readers first at next d (omega (arith, within)) (omega (arith, is)))
 
 front-item : (first : List WiredDrop) (at k : ℕ) (e d : WiredDrop) → k < length (take at first)
     → at < length first → (k < at) × (get_or (take at first) k e ≡ get_or first k d)
@@ -165,22 +170,23 @@ others-apart first at d within apart k e low =
     subst (λ (w : WiredDrop). AreOtherDrops w (get_or first at d)) (sym it.1)
     (apart k at d it.0 within)
 
-pub can-give : (sendings : List Sending) (first wired : List WiredDrop) (at : ℕ) (d : WiredDrop)
+pub can-give : (readers : List WireReader) (first wired : List WiredDrop) (at : ℕ) (d : WiredDrop)
     (start now : SerialIs) → at < length first → CanTakeAll first start
-    → GivenSoFar sendings first wired at start now → CanTakeIf (get_or wired at d) now
-can-give sendings first wired at d start now within can so_far =
+    → GivenSoFar readers first wired at start now → CanTakeIf (get_or wired at d) now
+can-give readers first wired at d start now within can so_far =
     let one = get_or first at d in
     let here : get_or wired at d ≡ one =
     ap (λ (l : List WiredDrop). get_or l at d) so_far.wired_are
-    ∙ at-place sendings first at within d in
+    ∙ at-place readers first at within d in
     subst (λ (w : WiredDrop). CanTakeIf w now) (sym here)
     (λ few.
     let give = can.each at d within few in
     record {
-      plant = plant_with_all sendings can.plant (take at first);
+      plant = plant_with_all readers can.plant (take at first);
       scans = can.scans;
-      stands = so_far.stands can.plant can.scans can.stands;
-      has = still-all sendings one can.plant (take at first)
+      stands = (so_far.stands can.plant can.scans can.stands.after_each
+          (by-own can.plant can.scans start can.stands)).stands;
+      has = still-all readers one can.plant (take at first)
           (others-apart first at d within can.apart) give.has;
       own = give.own;
       read = give.read;
@@ -188,44 +194,46 @@ can-give sendings first wired at d start now within can so_far =
           (sym so_far.made) give.made;
     })
 
-pub one-given : (sendings : List Sending) (first wired : List WiredDrop) (at next : ℕ)
+pub one-given : (readers : List WireReader) (first wired : List WiredDrop) (at next : ℕ)
     (d new : WiredDrop) (start old now : SerialIs) → at < length first → next ≡ at + 1
-    → GivenSoFar sendings first wired at start old
-    → IsGivenRows sendings (get_or wired at d) new old now
-    → GivenSoFar sendings first (set wired at new) next start now
-one-given sendings first wired at next d new start old now within is so_far gives =
+    → GivenSoFar readers first wired at start old
+    → IsGivenRows readers (get_or wired at d) new old now
+    → GivenSoFar readers first (set wired at new) next start now
+one-given readers first wired at next d new start old now within is so_far gives =
     let one = get_or first at d in
     let here : get_or wired at d ≡ one =
     ap (λ (l : List WiredDrop). get_or l at d) so_far.wired_are
-    ∙ at-place sendings first at within d in
-    let given = subst (λ (w : WiredDrop). IsGivenRows sendings w new old now) here gives in
+    ∙ at-place readers first at within d in
+    let given = subst (λ (w : WiredDrop). IsGivenRows readers w new old now) here gives in
     let front : take next first ≡ take at first ++ one ∷ [] =
     ap (λ n. take n first) is ∙ take_more first at d within in
     record {
       wired_are =
           (λ i. set (so_far.wired_are i) at (given.wired_is i))
-          ∙ set-place sendings first at next d within (omega (arith, is));
+          ∙ set-place readers first at next d within (omega (arith, is));
       made = given.fed.made ∙ so_far.made;
-      stands = λ plant scans stands.
-          let more = given.fed.stands (plant_with_all sendings plant (take at first)) scans
-          (so_far.stands plant scans stands) in
-          subst (λ (p : Plant). StandsFor p scans now)
-          (sym (ap (plant_with_all sendings plant) front
+      gone = given.fed.gone ∙ so_far.gone;
+      stands = λ plant scans after_each stands.
+          let more = given.fed.stands (plant_with_all readers plant (take at first)) scans after_each
+          (so_far.stands plant scans after_each stands) in
+          subst (λ (p : Plant). StandsBy p scans after_each now)
+          (sym (ap (plant_with_all readers plant) front
           ∙ fold-append (λ (fed : Plant) (w : WiredDrop). plant_with_rows fed w.plan.now.node
-          w.drop.now.number (rows_wanted sendings w)) plant (take at first) (one ∷ []))) more;
+          w.drop.now.number (rows_wanted readers w)) plant (take at first) (one ∷ []))) more;
     }
 
-pub all-given : (sendings : List Sending) (first wired : List WiredDrop) (at : ℕ)
-    (start now : SerialIs) → at ≡ length first → GivenSoFar sendings first wired at start now
-    → AreGivenRows sendings first wired start now
-all-given sendings first wired at start now is so_far =
+pub all-given : (readers : List WireReader) (first wired : List WiredDrop) (at : ℕ)
+    (start now : SerialIs) → at ≡ length first → GivenSoFar readers first wired at start now
+    → AreGivenRows readers first wired start now
+all-given readers first wired at start now is so_far =
     let all : take at first ≡ first = ap (λ n. take n first) is ∙ take-length first in
     let none : drop at first ≡ [] = ap (λ n. drop n first) is ∙ drop-length first in
     record {
       wired_are = so_far.wired_are
-          ∙ (λ i. map (with_rows sendings) (all i) ++ none i) ∙ append-nil _;
+          ∙ (λ i. map (with_rows readers) (all i) ++ none i) ∙ append-nil _;
       made = so_far.made;
-      stands = λ plant scans stands.
-          subst (λ (l : List WiredDrop). StandsFor (plant_with_all sendings plant l) scans now) all
-          (so_far.stands plant scans stands);
+      gone = so_far.gone;
+      stands = λ plant scans after_each stands.
+          subst (λ (l : List WiredDrop). StandsBy (plant_with_all readers plant l) scans after_each
+          now) all (so_far.stands plant scans after_each stands);
     }

@@ -12,7 +12,6 @@ use Rattle.plant_types.specs.declared.plan.Plant.{Plant}
 use Rattle.plant_types.specs.Plans.{net_of}
 use Rattle.ring_core.specs.declared.entry.RingEntry.{RingEntry}
 use Rattle.controller_core.specs.declared.entry.Entry.{Entry}
-use Rattle.controller_core.specs.Controller.{made}
 use Rattle.whole_scan.specs.Scans.{scan_events}
 use Rattle.joint_history.specs.declared.joint.ControllerLog.{ControllerLog}
 use Rattle.joint_history.specs.declared.joint.Joint.{Joint}
@@ -21,19 +20,19 @@ use Rattle.joint_history.specs.JointLaws.{fixed_of}
 use Rattle.joint_history.specs.Nets.{entries_on, noted_on}
 use Rattle.joint_history.specs.Reading.{controller_at, has_ended_at, is_ours}
 use Rattle.comm_port.specs.Order.{IsGivingUp}
-use Rattle.serial_run.specs.declared.order.Turn.TheVariants.{Hold, Visit, Away}
-use Rattle.serial_run.specs.Serial.{log_with_scan, members_on, scanned}
-use Rattle.serial_run.specs.Serial.{IsChain, IsRepetition, MakesRound, MakesRoundOfEach}
-use Rattle.serial_run.specs.Turns.{holder_on, net_numbered, place_of_bridge}
-use Rattle.serial_run.specs.Turns.{place_of_controller, place_of_host, visit_is_due}
-use Rattle.serial_run.specs.Turns.{with_entries, with_list, with_noted_on}
-use Rattle.serial_run.specs.Turns.{MakesAwayTurn, MakesHold, MakesHoldOn}
-use Rattle.serial_run.specs.Turns.{MakesTurns, MakesVisit}
-use Rattle.serial_run.specs.Turns.{VisitsWhere}
+use Rattle.serial_feed.specs.SerialRuns.{Hold, Visit, Away}
+use Rattle.serial_feed.specs.SerialRuns.{log_with_scan, members_on, scanned}
+use Rattle.serial_feed.specs.SerialRuns.{IsChain, IsRepetition, MakesRound, MakesRoundOfEach}
+use Rattle.serial_feed.specs.SerialRuns.{holder_on, net_numbered, place_of_bridge}
+use Rattle.serial_feed.specs.SerialRuns.{place_of_controller, place_of_host, visit_is_due}
+use Rattle.serial_feed.specs.SerialRuns.{with_entries, with_list, with_noted_on}
+use Rattle.serial_feed.specs.SerialRuns.{MakesAwayTurn, MakesHold, MakesHoldOn}
+use Rattle.serial_feed.specs.SerialRuns.{MakesTurns, MakesVisit}
+use Rattle.serial_feed.specs.SerialRuns.{VisitsWhere}
 use Rattle.tied_lists.specs.Own.{is_of}
-use Rattle.serial_run.proofs.Grown.{further-adds, further-both, further-grew, Further}
-use Rattle.serial_run.proofs.HeldTurns.{end-turn-ended, host-turn-ring, turn-known, turn-ring}
-use Rattle.serial_run.proofs.HeldTurns.{visit-known, visit-ring, TurnEnded}
+use Rattle.serial_feed.proofs.SerialLemmas.{further-adds, further-both, further-grew, Further}
+use Rattle.serial_feed.proofs.SerialLemmas.{end-turn-ended, host-turn-ring, turn-known, turn-ring}
+use Rattle.serial_feed.proofs.SerialLemmas.{visit-known, visit-ring, TurnEnded}
 use Rattle.word_exchange.specs.Moments.{node_of_log, RepetitionsGoOn}
 use Rattle.word_exchange.specs.Words.{entries_if, entries_of}
 

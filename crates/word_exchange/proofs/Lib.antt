@@ -10,3 +10,17 @@ pub mod ReadingOn
 pub mod Following
 pub mod Repeating
 pub mod Ruled
+pub mod SourceLemmas
+pub mod StartLemmas
+pub mod Tied
+pub mod Matching
+pub mod Scripted
+pub mod Tested
+pub mod Runnable
+pub mod Chains
+pub mod StepsLeft
+pub mod NextRows
+pub mod NextMoment
+pub mod Onward
+pub mod Beginning
+pub mod SerialLemmas

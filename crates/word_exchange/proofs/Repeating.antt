@@ -8,9 +8,9 @@ use Rattle.plant_types.specs.declared.plan.Plant.{Plant}
 use Rattle.plant_types.specs.Plans.{controller_nodes}
 use Rattle.joint_history.specs.declared.joint.Joint.{Joint}
 use Rattle.joint_history.specs.Nets.{noted_on}
-use Rattle.serial_run.specs.declared.stations.ControllerStation.{ControllerStation}
-use Rattle.serial_run.specs.declared.stations.RingStation.{RingStation}
-use Rattle.serial_run.specs.Stations.{log_of, StandsOn}
+use Rattle.serial_feed.specs.SerialRuns.{ControllerStation}
+use Rattle.serial_feed.specs.SerialRuns.{RingStation}
+use Rattle.serial_feed.specs.SerialRuns.{log_of, StandsOn}
 use Rattle.serial_feed.specs.Standing.{are_gone, made_by, RepeatedIf, SerialIs, StandsForSome}
 use Rattle.serial_feed.specs.Standing.{Turned}
 use Rattle.word_exchange.specs.declared.running.WireReader.{WireReader}
@@ -18,7 +18,7 @@ use Rattle.word_exchange.specs.Moments.{node_of_log, JointGoesOn, RepetitionsGoO
 use Rattle.word_exchange.specs.Running.{HasReadWithin, HasReadAll, ReadersFollow, ReadsWhatCame}
 use Rattle.word_exchange.specs.Words.{entries_of}
 
-same-nodes : (plant : Plant) (scans : ℕ) (rings : List RingStation) (plans : List ControllerPlan)
+pub same-nodes : (plant : Plant) (scans : ℕ) (rings : List RingStation) (plans : List ControllerPlan)
     (stations : List ControllerStation) → AllZip (StandsOn plant scans rings) plans stations
     → map node_of_log (map log_of stations) ≡ map (λ (p : ControllerPlan). p.node) plans
 same-nodes plant scans rings [] [] all = refl

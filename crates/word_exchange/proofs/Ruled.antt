@@ -15,7 +15,7 @@ use Rattle.peer_cop.specs.declared.wire.Wire.{Wire}
 use Rattle.serial_feed.specs.Feeding.{plan_with, plant_fed}
 use Rattle.word_exchange.specs.Exchange.{drop_exchanged, plan_exchanged, script_due}
 use Rattle.word_exchange.specs.declared.feeding.WiredDrop.{WiredDrop}
-use Rattle.word_exchange.specs.declared.sending.Sending.{Sending}
+use Rattle.word_exchange.specs.declared.running.WireReader.{WireReader}
 use Rattle.word_exchange.specs.Feeding.{plant_with_all, plant_with_rows, rows_wanted}
 use Rattle.word_exchange.specs.Feeding.{with_script}
 use Rattle.word_exchange.specs.Rows.{is_wired}
@@ -122,17 +122,17 @@ rows-fed node number (row ∷ rows) script plant once =
     (script_with node number (row ∷ rows) script) plant
     (λ plan d. add-by ((plan.node == node) && (d.number == number)) (script plan d) row rows)
 
-all-fed : (sendings : List Sending) (script : Rule) (plant : Plant) (wired : List WiredDrop)
+all-fed : (readers : List WireReader) (script : Rule) (plant : Plant) (wired : List WiredDrop)
     → All HasDropsOnce plant.controllers
-    → plant_with_all sendings (plant_by script plant) wired
-    ≡ plant_by (script_with_all sendings script wired) plant
-all-fed sendings script plant [] once = refl
-all-fed sendings script plant (one ∷ wired) once =
+    → plant_with_all readers (plant_by script plant) wired
+    ≡ plant_by (script_with_all readers script wired) plant
+all-fed readers script plant [] once = refl
+all-fed readers script plant (one ∷ wired) once =
     let node = one.plan.now.node in
     let number = one.drop.now.number in
-    let rows = rows_wanted sendings one in
-    ap (λ (p : Plant). plant_with_all sendings p wired) (rows-fed node number rows script plant once)
-    ∙ all-fed sendings (script_with node number rows script) plant wired once
+    let rows = rows_wanted readers one in
+    ap (λ (p : Plant). plant_with_all readers p wired) (rows-fed node number rows script plant once)
+    ∙ all-fed readers (script_with node number rows script) plant wired once
 
 -- ---- the plant of a word exchange
 

@@ -66,7 +66,7 @@ module _ {X : Type 0} (f : X → ℕ) where
   abbrev most : ℕ → List X → ℕ
   most a xs = fold (λ (m : ℕ) (x : X). max m (f x)) a xs
 
-  most-least : (a : ℕ) (xs : List X) → a ≤ most a xs
+  pub most-least : (a : ℕ) (xs : List X) → a ≤ most a xs
   most-least a [] = omega arith
   most-least a (x ∷ xs) = let more = most-least (max a (f x)) xs in omega (arith, more)
 
@@ -114,7 +114,7 @@ map-range f g a (suc n) each =
 -- ---- a row that is made at the start
 
 module _ (plant : Plant) (joint : Joint) where
-  sent-if : (o : Option ControllerPlan) (d : Option IoDrop)
+  pub sent-if : (o : Option ControllerPlan) (d : Option IoDrop)
       → words_if words_sent o d (joint ∷ []) ≡ words_if words_sent o d []
   unfolding last_passed
   sent-if None None = refl

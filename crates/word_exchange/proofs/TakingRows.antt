@@ -2,6 +2,7 @@
 use Rattle.std.proofs.Common.{◌≡◌, ◌≤◌, ℕ, zero, suc, ◌+◌, ◌-◌, ◌==◌, Bool, true, false, cond}
 use Rattle.std.proofs.Common.{List, [], ◌∷◌, ◌++◌, length, map, Option, Some, None, refl, sym}
 use Rattle.std.proofs.Common.{ap, subst, ◌∙◌, append_assoc, arith, eq-eqb, length-append, max}
+use Rattle.std.proofs.Common.{Result, Ok, Err, OnOk}
 use Rattle.std.specs.Prelude.{if◌then◌else◌, option_map, replicate, slice_get}
 use Rattle.std.specs.List.{All, AllByRecursion, count_by, enumerate_from, range_with_len}
 use Rattle.std.proofs.lemmas.Bool.{eqb-true}
@@ -27,18 +28,26 @@ use Rattle.controller_core.specs.Feeding.{CanFeedAfter}
 use Rattle.joint_history.specs.declared.joint.ControllerLog.{ControllerLog}
 use Rattle.joint_history.specs.declared.joint.Joint.{Joint}
 use Rattle.joint_history.specs.JointLaws.{fixed_of}
-use Rattle.serial_run.specs.declared.stations.ControllerStation.{ControllerStation}
-use Rattle.serial_run.specs.Feeding.{CanFeedNode}
-use Rattle.serial_run.specs.Stations.{log_of, StandsOn}
-use Rattle.serial_run.proofs.Lists.{from-places, map-there, zip-at}
-use Rattle.serial_run.proofs.Repeats.{all-at}
+use Rattle.serial_feed.specs.SerialRuns.{ControllerStation}
+use Rattle.serial_feed.specs.SerialRuns.{CanFeedNode}
+use Rattle.serial_feed.specs.SerialRuns.{log_of, StandsOn}
+use Rattle.serial_feed.proofs.SerialLemmas.{from-places, map-there, zip-at}
+use Rattle.serial_feed.proofs.SerialLemmas.{all-at}
 use Rattle.serial_feed.specs.Feeding.{plan_with, plant_fed}
-use Rattle.serial_feed.specs.Standing.{made_by, SerialIs, StandsFor}
-use Rattle.word_exchange.specs.declared.sending.Sending.{Sending}
+use Rattle.serial_feed.specs.SerialRuns.{all_have_ended, IsChain, IsRepetition}
+use Rattle.serial_feed.specs.SerialRuns.{nothing_made}
+use Rattle.serial_feed.proofs.SerialLemmas.{ended-as}
+use Rattle.serial_feed.specs.Standing.{are_gone, made_by, FedFor, SerialIs, StandsFor}
+use Rattle.serial_feed.proofs.FedRuns.{all-ended-same, runs}
+use Rattle.serial_feed.proofs.FedStations.{can-in}
+use Rattle.serial_feed.proofs.GoingOn.{agrees-last}
+use Rattle.word_exchange.specs.declared.running.WireReader.{WireReader}
+use Rattle.word_exchange.specs.declared.sources.Source.{Source}
 use Rattle.word_exchange.specs.Feeding.{with_script, CanTakeRows, HasScript}
-use Rattle.word_exchange.specs.Feeding.{plant_with_rows, rows_from, HasScriptIn}
-use Rattle.word_exchange.specs.Feeding.{TakesRows}
-use Rattle.word_exchange.specs.Rows.{inputs_a_scan, own_row, own_row_or, row_made, word_made}
+use Rattle.word_exchange.specs.Feeding.{plant_with_rows, rows_from, FedRows, HasScriptIn}
+use Rattle.word_exchange.specs.Feeding.{StandsBy, TakesRows}
+use Rattle.word_exchange.specs.Rows.{inputs_a_scan, own_row, own_row_or}
+use Rattle.word_exchange.specs.Sources.{row_brought, word_brought}
 use Rattle.word_exchange.specs.Words.{is_input_of, names_drop}
 use Rattle.word_exchange.proofs.Counted.{counted}
 
@@ -62,13 +71,13 @@ pub own-fits : (drop : IoDrop) (exchange : ℕ) → IsDrop drop
     → fits_row drop.modules (own_row drop exchange) ≡ true
 own-fits drop exchange own = own-by drop _ (row_at drop.script exchange) own refl
 
-pub made-fits : (modules : List Module) (sendings : List Sending) (node number : ℕ)
-    (own : ScriptRow)
-    → fits_row modules own ≡ true → fits_row modules (row_made sendings node number own) ≡ true
-made-fits modules sendings node number Silent fits = refl
-made-fits modules sendings node number (Row words) fits =
+pub made-fits : (modules : List Module) (readers : List WireReader)
+    (sources : List (Option Source)) (own : ScriptRow)
+    → fits_row modules own ≡ true → fits_row modules (row_brought readers sources own) ≡ true
+made-fits modules readers sources Silent fits = refl
+made-fits modules readers sources (Row words) fits =
     ap (λ n. n == input_total modules)
-    (length-map (enumerate_from 1 words) (word_made sendings node number)
+    (length-map (enumerate_from 1 words) (word_brought readers sources)
     ∙ length-enumerate_from 1 words) ∙ fits
 
 -- ---- the drop is one that the order of solve reads
@@ -97,7 +106,7 @@ module _ (plan : ControllerPlan) (number : ℕ) where
 
 -- ---- the input exchanges by the orders alone
 
-input-same : (fed plan : ControllerPlan) (number : ℕ) (e : Entry) → fed.orders ≡ plan.orders
+pub input-same : (fed plan : ControllerPlan) (number : ℕ) (e : Entry) → fed.orders ≡ plan.orders
     → is_input_of fed number e ≡ is_input_of plan number e
 input-same fed plan number entries.Begin same = refl
 input-same fed plan number (entries.Input row) same =
@@ -112,7 +121,7 @@ input-same fed plan number (entries.Peer id request reply) same = refl
 input-same fed plan number (entries.Off id request) same = refl
 input-same fed plan number (entries.Finish id result) same = refl
 
-count-same : {X : Type 0} (p q : X → Bool) (xs : List X) → ((x : X) → p x ≡ q x)
+pub count-same : {X : Type 0} (p q : X → Bool) (xs : List X) → ((x : X) → p x ≡ q x)
     → count_by p xs ≡ count_by q xs
 count-same p q [] same = refl
 count-same p q (x ∷ xs) same =
@@ -170,6 +179,60 @@ can-feed plan drop script row serial can fits =
     subst (λ (f : _). CanFeedAfter f s.controller.history drop.number row) (sym stands.fixed)
     (can-after plan fed drop script row can.plant can.scans s.controller.history has runs can.read
     fits made))
+
+-- ---- the row was fed
+
+-- a serial run that stands for a plant does by its own repetitions
+pub by-own : (plant : Plant) (scans : ℕ) (serial : SerialIs) (s : StandsFor plant scans serial)
+    → StandsBy plant scans s.after_each serial
+by-own plant scans serial s = record { stands = s; repetitions = s.repetitions }
+
+fed-gone : (plant : Plant) (scans node number : ℕ) (row : ScriptRow) (old new : SerialIs)
+    → StandsFor plant scans old → CanFeedNode node number row old.run
+    → FedFor node number row old new → are_gone new ≡ are_gone old
+fed-gone plant scans node number row old new s can fed =
+    let more = plant_fed plant node number row in
+    ended-as more scans new.run (fed.stands plant scans s).stations
+    ∙ ap (all_have_ended more scans) fed.made
+    ∙ all-ended-same plant scans node number row (made_by old)
+    (agrees-last plant scans node number row (made_by old)
+    (can-in plant scans node number row old.run s.stations can))
+    ∙ sym (ended-as plant scans old.run s.stations)
+
+pub one-fed : (plan : ControllerPlan) (drop : IoDrop) (script : List ScriptRow) (row : ScriptRow)
+    (old new : SerialIs) → CanTakeRows plan drop script old → fits_row drop.modules row ≡ true
+    → FedFor plan.node drop.number row old new
+    → FedRows plan.node drop.number (row ∷ []) old new
+one-fed plan drop script row old new can fits fed =
+    let node = plan.node in
+    let number = drop.number in
+    let feeds = can-feed plan drop script row old can fits in
+    record {
+      made = fed.made;
+      gone = fed-gone can.plant can.scans node number row old new can.stands feeds fed;
+      stands = λ plant scans after_each s.
+          let more = plant_fed plant node number row in
+          record {
+            stands = fed.stands plant scans s.stands;
+            repetitions = subst (λ (j : Joint). IsChain (IsRepetition more scans)
+                (nothing_made more) after_each j) (sym fed.made)
+                (runs plant scans node number row after_each (made_by old)
+                (can-in plant scans node number row old.run s.stands.stations feeds)
+                s.repetitions);
+          };
+    }
+
+pub row-taken : {T E : Type 0} (r : Result T E) (plan : ControllerPlan) (drop : IoDrop)
+    (script new_script : List ScriptRow) (row copy : ScriptRow) (old new : SerialIs)
+    → CanTakeRows plan drop script old → fits_row drop.modules row ≡ true
+    → new_script ≡ script ++ copy ∷ [] → copy ≡ row
+    → OnOk r (FedFor plan.node drop.number row old new)
+    → OnOk r (TakesRows plan drop (row ∷ []) script new_script old new)
+row-taken (Ok x) plan drop script new_script row copy old new can fits is same fed = record {
+  script_is = is ∙ ap (λ (r : ScriptRow). script ++ r ∷ []) same;
+  fed = one-fed plan drop script row old new can fits fed;
+}
+row-taken (Err e) plan drop script new_script row copy old new can fits is same fed = fed
 
 -- ---- one row more
 
@@ -234,7 +297,8 @@ can-more plan drop script new_script row old new can takes =
     record {
       plant = plant_fed can.plant plan.node drop.number row;
       scans = can.scans;
-      stands = takes.fed.stands can.plant can.scans can.stands;
+      stands = (takes.fed.stands can.plant can.scans can.stands.after_each
+          (by-own can.plant can.scans old can.stands)).stands;
       has = subst
           (λ (s : List ScriptRow). HasScript plan drop s
           (plant_fed can.plant plan.node drop.number row)) (sym takes.script_is)
@@ -249,60 +313,62 @@ can-more plan drop script new_script row old new can takes =
 
 -- ---- rows after rows
 
-range-last : (a n b : ℕ) → b ≡ a + n
+pub range-last : (a n b : ℕ) → b ≡ a + n
     → range_with_len a (suc n) ≡ range_with_len a n ++ b ∷ []
 range-last a zero b is = let same : a ≡ b = omega (arith, is) in ap (λ k. k ∷ []) same
 range-last a (suc n) b is =
     ap (λ (l : List ℕ). a ∷ l) (range-last (a + 1) n b (omega (arith, is)))
 
-rows-last : (sendings : List Sending) (plan : ControllerPlan) (drop : IoDrop) (there needed : ℕ)
+rows-last : (readers : List WireReader) (sources : List (Option Source)) (drop : IoDrop) (there needed : ℕ)
     → there ≤ needed
-    → rows_from sendings plan drop there (suc needed)
-    ≡ rows_from sendings plan drop there needed
-    ++ row_made sendings plan.node drop.number (own_row drop (suc needed)) ∷ []
-rows-last sendings plan drop there needed low =
+    → rows_from readers sources drop there (suc needed)
+    ≡ rows_from readers sources drop there needed
+    ++ row_brought readers sources (own_row drop (suc needed)) ∷ []
+rows-last readers sources drop there needed low =
     let row : ℕ → ScriptRow =
-    λ r. row_made sendings plan.node drop.number (own_row drop r) in
+    λ r. row_brought readers sources (own_row drop r) in
     let many : suc needed - there ≡ suc (needed - there) = omega (arith, low) in
     ap (λ n. map row (range_with_len (suc there) n)) many
     ∙ ap (map row) (range-last (suc there) (needed - there) (suc needed) (omega (arith, low)))
     ∙ map-append row (range_with_len (suc there) (needed - there)) (suc needed ∷ [])
 
-no-rows : (sendings : List Sending) (plan : ControllerPlan) (drop : IoDrop) (there at : ℕ)
-    → at ≡ there → rows_from sendings plan drop there at ≡ []
-no-rows sendings plan drop there at is =
+no-rows : (readers : List WireReader) (sources : List (Option Source)) (drop : IoDrop) (there at : ℕ)
+    → at ≡ there → rows_from readers sources drop there at ≡ []
+no-rows readers sources drop there at is =
     let none : at - there ≡ 0 = omega (arith, is) in
-    ap (λ n. map (λ (r : ℕ). row_made sendings plan.node drop.number (own_row drop r))
+    ap (λ n. map (λ (r : ℕ). row_brought readers sources (own_row drop r))
     (range_with_len (suc there) n)) none
 
-pub takes-none : (plan : ControllerPlan) (drop : IoDrop) (sendings : List Sending)
+pub takes-none : (plan : ControllerPlan) (drop : IoDrop) (readers : List WireReader)
+    (sources : List (Option Source))
     (script : List ScriptRow) (at : ℕ) (serial : SerialIs) → at ≡ length script
-    → TakesRows plan drop (rows_from sendings plan drop (length script) at) script script serial
+    → TakesRows plan drop (rows_from readers sources drop (length script) at) script script serial
     serial
-takes-none plan drop sendings script at serial is =
+takes-none plan drop readers sources script at serial is =
     subst (λ (rows : List ScriptRow). TakesRows plan drop rows script script serial serial)
-    (sym (no-rows sendings plan drop (length script) at is))
+    (sym (no-rows readers sources drop (length script) at is))
     (record {
       script_is = sym (append-nil script);
-      fed = record { made = refl; stands = λ plant scans stands. stands };
+      fed = record { made = refl; gone = refl; stands = λ plant scans after_each stands. stands };
     })
 
-pub takes-more : (plan : ControllerPlan) (drop : IoDrop) (sendings : List Sending)
+pub takes-more : (plan : ControllerPlan) (drop : IoDrop) (readers : List WireReader)
+    (sources : List (Option Source))
     (first script new_script : List ScriptRow) (at next : ℕ) (row own : ScriptRow)
     (start old new : SerialIs) → length first ≤ at → next ≡ suc at
-    → row ≡ row_made sendings plan.node drop.number own → own ≡ own_row drop next
-    → TakesRows plan drop (rows_from sendings plan drop (length first) at) first script start old
+    → row ≡ row_brought readers sources own → own ≡ own_row drop next
+    → TakesRows plan drop (rows_from readers sources drop (length first) at) first script start old
     → TakesRows plan drop (row ∷ []) script new_script old new
-    → TakesRows plan drop (rows_from sendings plan drop (length first) next) first new_script start
+    → TakesRows plan drop (rows_from readers sources drop (length first) next) first new_script start
     new
-takes-more plan drop sendings first script new_script at next row own start old new low after is
+takes-more plan drop readers sources first script new_script at next row own start old new low after is
     own_is so_far one =
-    let rows = rows_from sendings plan drop (length first) at in
-    let last = is ∙ ap (row_made sendings plan.node drop.number)
+    let rows = rows_from readers sources drop (length first) at in
+    let last = is ∙ ap (row_brought readers sources)
     (own_is ∙ ap (own_row drop) after) in
-    let all : rows_from sendings plan drop (length first) next ≡ rows ++ row ∷ [] =
-    ap (rows_from sendings plan drop (length first)) after
-    ∙ rows-last sendings plan drop (length first) at low
+    let all : rows_from readers sources drop (length first) next ≡ rows ++ row ∷ [] =
+    ap (rows_from readers sources drop (length first)) after
+    ∙ rows-last readers sources drop (length first) at low
     ∙ ap (λ (r : ScriptRow). rows ++ r ∷ []) (sym last) in
     subst (λ (l : List ScriptRow). TakesRows plan drop l first new_script start new) (sym all)
     (record {
@@ -310,26 +376,28 @@ takes-more plan drop sendings first script new_script at next row own start old 
           ∙ append_assoc first rows (row ∷ []);
       fed = record {
         made = one.fed.made ∙ so_far.fed.made;
-        stands = λ plant scans stands.
-            subst (λ (p : Plant). StandsFor p scans new)
+        gone = one.fed.gone ∙ so_far.fed.gone;
+        stands = λ plant scans after_each stands.
+            subst (λ (p : Plant). StandsBy p scans after_each new)
             (sym (fold-append
             (λ (fed : Plant) (r : ScriptRow). plant_fed fed plan.node drop.number r) plant rows
             (row ∷ [])))
-            (one.fed.stands (plant_with_rows plant plan.node drop.number rows) scans
-            (so_far.fed.stands plant scans stands));
+            (one.fed.stands (plant_with_rows plant plan.node drop.number rows) scans after_each
+            (so_far.fed.stands plant scans after_each stands));
       };
     })
 
-pub takes-all : (plan : ControllerPlan) (drop : IoDrop) (sendings : List Sending)
+pub takes-all : (plan : ControllerPlan) (drop : IoDrop) (readers : List WireReader)
+    (sources : List (Option Source))
     (first script : List ScriptRow) (at needed : ℕ) (start now : SerialIs) → length first ≤ at
     → at ≤ max (length first) needed → needed ≤ at
-    → TakesRows plan drop (rows_from sendings plan drop (length first) at) first script start now
-    → TakesRows plan drop (rows_from sendings plan drop (length first) needed) first script start
+    → TakesRows plan drop (rows_from readers sources drop (length first) at) first script start now
+    → TakesRows plan drop (rows_from readers sources drop (length first) needed) first script start
     now
-takes-all plan drop sendings first script at needed start now low high end takes =
+takes-all plan drop readers sources first script at needed start now low high end takes =
     let same : at - length first ≡ needed - length first = omega (arith, low, high, end) in
     subst (λ (n : ℕ). TakesRows plan drop
-    (map (λ (r : ℕ). row_made sendings plan.node drop.number (own_row drop r))
+    (map (λ (r : ℕ). row_brought readers sources (own_row drop r))
     (range_with_len (suc (length first)) n)) first script start now) same takes
 
 pub fits-as : (modules : List Module) (row made : ScriptRow) → row ≡ made

@@ -15,8 +15,8 @@ use Rattle.controller_core.specs.declared.fixed.Fixed.{Fixed}
 use Rattle.controller_core.specs.Feeding.{exchanges_made}
 use Rattle.controller_core.specs.Replay.{replay}
 use Rattle.joint_history.specs.declared.joint.Joint.{Joint}
-use Rattle.serial_run.specs.Serial.{all_have_ended, Finishes, IsChain, IsRepetition}
-use Rattle.serial_run.specs.Turns.{nothing_made}
+use Rattle.serial_feed.specs.SerialRuns.{all_have_ended, Finishes, IsChain, IsRepetition}
+use Rattle.serial_feed.specs.SerialRuns.{nothing_made}
 use Rattle.peer_cop.specs.declared.wire.Wire.{Wire}
 use Rattle.peer_cop.specs.Plants.{plan_of}
 use Rattle.word_exchange.specs.Moments.{node_of_log}

@@ -1,5 +1,6 @@
 -- Rows that a wired drop is given at a moment of a run. All of it is this project's own.
 use Rattle.std.specs.Prelude.{◌≡◌, ◌≢◌, ◌≤◌, ◌<◌, Some, ℕ, suc, ◌-◌, List, ◌++◌, fold, length, map}
+use Rattle.std.specs.Prelude.{Option}
 use Rattle.std.specs.List.{All, AllPairs, count_by, range_with_len}
 use Rattle.plant_types.specs.declared.drops.IoDrop.{IoDrop}
 use Rattle.plant_types.specs.declared.drops.ScriptRow.{ScriptRow}
@@ -10,10 +11,14 @@ use Rattle.traffic_cop.specs.Exchange.{IsDrop}
 use Rattle.joint_history.specs.declared.joint.ControllerLog.{ControllerLog}
 use Rattle.joint_history.specs.declared.joint.Joint.{Joint}
 use Rattle.serial_feed.specs.Feeding.{plant_fed}
-use Rattle.serial_feed.specs.Standing.{made_by, SerialIs, StandsFor}
+use Rattle.serial_feed.specs.SerialRuns.{IsChain, IsRepetition}
+use Rattle.serial_feed.specs.SerialRuns.{nothing_made}
+use Rattle.serial_feed.specs.Standing.{are_gone, made_by, SerialIs, StandsFor}
 use Rattle.word_exchange.specs.declared.feeding.WiredDrop.{WiredDrop}
-use Rattle.word_exchange.specs.declared.sending.Sending.{Sending}
-use Rattle.word_exchange.specs.Rows.{inputs_a_scan, own_row, row_made}
+use Rattle.word_exchange.specs.declared.running.WireReader.{WireReader}
+use Rattle.word_exchange.specs.declared.sources.Source.{Source}
+use Rattle.word_exchange.specs.Rows.{inputs_a_scan, own_row}
+use Rattle.word_exchange.specs.Sources.{row_brought}
 use Rattle.word_exchange.specs.Words.{is_input_of}
 
 -- The plant with these rows last in the script of a drop of a node's controller, in their order.
@@ -56,12 +61,21 @@ pub record CanTakeRows (plan : ControllerPlan) (drop : IoDrop) (script : List Sc
   pub read : 1 ≤ inputs_a_scan plan drop.number
   pub made : HasMadeAtMost plan drop.number (length script) (made_by serial)
 
--- A serial run was fed these rows, in their order: it made nothing, and stands for each plant with
--- the rows for which it stood without them.
+-- A serial run stands for a plant, by these joint histories, one after each repetition so far.
+pub record StandsBy (plant : Plant) (scans : ℕ) (after_each : List Joint) (serial : SerialIs)
+    : Type 0 where
+  pub stands : StandsFor plant scans serial
+  pub repetitions : IsChain (IsRepetition plant scans) (nothing_made plant) after_each
+      (made_by serial)
+
+-- A serial run was fed these rows, in their order: it made nothing, no scans are gone by that, and
+-- it stands for each plant with the rows for which it stood without them, by the same repetitions.
 pub record FedRows (node number : ℕ) (rows : List ScriptRow) (old new : SerialIs) : Type 0 where
   pub made : made_by new ≡ made_by old
-  pub stands : (plant : Plant) (scans : ℕ) → StandsFor plant scans old
-      → StandsFor (plant_with_rows plant node number rows) scans new
+  pub gone : are_gone new ≡ are_gone old
+  pub stands : (plant : Plant) (scans : ℕ) (after_each : List Joint)
+      → StandsBy plant scans after_each old
+      → StandsBy (plant_with_rows plant node number rows) scans after_each new
 
 -- These rows came last to the script of a drop, and the serial run was fed them.
 pub record TakesRows (plan : ControllerPlan) (drop : IoDrop)
@@ -69,28 +83,28 @@ pub record TakesRows (plan : ControllerPlan) (drop : IoDrop)
   pub script_is : new_script ≡ script ++ rows
   pub fed : FedRows plan.node drop.number rows old new
 
--- The rows of a drop after so many, up to as many as are needed: its own, with the words that are
--- sent.
-abbrev pub rows_from : List Sending → ControllerPlan → IoDrop → ℕ → ℕ → List ScriptRow
-rows_from sendings plan drop there needed =
-    map (λ (row : ℕ). row_made sendings plan.node drop.number (own_row drop row))
+-- The rows of a drop after so many, up to as many as are needed: its own, with the words that its
+-- sources bring.
+abbrev pub rows_from : List WireReader → List (Option Source) → IoDrop → ℕ → ℕ → List ScriptRow
+rows_from readers sources drop there needed =
+    map (λ (row : ℕ). row_brought readers sources (own_row drop row))
     (range_with_len (suc there) (needed - there))
 
 -- The rows that a wired drop is given, so that as many are there as it needs.
-abbrev pub rows_wanted : List Sending → WiredDrop → List ScriptRow
-rows_wanted sendings wired =
-    rows_from sendings wired.plan.now wired.drop.now (length wired.script) wired.needed
+abbrev pub rows_wanted : List WireReader → WiredDrop → List ScriptRow
+rows_wanted readers wired =
+    rows_from readers wired.sources.items wired.drop.now (length wired.script) wired.needed
 
 -- A wired drop with the rows that it needs.
-abbrev pub with_rows : List Sending → WiredDrop → WiredDrop
-with_rows sendings wired =
-    record wired { script = wired.script ++ rows_wanted sendings wired }
+abbrev pub with_rows : List WireReader → WiredDrop → WiredDrop
+with_rows readers wired =
+    record wired { script = wired.script ++ rows_wanted readers wired }
 
 -- A wired drop of a serial run was given the rows that it needs.
-pub record IsGivenRows (sendings : List Sending) (wired new_wired : WiredDrop) (old new : SerialIs)
+pub record IsGivenRows (readers : List WireReader) (wired new_wired : WiredDrop) (old new : SerialIs)
     : Type 0 where
-  pub wired_is : new_wired ≡ with_rows sendings wired
-  pub fed : FedRows wired.plan.now.node wired.drop.now.number (rows_wanted sendings wired) old new
+  pub wired_is : new_wired ≡ with_rows readers wired
+  pub fed : FedRows wired.plan.now.node wired.drop.now.number (rows_wanted readers wired) old new
 
 -- A serial run can take rows for a wired drop, where that has fewer than it needs.
 abbrev pub CanTakeIf : WiredDrop → SerialIs → Type 0
@@ -104,10 +118,10 @@ AreOtherDrops one other =
     one.plan.now.node ≡ other.plan.now.node → one.drop.now.number ≢ other.drop.now.number
 
 -- A plant with the rows that wired drops need.
-abbrev pub plant_with_all : List Sending → Plant → List WiredDrop → Plant
-plant_with_all sendings plant wired =
+abbrev pub plant_with_all : List WireReader → Plant → List WiredDrop → Plant
+plant_with_all readers plant wired =
     fold (λ (fed : Plant) (one : WiredDrop). plant_with_rows fed one.plan.now.node
-    one.drop.now.number (rows_wanted sendings one)) plant wired
+    one.drop.now.number (rows_wanted readers one)) plant wired
 
 -- What a wired drop needs to be given rows in a plant that has made so much: the plant has its
 -- script, some row of the order of solve reads it, and it has made at most as many input exchanges
@@ -128,11 +142,14 @@ pub record CanTakeAll (wired : List WiredDrop) (serial : SerialIs) : Type 0 wher
       → CanBeGiven plant (made_by serial) one) wired
   pub apart : AllPairs AreOtherDrops wired
 
--- All wired drops of a serial run were given the rows that they need: it made nothing, and stands
--- for each plant with all these rows for which it stood without them.
-pub record AreGivenRows (sendings : List Sending) (wired new_wired : List WiredDrop)
+-- All wired drops of a serial run were given the rows that they need: it made nothing, no scans are
+-- gone by that, and it stands for each plant with all these rows for which it stood without them, by
+-- the same repetitions.
+pub record AreGivenRows (readers : List WireReader) (wired new_wired : List WiredDrop)
     (old new : SerialIs) : Type 0 where
-  pub wired_are : new_wired ≡ map (with_rows sendings) wired
+  pub wired_are : new_wired ≡ map (with_rows readers) wired
   pub made : made_by new ≡ made_by old
-  pub stands : (plant : Plant) (scans : ℕ) → StandsFor plant scans old
-      → StandsFor (plant_with_all sendings plant wired) scans new
+  pub gone : are_gone new ≡ are_gone old
+  pub stands : (plant : Plant) (scans : ℕ) (after_each : List Joint)
+      → StandsBy plant scans after_each old
+      → StandsBy (plant_with_all readers plant wired) scans after_each new

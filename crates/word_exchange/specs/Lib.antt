@@ -7,3 +7,9 @@ pub mod Exchange
 pub mod Feeding
 pub mod Running
 pub mod Scripts
+pub mod Sources
+pub mod Starting
+pub mod Counting
+pub mod Wired
+pub mod Exchanging
+pub mod SerialRuns

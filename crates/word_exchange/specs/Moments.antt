@@ -7,7 +7,7 @@ use Rattle.controller_core.specs.declared.entry.Entry.{Entry}
 use Rattle.joint_history.specs.declared.joint.ControllerLog.{ControllerLog}
 use Rattle.joint_history.specs.declared.joint.Joint.{Joint}
 use Rattle.joint_history.specs.Nets.{noted_on}
-use Rattle.serial_run.specs.Serial.{IsRepetition}
+use Rattle.serial_feed.specs.SerialRuns.{IsRepetition}
 use Rattle.word_exchange.specs.Words.{entries_of}
 
 -- The node of a log.

@@ -3,8 +3,8 @@ use Rattle.std.specs.Prelude.{◌≡◌, ◌≤◌, Bool, List, drop, length}
 use Rattle.std.specs.List.{All, AllZip}
 use Rattle.ring_core.specs.declared.entry.RingEntry.{RingEntry}
 use Rattle.controller_core.specs.declared.entry.Entry.{Entry}
-use Rattle.serial_run.specs.Feeding.{history_of}
-use Rattle.serial_run.specs.Stations.{station_ring}
+use Rattle.serial_feed.specs.SerialRuns.{history_of}
+use Rattle.serial_feed.specs.SerialRuns.{station_ring}
 use Rattle.serial_feed.specs.Standing.{made_by, SerialIs, Turned}
 use Rattle.word_exchange.specs.declared.running.WireReader.{WireReader}
 use Rattle.word_exchange.specs.Moments.{JointGoesOn}

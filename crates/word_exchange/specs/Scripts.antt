@@ -9,7 +9,7 @@ use Rattle.joint_history.specs.declared.joint.Joint.{Joint}
 use Rattle.peer_cop.specs.declared.wire.Wire.{Wire}
 use Rattle.word_exchange.specs.Exchange.{plant_exchanged, script_due}
 use Rattle.word_exchange.specs.declared.feeding.WiredDrop.{WiredDrop}
-use Rattle.word_exchange.specs.declared.sending.Sending.{Sending}
+use Rattle.word_exchange.specs.declared.running.WireReader.{WireReader}
 use Rattle.word_exchange.specs.Feeding.{plant_with_all, plant_with_rows, rows_wanted}
 use Rattle.word_exchange.specs.Feeding.{with_script}
 use Rattle.word_exchange.specs.Rows.{is_wired}
@@ -31,11 +31,11 @@ script_with node number rows script plan drop =
     then script plan drop ++ rows else script plan drop
 
 -- The rule with the rows that wired drops need.
-abbrev pub script_with_all : List Sending → (ControllerPlan → IoDrop → List ScriptRow)
+abbrev pub script_with_all : List WireReader → (ControllerPlan → IoDrop → List ScriptRow)
     → List WiredDrop → ControllerPlan → IoDrop → List ScriptRow
-script_with_all sendings script wired =
+script_with_all readers script wired =
     fold (λ (rule : ControllerPlan → IoDrop → List ScriptRow) (one : WiredDrop).
-    script_with one.plan.now.node one.drop.now.number (rows_wanted sendings one) rule) script wired
+    script_with one.plan.now.node one.drop.now.number (rows_wanted readers one) rule) script wired
 
 -- The rule of a word exchange: wired drops have the script that is due, and others their own.
 abbrev pub script_exchanged : Plant → List Wire → List Joint → ControllerPlan → IoDrop
@@ -55,10 +55,10 @@ pub record RowsFollowRules : Type 0 where
       (rows : List ScriptRow) → All HasDropsOnce plant.controllers
       → plant_with_rows (plant_by script plant) node number rows
       ≡ plant_by (script_with node number rows script) plant
-  pub all : (sendings : List Sending) (script : ControllerPlan → IoDrop → List ScriptRow)
+  pub all : (readers : List WireReader) (script : ControllerPlan → IoDrop → List ScriptRow)
       (plant : Plant) (wired : List WiredDrop) → All HasDropsOnce plant.controllers
-      → plant_with_all sendings (plant_by script plant) wired
-      ≡ plant_by (script_with_all sendings script wired) plant
+      → plant_with_all readers (plant_by script plant) wired
+      ≡ plant_by (script_with_all readers script wired) plant
   pub exchanged : (plant : Plant) (wires : List Wire) (moments : List Joint)
       → plant_exchanged plant wires moments
       ≡ plant_by (script_exchanged plant wires moments) plant

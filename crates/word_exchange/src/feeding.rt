@@ -5,18 +5,25 @@ ghost use Rattle.word_exchange.specs.Feeding.{rows_from, AreGivenRows, CanTakeAl
 ghost use Rattle.word_exchange.specs.Feeding.{CanTakeRows, IsGivenRows, TakesRows};
 
 use crate::rows::{own_row, row_made};
-use crate::sending::Sending;
+use crate::running::WireReader;
+use crate::sources::Source;
 use plant_types::{ControllerPlan, Copied, IoDrop, List, ScriptRow};
 use serial_feed::Serial;
 use std::alloc::{AllocError, Global};
 
-/// A wired drop of a controller of the plant: its script so far, and how many rows it has to have
-/// before the next repetition.
+/// A wired drop of a controller of the plant: where its input words come from, its script so far,
+/// how many input exchanges it has in a full scan and has made, in how many entries of its
+/// controller they were counted, and how many rows it has to have before the next repetition.
+#[derive(Drop)]
 pub struct WiredDrop<'a> {
     pub plan: &'a ControllerPlan,
     pub drop: &'a IoDrop,
+    pub sources: Vec<Option<Source>>,
     pub script: List<ScriptRow>,
-    pub needed: usize,
+    pub inputs: usize,
+    pub exchanges: usize,
+    pub entries: usize,
+    pub needed: u128,
 }
 
 /// Puts a row last in the script of a drop of a controller, and feeds it to the serial run. The
@@ -47,17 +54,18 @@ fn feed_rows(
     drop: &IoDrop,
     script: &mut List<ScriptRow>,
     serial: &mut Serial,
-    sendings: &[Sending],
-    needed: usize,
+    readers: &[WireReader<'_>],
+    sources: &[Option<Source>],
+    needed: u128,
 ) -> Result<(), AllocError>
     requires { CanTakeRows plan.now drop.now script.old serial.old }
     ensures { OnOk result (TakesRows plan.now drop.now
-        (rows_from sendings.now plan.now drop.now (length script.old) needed)
+        (rows_from readers.now sources.now drop.now (length script.old) needed)
         script.old script.new serial.old serial.new) }
 {
-    for there in script.as_slice().len()..needed {
+    for there in script.as_slice().len() as u128..needed {
         let own = own_row(alloc, drop, there + 1)?;
-        let row = row_made(alloc, sendings, plan.node, drop.number, &own)?;
+        let row = row_made(alloc, readers, sources, &own)?;
         feed_row(alloc, plan, drop, script, serial, row)?;
     }
     Ok(())
@@ -70,12 +78,12 @@ impl WiredDrop<'_> {
         &mut self,
         alloc: Global,
         serial: &mut Serial,
-        sendings: &[Sending],
+        readers: &[WireReader<'_>],
     ) -> Result<(), AllocError>
         requires { CanTakeIf self.old serial.old }
-        ensures { OnOk result (IsGivenRows sendings.now self.old self.new serial.old serial.new) }
+        ensures { OnOk result (IsGivenRows readers.now self.old self.new serial.old serial.new) }
     {
-        if self.script.as_slice().len() >= self.needed {
+        if self.script.as_slice().len() as u128 >= self.needed {
             return Ok(());
         }
         let script = &mut self.script;
@@ -85,7 +93,8 @@ impl WiredDrop<'_> {
             self.drop,
             script,
             serial,
-            sendings,
+            readers,
+            self.sources.as_slice(),
             self.needed,
         )
     }
@@ -97,13 +106,13 @@ pub(crate) fn feed_all(
     alloc: Global,
     wired: &mut [WiredDrop<'_>],
     serial: &mut Serial,
-    sendings: &[Sending],
+    readers: &[WireReader<'_>],
 ) -> Result<(), AllocError>
     requires { CanTakeAll wired.old serial.old }
-    ensures { OnOk result (AreGivenRows sendings.now wired.old wired.new serial.old serial.new) }
+    ensures { OnOk result (AreGivenRows readers.now wired.old wired.new serial.old serial.new) }
 {
     for at in 0..wired.len() {
-        wired[at].feed(alloc, serial, sendings)?;
+        wired[at].feed(alloc, serial, readers)?;
     }
     Ok(())
 }

@@ -12,6 +12,7 @@ use std::alloc::{AllocError, Global};
 
 /// Reads what a wire's from drop sends: how many entries of its controller, whose plan this is, and
 /// of its ring were read so far.
+#[derive(Drop)]
 pub struct WireReader<'a> {
     pub plan: &'a ControllerPlan,
     pub sending: Sending,

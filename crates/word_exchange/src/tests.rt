@@ -4,7 +4,9 @@ ghost use Rattle.plant_types.specs.Limits.{drop_words};
 ghost use Rattle.traffic_cop.specs.Exchange.{input_total};
 
 use crate::rows::{own_row, row_made};
+use crate::running::WireReader;
 use crate::sending::Sending;
+use crate::sources::sources_of;
 use controller_core::Entry;
 use peer_cop::Wire;
 use plant_types::{Block, ControllerPlan, IoDrop, List, OrderRow, ScriptRow, Words};
@@ -46,24 +48,36 @@ fn plan_of(alloc: Global) -> Result<ControllerPlan, AllocError> {
     })
 }
 
-/// A wire whose from drop sends these words.
-fn sending_of(alloc: Global, wire: Wire, words: &[u16]) -> Result<Sending, AllocError> {
-    Ok(Sending {
-        wire,
-        latest: Words::of(alloc, words)?,
-        sent: Words::of(alloc, words)?,
+/// The reader of a wire whose from drop sends these words.
+fn reader_of<'a>(
+    alloc: Global,
+    plan: &'a ControllerPlan,
+    wire: Wire,
+    words: &[u16],
+) -> Result<WireReader<'a>, AllocError> {
+    Ok(WireReader {
+        plan,
+        sending: Sending {
+            wire,
+            latest: Words::of(alloc, words)?,
+            sent: Words::of(alloc, words)?,
+        },
+        entries: 0,
+        ring: 0,
     })
 }
 
-/// What a wire brings to a drop whose own row has these words; nothing to a silent row.
+/// What a reader's wire brings to a drop whose own row has these words; nothing to a silent row.
 fn brought(
     alloc: Global,
-    sending: &[Sending],
+    readers: &[WireReader<'_>],
+    wire: Wire,
     node: u8,
     own: &[u16],
 ) -> Result<Vec<u16>, AllocError> {
+    let sources = sources_of(alloc, &[wire], &[wire], node, 1, own.len())?;
     let own = ScriptRow::Row(Words::of(alloc, own)?);
-    match &row_made(alloc, sending, node, 1, &own)? {
+    match &row_made(alloc, readers, sources.as_slice(), &own)? {
         ScriptRow::Silent => Ok(Vec::new(alloc)),
         ScriptRow::Row(words) => Vec::from_slice(alloc, words.words()),
     }
@@ -89,14 +103,18 @@ fn output(word: u16) -> Entry {
 fn a_word_comes_a_repetition_later(rt: HostRuntime) -> Result<(), AllocError> {
     let alloc = rt.alloc();
     let plan = plan_of(alloc)?;
-    let mut wires = vec![in alloc; sending_of(alloc, WIRE, &[0])?]?;
+    let mut readers = vec![in alloc; reader_of(alloc, &plan, WIRE, &[0])?]?;
     let pass = [pass_of(alloc, 2)?];
-    assert!(rt; brought(alloc, &wires, 5, &[9])?.as_slice() == [0].as_slice());
-    wires[0].refresh(alloc, &plan, &[output(1)], &pass)?;
-    assert!(rt; brought(alloc, &wires, 5, &[9])?.as_slice() == [1].as_slice());
-    wires[0].refresh(alloc, &plan, &[output(0)], &pass)?;
-    assert!(rt; brought(alloc, &wires, 5, &[9])?.as_slice() == [0].as_slice());
-    assert!(rt; brought(alloc, &wires, 2, &[9])?.as_slice() == [9].as_slice());
+    assert!(rt; brought(alloc, &readers, WIRE, 5, &[9])?.as_slice() == [0].as_slice());
+    readers[0]
+        .sending
+        .refresh(alloc, &plan, &[output(1)], &pass)?;
+    assert!(rt; brought(alloc, &readers, WIRE, 5, &[9])?.as_slice() == [1].as_slice());
+    readers[0]
+        .sending
+        .refresh(alloc, &plan, &[output(0)], &pass)?;
+    assert!(rt; brought(alloc, &readers, WIRE, 5, &[9])?.as_slice() == [0].as_slice());
+    assert!(rt; brought(alloc, &readers, WIRE, 2, &[9])?.as_slice() == [9].as_slice());
     Ok(())
 }
 
@@ -104,7 +122,7 @@ fn a_word_comes_a_repetition_later(rt: HostRuntime) -> Result<(), AllocError> {
 fn a_node_that_is_away_sends_what_it_sent(rt: HostRuntime) -> Result<(), AllocError> {
     let alloc = rt.alloc();
     let plan = plan_of(alloc)?;
-    let mut sending = sending_of(alloc, WIRE, &[3])?;
+    let mut sending = reader_of(alloc, &plan, WIRE, &[3])?.sending;
     let other = [pass_of(alloc, 5)?];
     sending.refresh(alloc, &plan, &[output(4)], &other)?;
     assert!(rt; sending.sent.words() == [3].as_slice());
@@ -128,16 +146,17 @@ fn a_range_reaches_its_own_words(rt: HostRuntime) -> Result<(), AllocError> {
         count: 2,
         ..WIRE
     };
-    let wires = [sending_of(alloc, wire, &[10, 20, 30, 40])?];
-    let row = brought(alloc, &wires, 5, &[1, 2, 3, 4])?;
+    let plan = plan_of(alloc)?;
+    let readers = [reader_of(alloc, &plan, wire, &[10, 20, 30, 40])?];
+    let row = brought(alloc, &readers, wire, 5, &[1, 2, 3, 4])?;
     assert!(rt; row.as_slice() == [1, 30, 40, 4].as_slice());
-    let silent = row_made(alloc, &wires, 5, 1, &ScriptRow::Silent)?;
+    let silent = row_made(alloc, &readers, &[], &ScriptRow::Silent)?;
     assert!(rt; matches!(&silent, ScriptRow::Silent));
     Ok(())
 }
 
 /// Whether a drop's own row at an exchange is silent.
-fn is_silent(alloc: Global, drop: &IoDrop, exchange: usize) -> Result<bool, AllocError>
+fn is_silent(alloc: Global, drop: &IoDrop, exchange: u128) -> Result<bool, AllocError>
     requires { input_total drop.now.modules ≤ drop_words }
 {
     let row = own_row(alloc, drop, exchange)?;

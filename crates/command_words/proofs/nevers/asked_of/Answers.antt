@@ -1,24 +1,13 @@
-use Rattle.std.proofs.Common.{rules, ◌≡◌, ◌∙◌, ◌↔◌, ℕ, Option, Some, None, ap, ap₂, refl, sym, codes}
+use Rattle.std.proofs.Common.{rules, ◌≡◌, ◌∙◌, ℕ, ap, ap₂, refl, sym, codes}
 use Rattle.std.proofs.Common.{map, string_bytes, arith}
-use Rattle.std.specs.Prelude.{[], List, false, true, option_map}
-use Rattle.std.specs.Fmt.{decimal}
+use Rattle.std.specs.Prelude.{[], List, false, true}
 use Rattle.clap.specs.Words.{app_of, fault_of, first_of, first_value, found_of, rule_of}
 use Rattle.clap.specs.Words.{is_simple_and_free, matches_of, rows_of, with_rule}
 use Rattle.clap.specs.Simple.{new_rule}
-use Rattle.clap.specs.declared.parser.matches.ArgMatches.{ArgMatches}
 use Rattle.clap.proofs.WalkLemmas.{first_value-rows}
-use Rattle.command_words.specs.Arguments.{HasDepth}
-use Rattle.command_words.specs.Nevers.{IsDepth}
 use Rattle.command_words.proofs.OneNumber.{bare, needed}
-use Rattle.command_words.proofs.NeverWords.{asked_app, asked_are, asked_pass}
+use Rattle.command_words.proofs.NeverWords.{asked_app, asked_are, asked_pass, depth-found}
 use Rattle.command_words.proofs.nevers.asked_of.Goals as goal
-
--- a depth that was found is one in its range
-depth-found : (matches : ArgMatches) (depth : Option ℕ)
-    → HasDepth matches depth
-    ↔ ((first_value (found_of matches) (codes "D") ≡ option_map decimal depth) × IsDepth depth)
-depth-found matches None = (λ has. (has, tt), λ both. both.0)
-depth-found matches (Some depth) = (λ has. (has.0, has.1), λ both. (both.0, both.1))
 
 pub matches_of-requires : goal.matches_of-requires
 matches_of-requires c =

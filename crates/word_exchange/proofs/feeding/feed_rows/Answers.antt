@@ -5,10 +5,10 @@ use Rattle.word_exchange.proofs.feeding.feed_rows.Goals as goal
 
 pub loop-there-init : goal.loop-there-init
 loop-there-init c =
-    let there = ap length c.as_slice-there.ensures in
+    let there = ap length c.as_slice.ensures in
     record {
       can = c.requires;
-      takes = takes-none c.args.plan.now c.args.drop.now c.args.sendings.now c.args.script.now _
+      takes = takes-none c.args.plan.now c.args.drop.now c.args.readers.now c.args.sources.now c.args.script.now _
           c.args.serial.now there;
       low = omega (arith, there);
       high = omega (arith, there);
@@ -22,8 +22,7 @@ feed_row-requires-clause-fits c =
     let drop = c.args.drop.now in
     let exchange = c.loop-there.there + 1 in
     fits-as drop.modules _ _ c.in_ok-row.ensures
-    (made-fits drop.modules c.args.sendings.now c.args.plan.now.node drop.number
-    (c.in_ok-own.own) (own-as drop exchange _ c.requires.own c.in_ok-own.ensures))
+    (made-fits drop.modules c.args.readers.now c.args.sources.now (c.in_ok-own.own) (own-as drop exchange _ c.requires.own c.in_ok-own.ensures))
 
 pub loop-there-preserved : goal.loop-there-preserved
 loop-there-preserved c =
@@ -38,7 +37,7 @@ loop-there-preserved c =
     record {
       can = can-more plan drop c.loop-there.script c.feed_row.new.script row c.loop-there.serial
           c.feed_row.new.serial so_far.can one;
-      takes = takes-more plan drop c.args.sendings.now c.args.script.now c.loop-there.script
+      takes = takes-more plan drop c.args.readers.now c.args.sources.now c.args.script.now c.loop-there.script
           c.feed_row.new.script there (there + 1) row c.in_ok-own.own c.args.serial.now
           c.loop-there.serial c.feed_row.new.serial so_far.low (omega arith) c.in_ok-row.ensures
           c.in_ok-own.ensures so_far.takes one;
@@ -50,6 +49,6 @@ pub returns : goal.returns
 returns c =
     let so_far = c.loop-there.invariant in
     let test = c.loop-there-test.false in
-    takes-all c.args.plan.now c.args.drop.now c.args.sendings.now c.args.script.now
+    takes-all c.args.plan.now c.args.drop.now c.args.readers.now c.args.sources.now c.args.script.now
     c.loop-there.script c.loop-there.there c.args.needed c.args.serial.now c.loop-there.serial
     so_far.low so_far.high test so_far.takes

@@ -6,7 +6,7 @@ abbrev pub invariant-loop-there : goal.invariant-loop-there
 invariant-loop-there l = record {
   can : CanTakeRows l.plan l.drop l.script l.serial;
   takes : TakesRows l.plan l.drop
-      (rows_from l.sendings l.plan l.drop (length l.fn.script) l.there)
+      (rows_from l.readers l.sources l.drop (length l.fn.script) l.there)
       l.fn.script l.script l.fn.serial l.serial;
   low : length l.fn.script ≤ l.there;
   high : l.there ≤ max (length l.fn.script) l.needed;

@@ -1,0 +1,9 @@
+pub mod Stores
+pub mod Both
+pub mod BothTables
+pub mod BothMatrices
+pub mod Elsewhere
+pub mod Named
+pub mod Blocks
+pub mod Elements
+pub mod Walk

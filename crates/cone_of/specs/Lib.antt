@@ -1,0 +1,4 @@
+pub mod Uses
+pub mod Cone
+pub mod Wanted
+pub mod Growing

@@ -1,0 +1,10 @@
+pub mod AsMany
+pub mod Panels
+pub mod Sets
+pub mod Drops
+pub mod Taking
+pub mod Scans
+pub mod Telling
+pub mod PairKeys
+pub mod Scanned
+pub mod Found

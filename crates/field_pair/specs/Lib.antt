@@ -1,0 +1,9 @@
+pub mod Rows
+pub mod Least
+pub mod Panel
+pub mod Alike
+pub mod Exchanged
+pub mod Same
+pub mod Choices
+pub mod Keys
+pub mod Pair

@@ -1,0 +1,9 @@
+pub mod Ruled
+pub mod Runnable
+pub mod Agreed
+pub mod Alike
+pub mod AlikeTurns
+pub mod Parts
+pub mod AlikeRuns
+pub mod Moments
+pub mod Exchanges

@@ -1,0 +1,2 @@
+pub mod OneExchange
+pub mod Runs

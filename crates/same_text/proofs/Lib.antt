@@ -1,0 +1,4 @@
+pub mod Runs
+pub mod OneCount
+pub mod OneDifference
+pub mod Ends

@@ -1,0 +1,5 @@
+pub mod Counting
+pub mod Bringing
+pub mod Playing
+pub mod Alone
+pub mod Pairs

@@ -1,0 +1,5 @@
+//! Tests of word exchanges.
+#![tactic(auto)]
+
+#[cfg(test)]
+mod runs;
