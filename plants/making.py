@@ -175,6 +175,14 @@ def searched(chance):
     return ("\n".join(lines) + "\n").encode()
 
 
+def counted(chance, data):
+    """Such a plant with a network that counts without a limit, which nothing else reads; or with two of them."""
+    more = [f"1,1 NO {searched_discrete(chance)}; 2,1 H; 1,2 UCTR 9999 40006", "1,1 ADD 40007 1 40007"]
+    networks = "".join(f'"{one}",\n' for one in chance.sample(more, chance.randint(1, 2)))
+    text = data.decode().replace("registers = 5", "registers = 7")
+    return changed_once(chance, r"^networks = \[\n", lambda found: f"{found[0]}{networks}", text).encode()
+
+
 # Changes of such a plant: some that no panel shows, and some that one shows after a while.
 
 

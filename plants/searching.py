@@ -1,21 +1,73 @@
 """Searches all runs of a controller's field in plain Python, for `plants/never`: states in breadth, each made by a walk over the ladder (plants/walking.py).
 And all runs of two controllers in one field, for `plants/same`.
 
-A state is what no scan tells from another: the references, the edge bits, the stop code and the clock modulo 100 ticks.
+A state is what no scan tells from another: the references, the edge bits, the stop code and the clock modulo 100 ticks. A search for something counts
+those that differ in what can matter to it: in references of its cone, in edge bits of networks that matter to it, in the stop code or in that clock.
 """
 import itertools
 from collections import Counter, deque
 
 import walking
+from elements import elements, is_five_digits
 
 # The least common period of the three time bases.
 CLOCK = 100
 # So many scans are made in a search.
 SCANS = 100000
+# What each operand of an element is to be, by the table of docs/guide/PLANT_FILE.md.
+SLOTS = {name: slots for name, (_, slots) in elements().items()}
+# They say what of a segment is solved.
+DIRECTING = ("SKP", "LAB", "JSR", "RET")
+COUNTERS = ("UCTR", "DCTR")
 
 
 class TooMany(Exception):
     """There are more scans than are made here."""
+
+
+class Cone:
+    """What can matter to what is asked, STOP or a reference: the least set of references that has it, if it is one, and the control of each row of the
+    order of solve, and all that a network reads which stores in one of the set or directs the solve."""
+
+    def __init__(self, one, asked):
+        self.references = {int(control) for _, control, _, _ in one.orders if control != "-"} | (set() if asked == "STOP" else {int(asked)})
+        networks = [network for segment in one.segments for network in segment.networks]
+        grew = True
+        while grew:
+            read = set().union(*(read_in(cell) for network in networks if self.matters(network) for cell in network.cells))
+            grew = not read <= self.references
+            self.references |= read
+        self.counters = [self.matters(network) for _, network, cell in one.cells() if cell.name in COUNTERS]
+
+    def matters(self, network):
+        """Whether a network does: it can store in one of these references, or it directs the solve."""
+        return any(cell.name in DIRECTING or stored_in(cell) & self.references for cell in network.cells)
+
+    def of(self, state):
+        """What of a state can matter."""
+        clock, stop, edges, held = state
+        return (clock, stop, tuple(itertools.compress(edges, self.counters)), frozenset(one for one in held if one[0] in self.references))
+
+
+def run_of(cell, is_such):
+    """The references of an element's operands whose slot is such, with all that it uses from them on."""
+    length = int(cell.operands[-1]) if cell.operands else 0
+    found = set()
+    for slot, word in zip(SLOTS[cell.name], cell.operands):
+        if is_five_digits(word) and is_such(slot):
+            found.update(range(int(word), int(word) + slot.count(length)))
+    return found
+
+
+def read_in(cell):
+    """What an element reads: all that it names but the coil that it drives, so also registers that are its target."""
+    return run_of(cell, lambda slot: slot.kinds != "0")
+
+
+def stored_in(cell):
+    """What an element can store in: its coil, its targets, and the number that MBIT and SENS move on, if it is a holding register."""
+    moved = {int(cell.operands[0])} if cell.name in ("MBIT", "SENS") and is_five_digits(cell.operands[0]) and cell.operands[0][0] == "4" else set()
+    return run_of(cell, lambda slot: slot.kinds in ("0", "4")) | moved
 
 
 class Field:
@@ -29,7 +81,7 @@ class Field:
         turned = [range(1, rows[drop] + 1) if drop is not None else (1,) for drop in reversed(self.drops)]
         self.ways = [way[::-1] for way in itertools.product(*turned)]
         self.walk = walking.Controller(self.one, plant)
-        self.counters = [id(cell) for _, _, cell in self.one.cells() if cell.name in ("UCTR", "DCTR")]
+        self.counters = [id(cell) for _, _, cell in self.one.cells() if cell.name in COUNTERS]
 
     @property
     def start(self):
@@ -65,25 +117,37 @@ class Field:
         return bool(state[1]) if asked == "STOP" else (int(asked), 1) in state[3]
 
     def search(self, asked, depth=None, most=SCANS):
-        """How many states there are, and None; or None, and the ways of the first scans after which it is so, as few as there are."""
-        found = {self.start: (None, None, 0)}
-        queue = deque(found)
+        """How many states there are, no two alike on the cone, and None; or None, and the ways of the first scans after which it is so, as few as there are."""
+        count, ways, _ = self.search_by(Cone(self.one, asked).of, asked, depth, most)
+        return count, ways
+
+    def search_whole(self, asked, depth=None, most=SCANS):
+        """The same from all states that differ in anything at all, with how many these are: none is taken for another one before the end."""
+        states, ways, found = self.search_by(lambda state: state, asked, depth, most)
+        return None if states is None else len(set(map(Cone(self.one, asked).of, found))), ways, states
+
+    def search_by(self, key_of, asked, depth, most):
+        """The same, where states with one key are taken for one; and all keys."""
+        first = key_of(self.start)
+        found = {first: (None, None, 0)}
+        queue = deque([(first, self.start)])
         while queue:
-            state = queue.popleft()
+            key, state = queue.popleft()
             if self.is_so(state, asked):
-                return None, self.path_to(state, found)
-            after = found[state][2] + 1
+                return None, self.path_to(key, found), found
+            after = found[key][2] + 1
             if state[1] or depth is not None and after > depth:
                 continue
             for way in self.ways:
                 new = self.next(state, way)
-                if new not in found:
-                    found[new] = (state, way, after)
-                    queue.append(new)
+                new_key = key_of(new)
+                if new_key not in found:
+                    found[new_key] = (key, way, after)
+                    queue.append((new_key, new))
             most -= len(self.ways)
             if most < 0:
                 raise TooMany
-        return len(found), None
+        return len(found), None, found
 
     def path_to(self, state, found):
         ways = []

@@ -25,7 +25,7 @@ use Rattle.joint_law.specs.Agreement.{VerdictsAgree}
 use Rattle.joint_law.specs.Spots.{IsSpot}
 use Rattle.joint_law.specs.declared.verdict.Spot.{Spot}
 use Rattle.joint_law.specs.declared.verdict.Verdict.TheVariants.{Legal, Illegal}
-use Rattle.one_run.specs.OneRun.{IsRunOf, OneSerialRun}
+use Rattle.one_exchange.specs.Runs.{IsRunOf, OneSerialRun}
 use Rattle.panel_text.specs.Panel.{panel}
 use Rattle.peer_cop.specs.declared.wire.Wire.{Wire}
 use Rattle.peer_cop.specs.Lines.{lines_of}
@@ -397,7 +397,7 @@ searched-one false can fixed asked depth one other is is' = same-agree one other
 searched-one true false fixed asked depth one other is is' =
     same-agree one other (is ∙ sym is')
 searched-one true true fixed asked depth one other (inl never) (inl also) =
-    let same = count-one fixed (is_so asked) depth never.states also.states never.never also.never in
+    let same = count-one fixed asked depth never.states also.states never.never also.never in
     same-agree one other (due-is one other (never.status ∙ sym also.status)
     (never.text ∙ ap (holds_text depth) same ∙ sym also.text))
 searched-one true true fixed asked depth one other (inl never) (inr some) =

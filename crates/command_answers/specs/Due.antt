@@ -29,7 +29,7 @@ use Rattle.serial_run.specs.Serial.{IsSerial}
 use Rattle.peer_cop.specs.declared.wire.Wire.{Wire}
 use Rattle.peer_cop.specs.Lines.{lines_of}
 use Rattle.peer_cop.specs.Wires.{AreWires, IsFirstBad}
-use Rattle.word_exchange.specs.Exchange.{IsExchange}
+use Rattle.one_exchange.specs.Runs.{IsExchange}
 use Rattle.joint_law.specs.Spots.{IsWholeRun}
 use Rattle.journal_text.specs.Fronts.{IsJournalOf}
 use Rattle.journal_text.specs.Journal.{journal}
@@ -254,7 +254,7 @@ no_reference = refused_with (codes "20 NoReference") (codes "never")
 -- two of them alike.
 pub record IsNever (fixed : Fixed) (asked : Asked) (depth : Option ℕ) (what : Due) : Type 0 where
   pub states : ℕ
-  pub never : IsNeverSo fixed (is_so asked) depth states
+  pub never : IsNeverSo fixed asked depth states
   pub status : what.status ≡ ends.Ok
   pub text : what.text ≡ holds_text depth states
 

@@ -3,7 +3,7 @@ ghost use Rattle.std.specs.Prelude.{◌≡◌, IfOk};
 ghost use Rattle.std.specs.List.{All};
 ghost use Rattle.controller_tables.specs.Accepted.{PassesDropTests};
 ghost use Rattle.joint_history.specs.Runnable.{CanRunPlant};
-ghost use Rattle.word_exchange.specs.Wired.{AreWiresOf};
+ghost use Rattle.one_exchange.specs.Runs.{AreWiresOf};
 ghost use Rattle.command_words.specs.Words.{IsNumberOfScans};
 ghost use Rattle.command_answers.specs.Due.{IsDueWith, IsExchangeShown, as_due, bad_wire};
 
@@ -11,10 +11,10 @@ use crate::answered::Answer;
 use crate::answering::{journal_tells_all, panel_of};
 use crate::status::Status;
 use command_words::Command;
+use one_exchange::cop_run;
 use peer_cop::{Wire, WireEnd, read_wires, tested_plants_can_be_wired};
 use plant_types::Plant;
 use std::alloc::{AllocError, Global};
-use word_exchange::cop_run;
 
 /// The line that a line behind the plant file is no wire, with the status Refused.
 fn bad_wire(alloc: Global, line: u32) -> Result<Answer, AllocError>

@@ -4,8 +4,7 @@ ghost use Rattle.command_answers.specs.Written.{WrittenIsLegal};
 
 use joint_law::verdicts_agree;
 use journal_text::{one_history_of_a_text, one_journal_in_front};
-use one_exchange::one_exchange;
-use one_run::one_serial_run;
+use one_exchange::{one_exchange, one_serial_run};
 use peer_cop::tested_plants_can_be_wired;
 use same_text::one_answer_same;
 

@@ -27,12 +27,12 @@ pub among-more : (p : BlockPlace) (places : List BlockPlace) (q : BlockPlace) �
     → Among (p ∷ places) q
 among-more p places q h = (suc h.0, h.1)
 
-among-split : (p : BlockPlace) (places : List BlockPlace) (q : BlockPlace) (i : ℕ)
+pub among-split : (p : BlockPlace) (places : List BlockPlace) (q : BlockPlace) (i : ℕ)
     → slice_get (p ∷ places) i ≡ Some q → (p ≡ q) ⊎ Among places q
 among-split p places q zero is = inl (let first : Some p ≡ Some q = is in cc)
 among-split p places q (suc i) is = inr (i, is)
 
-own-place : (q : BlockPlace) → is_place q q ≡ true
+pub own-place : (q : BlockPlace) → is_place q q ≡ true
 own-place q =
     sym (eq_by_cmp-place q q) ∙ ap is_eq (tied_itself places_total q)
 
@@ -40,7 +40,7 @@ place-numbers : (a b c d e f g h : ℕ) → (((a == b) && (c == d)) && (e == f))
     → (a ≡ b) × (c ≡ d) × (e ≡ f) × (g ≡ h)
 place-numbers a b c d e f g h t = grind (arith, nat_tests)
 
-same-place : (p q : BlockPlace) → is_place p q ≡ true → q ≡ p
+pub same-place : (p q : BlockPlace) → is_place p q ≡ true → q ≡ p
 same-place p q t =
     let same = place-numbers q.segment p.segment q.network p.network q.column p.column
     q.row p.row t in
@@ -143,7 +143,7 @@ edges-anew places e words within =
     (alike-back empty e places q
     (none-or e places q (contains e q) refl (λ is. within q is))))
 
-set-within : (places : List BlockPlace) (a : Places) (words : List ℕ) (q : BlockPlace)
+pub set-within : (places : List BlockPlace) (a : Places) (words : List ℕ) (q : BlockPlace)
     → contains (edges_set a places words) q ≡ true → (contains a q ≡ true) ⊎ Among places q
 set-within [] a words q is = inl is
 set-within (p ∷ places) a words q is =

@@ -7,6 +7,7 @@ pub mod Solving
 pub mod RowsScanned
 pub mod Exchanging
 pub mod TestAlone
+pub mod Narrowing
 pub mod Fields
 pub mod Showing
 pub mod Registers

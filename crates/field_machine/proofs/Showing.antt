@@ -17,14 +17,13 @@ use Rattle.field_runs.specs.Played.{behind_scans, with_scripts, AreScansTold}
 use Rattle.field_runs.specs.Played.{ScansAreFieldRuns}
 use Rattle.field_runs.specs.Scan.{scanned}
 use Rattle.field_runs.proofs.Playing.{stopped-steps}
-use Rattle.field_search.specs.Covered.{IsAlone, StandsFor}
-use Rattle.field_search.proofs.Fields.{alike-then}
+use Rattle.field_search.specs.Covered.{IsAlone}
 use Rattle.field_machine.specs.Choices.{told_by}
 use Rattle.field_machine.specs.Keys.{state_in, IsKeyOf}
 use Rattle.field_machine.specs.Never.{state_of_run, told_in_ways}
 use Rattle.field_machine.specs.Shown.{panel_after, panel_in, IsShownBy, ShowsScan}
 use Rattle.field_machine.specs.declared.shown.Shown.{Shown}
-use Rattle.field_machine.proofs.States.{key-stands}
+use Rattle.field_machine.proofs.States.{alike-then, key-stands, StandsAs}
 use Rattle.field_machine.proofs.Ways.{each-tells}
 
 -- the rows of ways are told
@@ -48,14 +47,14 @@ behind-next fixed (by ∷ ways) s (suc i) within =
 -- a key stands for a state, which has settled unless it stopped
 pub record HasKey (fixed : Fixed) (places : List BlockPlace) (s : ControllerState)
     (key : List ℕ) : Type 0 where
-  pub stands : StandsFor fixed.plan s (state_in fixed.plan places key)
+  pub stands : StandsAs fixed.plan s (state_in fixed.plan places key)
   pub settled : s.stop ≡ 0 → IsSettled fixed.plan s
 
 module _ (stay : AlikeStatesStay) (settle : ScansSettle) (fixed : Fixed)
     (alone : IsAlone fixed.plan) where
   -- a scan of a state and of the one that its key stands for
   scanned-alike : (told : List ℕ) (s kept : ControllerState) (b : Bool) → (s.stop == 0) ≡ b
-      → (s.stop ≡ 0 → IsSettled fixed.plan s) → StandsFor fixed.plan s kept
+      → (s.stop ≡ 0 → IsSettled fixed.plan s) → StandsAs fixed.plan s kept
       → IsAlike (scanned fixed told s) (scanned fixed told kept)
   scanned-alike told s kept true is settled stands =
       let goes : s.stop ≡ 0 = eqb-true s.stop 0 is in

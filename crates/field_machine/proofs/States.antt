@@ -17,8 +17,7 @@ use Rattle.state_ram.proofs.Banked.{contains_key-packed, packed-zero_words}
 use Rattle.ladder_solver.specs.declared.places.BlockPlace.{BlockPlace}
 use Rattle.ladder_solver.specs.State.{Places, place_cmp}
 use Rattle.controller_core.specs.Replay.{ControllerState, start}
-use Rattle.field_runs.specs.Alike.{IsAlike}
-use Rattle.field_search.specs.Covered.{StandsFor}
+use Rattle.field_runs.specs.Alike.{IsAlike, IsSettled}
 use Rattle.key_store.specs.Words.{flat_words, word_count, words_cut, HasWholeGroups}
 use Rattle.key_store.proofs.Cutting.{cut-flat, flat-same, rest-words, AreWords}
 use Rattle.field_machine.specs.Keys.{edge_words, state_in, IsKeyOf}
@@ -31,13 +30,26 @@ rest-is places edges words =
     ap (λ n. drop n (edge_words edges places ++ words)) (sym (length-edges edges places))
     ∙ drop-append_seam (edge_words edges places) words
 
+-- a key stands for a state: it is alike that of the key, which has settled unless it stopped
+pub record StandsAs (plan : ControllerPlan) (s kept : ControllerState) : Type 0 where
+  pub alike : IsAlike s kept
+  pub settled : kept.stop ≡ 0 → IsSettled plan kept
+
+pub alike-then : (s t u : ControllerState) → IsAlike s t → IsAlike t u → IsAlike s u
+alike-then s t u a b = record {
+  references = a.references ∙ b.references;
+  edges = a.edges ∙ b.edges;
+  stop = a.stop ∙ b.stop;
+  clock = a.clock ∙ b.clock;
+}
+
 -- a key of a state stands for it
 pub key-stands : (plan : ControllerPlan) (places : List BlockPlace) (s : ControllerState)
-    (key : List ℕ) → IsKeyOf plan places s key → StandsFor plan s (state_in plan places key)
+    (key : List ℕ) → IsKeyOf plan places s key → StandsAs plan s (state_in plan places key)
 key-stands plan places s key k =
     let words = flat_words k.words in
     let edges = edge_words s.solving.edges places in
-    subst (λ (l : List ℕ). StandsFor plan s (state_in plan places l)) (sym k.is) (record {
+    subst (λ (l : List ℕ). StandsAs plan s (state_in plan places l)) (sym k.is) (record {
       alike = record {
         references = k.references
             ∙ sym (ap (λ (l : List ℕ). packed_contents (words_cut (sizes_of plan) l))

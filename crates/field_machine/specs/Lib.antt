@@ -6,5 +6,7 @@ pub mod Keys
 pub mod Exchanges
 pub mod Work
 pub mod Field
+pub mod Narrow
+pub mod Narrowed
 pub mod Never
 pub mod Shown

@@ -9,6 +9,8 @@ mod counters;
 mod exchanges;
 mod field;
 mod machine;
+mod narrow;
+mod narrowed;
 mod reading;
 mod scanning;
 mod searching;

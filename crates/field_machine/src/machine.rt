@@ -37,7 +37,7 @@ pub fn words_behind(key: &[u16], many: usize) -> &[u16]
 }
 
 /// Sets edge bits by words.
-fn set_edges(ladder: &mut Ladder, counters: &[BlockPlace], words: &[u16])
+pub(crate) fn set_edges(ladder: &mut Ladder, counters: &[BlockPlace], words: &[u16])
     requires { HaveEdgeBits (network_counts ladder.old.grids) counters.now }
     ensures { ladder.new ≡ record ladder.old {
       edges = edges_set ladder.old.edges counters.now words.now;

@@ -9,6 +9,7 @@ ghost use Rattle.field_machine.specs.Never.{IsFoundIn};
 
 use crate::asked::Asked;
 use crate::field::Field;
+use crate::narrowed::Narrowed;
 use crate::work::Work;
 use controller_core::Fixed;
 use field_search::{covers_hold_in_the_field, covers_reach_all, paths_are_runs};
@@ -19,7 +20,8 @@ use std::alloc::{AllocError, Global};
 /// What a search of all runs of a field found. This project's own.
 #[derive(Drop)]
 pub enum Found {
-    /// It is never so; no two of so many states are alike, and runs come to each of them.
+    /// It is never so; no two of so many states are alike in what can matter, and runs come to each
+    /// of them.
     Holds { states: usize },
     /// It is so behind as many scans as there are here, in which the field brings rows in these ways,
     /// and behind no fewer.
@@ -48,10 +50,11 @@ pub fn search_field(
     };
     let mut work = Work::new(alloc, &fixed.plan)?;
     let field = Field::new(alloc, fixed, asked)?;
+    let narrowed = Narrowed::new(alloc, field)?;
     covers_hold_in_the_field();
     covers_reach_all();
     paths_are_runs();
-    match explore(alloc, &field, &mut work, limit)? {
+    match explore(alloc, &narrowed, &mut work, limit)? {
         Answer::Holds { states } => Ok(Found::Holds { states }),
         Answer::Fails { path } => Ok(Found::Fails { ways: path }),
     }

@@ -22,7 +22,7 @@ use Rattle.state_space.specs.Answers.{Covers, FailsBy, HoldsWith}
 use Rattle.state_space.specs.Reaching.{IsBelow, LeadBy, Reaches, up_to}
 use Rattle.field_runs.specs.Alike.{IsAlike}
 use Rattle.field_runs.specs.Scan.{scanned}
-use Rattle.field_search.specs.Covered.{StandsFor}
+use Rattle.side_runs.specs.Standing.{StandsWhole}
 use Rattle.field_machine.specs.Never.{state_of_run}
 use Rattle.side_runs.specs.Beside.{AreAlikePairs, pair_after, StatePair}
 use Rattle.side_runs.specs.Brought.{behind_exchange, Brings, NamesRows, next_row, rows_told}
@@ -153,11 +153,11 @@ module _ (pair : Pair) (new : Fixed) (parts : IsPair pair)
   -- ---- keys
 
   -- a key of the new one's state stands for it with its own drops
-  stands-new : (s kept : ControllerState) → StandsFor pair.new.fixed.plan s kept
-      → StandsFor new.plan s kept
+  stands-new : (s kept : ControllerState) → StandsWhole pair.new.fixed.plan s kept
+      → StandsWhole new.plan s kept
   stands-new s kept h =
       stands-own new.plan old.plan.drops s kept
-      (subst (λ (f : Fixed). StandsFor f.plan s kept) is-new h)
+      (subst (λ (f : Fixed). StandsWhole f.plan s kept) is-new h)
 
   stands : (s : StatePair) (key : List ℕ) → IsKeyIn pair s key
       → StandsForPair old.plan new.plan s (states key)
@@ -188,7 +188,7 @@ module _ (pair : Pair) (new : Fixed) (parts : IsPair pair)
       let both = stands (pair_start pair) key k in
       record {
         old_stands = both.old_stands;
-        new_stands = subst (λ (s : ControllerState). StandsFor new.plan s (states key).new)
+        new_stands = subst (λ (s : ControllerState). StandsWhole new.plan s (states key).new)
             starts-new both.new_stands;
       }
 
@@ -198,7 +198,7 @@ module _ (pair : Pair) (new : Fixed) (parts : IsPair pair)
       let both = stands (pair_behind pair by from) key k in
       record {
         old_stands = both.old_stands;
-        new_stands = subst (λ (s : ControllerState). StandsFor new.plan s (states key).new)
+        new_stands = subst (λ (s : ControllerState). StandsWhole new.plan s (states key).new)
             (scan-new (fields by) (states from).new) both.new_stands;
       }
 

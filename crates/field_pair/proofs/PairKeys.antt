@@ -11,11 +11,11 @@ use Rattle.state_ram.specs.Packed.{packed_sizes, Words}
 use Rattle.ladder_solver.specs.declared.places.BlockPlace.{BlockPlace}
 use Rattle.controller_core.specs.Replay.{ControllerState}
 use Rattle.field_runs.specs.Alike.{IsAlike}
-use Rattle.field_search.specs.Covered.{StandsFor}
-use Rattle.field_search.proofs.Fields.{alike-then}
+use Rattle.side_runs.specs.Standing.{StandsWhole}
+use Rattle.side_runs.proofs.Standing.{alike-then}
 use Rattle.key_store.specs.Words.{flat_words, word_count}
 use Rattle.field_machine.specs.Keys.{edge_words, state_in, IsKeyOf}
-use Rattle.field_machine.proofs.States.{key-stands, one-key}
+use Rattle.field_machine.proofs.States.{key-stands, one-key, StandsAs}
 use Rattle.side_runs.specs.Beside.{AreAlikePairs, StatePair}
 use Rattle.side_runs.specs.Laws.{StandsForPair}
 use Rattle.field_pair.specs.Keys.{IsPairKeyOf, pair_in}
@@ -58,12 +58,17 @@ alike-self s = record { references = refl; edges = refl; stop = refl; clock = re
 
 -- the drops do not matter to what a key stands for
 pub stands-own : (plan : ControllerPlan) (drops : List IoDrop) (s kept : ControllerState)
-    → StandsFor (record plan { drops = drops }) s kept → StandsFor plan s kept
+    → StandsWhole (record plan { drops = drops }) s kept → StandsWhole plan s kept
 stands-own plan drops s kept h = record {
   alike = h.alike;
   settled = λ goes. let settled = h.settled goes in
       record { kept = settled.kept; blocks = settled.blocks };
 }
+
+-- what the key of one controller stands for
+whole : (plan : ControllerPlan) (s kept : ControllerState) → StandsAs plan s kept
+    → StandsWhole plan s kept
+whole plan s kept stands = record { alike = stands.alike; settled = stands.settled }
 
 module _ (old : ControllerPlan) (old-places : List BlockPlace) (new : ControllerPlan)
     (new-places : List BlockPlace) (size : ℕ)
@@ -89,10 +94,12 @@ module _ (old : ControllerPlan) (old-places : List BlockPlace) (new : Controller
       → IsPairKeyOf old old-places new new-places s key
       → StandsForPair old new s (states key)
   pair-stands s key k = record {
-    old_stands = subst (λ (l : List ℕ). StandsFor old s.old (state_in old old-places l))
-        (sym (front-is s key k)) (key-stands old old-places s.old k.front k.old_key);
-    new_stands = subst (λ (l : List ℕ). StandsFor new s.new (state_in new new-places l))
-        (sym (behind-is s key k)) (key-stands new new-places s.new k.behind k.new_key);
+    old_stands = subst (λ (l : List ℕ). StandsWhole old s.old (state_in old old-places l))
+        (sym (front-is s key k))
+        (whole old s.old _ (key-stands old old-places s.old k.front k.old_key));
+    new_stands = subst (λ (l : List ℕ). StandsWhole new s.new (state_in new new-places l))
+        (sym (behind-is s key k))
+        (whole new s.new _ (key-stands new new-places s.new k.behind k.new_key));
   }
 
   -- alike pairs have one key

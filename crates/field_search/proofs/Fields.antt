@@ -6,7 +6,9 @@ use Rattle.std.specs.Prelude.{if◌then◌else◌}
 use Rattle.std.proofs.lemmas.Bool.{eqb-true, eq-eqb}
 use Rattle.plant_types.specs.declared.plan.ControllerPlan.{ControllerPlan}
 use Rattle.plant_types.specs.Checks.{sizes_of}
-use Rattle.plant_types.specs.Discretes.{discretes_on}
+use Rattle.plant_types.specs.Discretes.{discretes_on, Refs}
+use Rattle.plant_types.specs.Store.{word_at}
+use Rattle.std.specs.FinSet.{contains}
 use Rattle.plant_types.specs.Sizes.{discretes}
 use Rattle.scan_order.specs.declared.due.ScanStep.{ScanStep}
 use Rattle.scan_order.specs.declared.due.ScanStep.TheVariants as steps
@@ -17,30 +19,34 @@ use Rattle.controller_core.specs.Controller.{fixed_with}
 use Rattle.controller_core.specs.Replay.{ControllerState, start}
 use Rattle.state_space.specs.Answers.{Covers, IsAmong}
 use Rattle.state_space.specs.Reaching.{IsBelow, LeadBy}
-use Rattle.field_runs.specs.Alike.{AlikeStatesStay, IsAlike, IsSettled, ScansSettle}
+use Rattle.field_runs.specs.Alike.{IsSettled, ScansSettle}
 use Rattle.field_runs.specs.Field.{PlaysInField, state_after}
 use Rattle.field_runs.specs.Scan.{behind_steps, scanned, stepped_with, told_behind, told_first}
 use Rattle.field_runs.specs.Played.{behind_scans, AreScansTold, ScansAreFieldRuns}
 use Rattle.field_runs.specs.Played.{with_scripts}
 use Rattle.field_runs.specs.Told.{Agrees, FieldRunsAreScans}
 use Rattle.field_runs.proofs.Playing.{stopped-steps}
+use Rattle.cone_of.specs.Cone.{IsClosed}
+use Rattle.cone_runs.specs.AlikeIn.{AlikeInStay, IsAlikeIn}
 use Rattle.field_search.specs.Covered.{AsksAlike, CoversHoldInField, CoversReachAll, HasAlike}
 use Rattle.field_search.specs.Covered.{IsAlone, StandsFor, TellAll}
 use Rattle.field_search.specs.Covered.{leads_to, starts_at}
 use Rattle.field_search.specs.Found.{EachTells, PathsAreRuns}
 
-pub alike-then : (s t u : ControllerState) → IsAlike s t → IsAlike t u → IsAlike s u
-alike-then s t u a b = record {
-  references = a.references ∙ b.references;
-  edges = a.edges ∙ b.edges;
+pub alike-then : (plan : ControllerPlan) (set : Refs) (s t u : ControllerState)
+    → IsAlikeIn plan set s t → IsAlikeIn plan set t u → IsAlikeIn plan set s u
+alike-then plan set s t u a b = record {
+  references = λ at has. a.references at has ∙ b.references at has;
+  edges = λ place matters. a.edges place matters ∙ b.edges place matters;
   stop = a.stop ∙ b.stop;
   clock = a.clock ∙ b.clock;
 }
 
-pub agrees-alike : (s t : ControllerState) → Agrees s t → IsAlike s t
-agrees-alike s t r = record {
-  references = ap (λ (q : SolveState). q.map) r.solving;
-  edges = ap (λ (q : SolveState). q.edges) r.solving;
+agrees-alike : (plan : ControllerPlan) (set : Refs) (s t : ControllerState) → Agrees s t
+    → IsAlikeIn plan set s t
+agrees-alike plan set s t r = record {
+  references = λ at has. ap (λ (q : SolveState). word_at q.map at) r.solving;
+  edges = λ place matters. ap (λ (q : SolveState). contains q.edges place) r.solving;
   stop = r.stop;
   clock = ap (λ (q : SolveState). q.clock.now % 100) r.solving;
 }
@@ -82,22 +88,22 @@ pub below-less : (bound : Option ℕ) (n : ℕ) → IsBelow bound (n + 1) → Is
 below-less None n h = tt
 below-less (Some most) n h = omega (arith, h)
 
-module _ (stay : AlikeStatesStay) (settle : ScansSettle) (fixed : Fixed)
-    (alone : IsAlone fixed.plan) where
+module _ (stay : AlikeInStay) (settle : ScansSettle) (fixed : Fixed) (set : Refs)
+    (alone : IsAlone fixed.plan) (closed : IsClosed fixed.plan set) where
   -- a scan of a state and of the one that its key stands for
-  pub scanned-alike : (told : List ℕ) (s kept : ControllerState) (b : Bool) → (s.stop == 0) ≡ b
-      → (s.stop ≡ 0 → IsSettled fixed.plan s) → StandsFor fixed.plan s kept
-      → IsAlike (scanned fixed told s) (scanned fixed told kept)
+  scanned-alike : (told : List ℕ) (s kept : ControllerState) (b : Bool) → (s.stop == 0) ≡ b
+      → (s.stop ≡ 0 → IsSettled fixed.plan s) → StandsFor fixed.plan set s kept
+      → IsAlikeIn fixed.plan set (scanned fixed told s) (scanned fixed told kept)
   scanned-alike told s kept true is settled stands =
       let goes : s.stop ≡ 0 = eqb-true s.stop 0 is in
-      stay fixed told s kept (settled goes) (stands.settled (sym stands.alike.stop ∙ goes)) goes
+      stay fixed set told s kept alone.messages closed (settled goes) (stands.settled (sym stands.alike.stop ∙ goes)) goes
       stands.alike
   scanned-alike told s kept false is settled stands =
       let one = stopped-steps fixed told s (full_scan fixed.plan) is in
       let other = stopped-steps fixed told kept (full_scan fixed.plan)
       (ap (λ k. k == 0) (sym stands.alike.stop) ∙ is) in
-      subst (λ (q : ControllerState). IsAlike q (scanned fixed told kept)) (sym one)
-      (subst (λ (q : ControllerState). IsAlike s q) (sym other) stands.alike)
+      subst (λ (q : ControllerState). IsAlikeIn fixed.plan set q (scanned fixed told kept)) (sym one)
+      (subst (λ (q : ControllerState). IsAlikeIn fixed.plan set s q) (sym other) stands.alike)
 
   -- a scan that did not stop settles
   pub scanned-settled : (told : List ℕ) (s : ControllerState) (b : Bool) → (s.stop == 0) ≡ b
@@ -110,18 +116,19 @@ module _ (stay : AlikeStatesStay) (settle : ScansSettle) (fixed : Fixed)
       let on : s.stop ≡ 0 = ap (λ (q : ControllerState). q.stop) (sym one) ∙ goes in
       absurd (let no' : true ≡ false = sym (eq-eqb s.stop 0 on) ∙ is in cc)
 
-module _ (stay : AlikeStatesStay) (runs : FieldRunsAreScans) (settle : ScansSettle) (fixed : Fixed)
+module _ (stay : AlikeInStay) (runs : FieldRunsAreScans) (settle : ScansSettle) (fixed : Fixed) (set : Refs)
     (states : List ℕ → ControllerState) (rows : ℕ → List ℕ) (count : ℕ)
     (asked : ControllerState → Bool) (bound : Option ℕ) (keys : List (List ℕ)) (depth : ℕ → ℕ)
-    (alone : IsAlone fixed.plan) (tell : TellAll fixed rows count) (asks : AsksAlike asked)
-    (covers : Covers (starts_at fixed states) count (leads_to fixed states rows)
+    (alone : IsAlone fixed.plan) (closed : IsClosed fixed.plan set)
+    (tell : TellAll fixed rows count) (asks : AsksAlike fixed.plan set asked)
+    (covers : Covers (starts_at fixed set states) count (leads_to fixed set states rows)
     (λ key. asked (states key)) bound keys depth)
     (played : ControllerPlan) (plays : PlaysInField fixed.plan played) where
   -- a key of the state behind so many scans
   pub record HasKey (scans : ℕ) : Type 0 where
     pub key : List ℕ
     pub among : IsAmong keys depth scans key
-    pub stands : StandsFor fixed.plan (state_after played fixed.scan_time fixed.watchdog scans)
+    pub stands : StandsFor fixed.plan set (state_after played fixed.scan_time fixed.watchdog scans)
         (states key)
     pub settled : (state_after played fixed.scan_time fixed.watchdog scans).stop ≡ 0
         → IsSettled fixed.plan (state_after played fixed.scan_time fixed.watchdog scans)
@@ -133,7 +140,7 @@ module _ (stay : AlikeStatesStay) (runs : FieldRunsAreScans) (settle : ScansSett
       record {
         key = covers.first;
         among = covers.first_among;
-        stands = subst (λ (q : ControllerState). StandsFor fixed.plan q (states covers.first))
+        stands = subst (λ (q : ControllerState). StandsFor fixed.plan set q (states covers.first))
             (sym at) covers.is_first;
         settled = λ goes. subst (IsSettled fixed.plan) (sym at) (settle.starts fixed.plan);
       }
@@ -152,18 +159,18 @@ module _ (stay : AlikeStatesStay) (runs : FieldRunsAreScans) (settle : ScansSett
         key = next.0;
         among = next.1.1;
         stands = record {
-          alike = alike-then after (scanned fixed on.rows s) (states next.0)
-              (agrees-alike after (scanned fixed on.rows s) same)
-              (alike-then (scanned fixed on.rows s) (scanned fixed (rows by.0) (states k.key))
+          alike = alike-then fixed.plan set after (scanned fixed on.rows s) (states next.0)
+              (agrees-alike fixed.plan set after (scanned fixed on.rows s) same)
+              (alike-then fixed.plan set (scanned fixed on.rows s) (scanned fixed (rows by.0) (states k.key))
               (states next.0)
-              (subst (λ (q : ControllerState). IsAlike q
+              (subst (λ (q : ControllerState). IsAlikeIn fixed.plan set q
               (scanned fixed (rows by.0) (states k.key))) (by.1.1 s)
-              (scanned-alike stay settle fixed alone (rows by.0) s (states k.key) (s.stop == 0) refl k.settled k.stands))
+              (scanned-alike stay settle fixed set alone closed (rows by.0) s (states k.key) (s.stop == 0) refl k.settled k.stands))
               next.1.0.alike);
           settled = next.1.0.settled;
         };
         settled = λ goes. agrees-settled fixed.plan after (scanned fixed on.rows s) same
-            (scanned-settled stay settle fixed alone on.rows s (s.stop == 0) refl k.settled (sym same.stop ∙ goes));
+            (scanned-settled stay settle fixed set alone closed on.rows s (s.stop == 0) refl k.settled (sym same.stop ∙ goes));
       }
 
   has-key : (n : ℕ) → IsBelow bound n → HasKey n
@@ -180,11 +187,12 @@ module _ (stay : AlikeStatesStay) (runs : FieldRunsAreScans) (settle : ScansSett
       asks (state_after played fixed.scan_time fixed.watchdog scans) (states k.key) k.stands.alike
       ∙ covers.good scans k.key k.among below
 
-pub covers-reach : AlikeStatesStay → FieldRunsAreScans → ScansSettle → CoversReachAll
-covers-reach stay runs settle fixed states rows count asked bound keys depth alone tell asks covers
+pub covers-reach : AlikeInStay → FieldRunsAreScans → ScansSettle → CoversReachAll
+covers-reach stay runs settle fixed set states rows count asked bound keys depth alone closed tell
+    asks covers
     played scans plays below =
-    let k = has-key stay runs settle fixed states rows count asked bound keys depth alone tell asks
-    covers played plays scans below in
+    let k = has-key stay runs settle fixed set states rows count asked bound keys depth alone closed
+    tell asks covers played plays scans below in
     record {
       place = k.among.place;
       key = k.key;
@@ -192,10 +200,12 @@ covers-reach stay runs settle fixed states rows count asked bound keys depth alo
       alike = k.stands.alike;
     }
 
-pub covers-hold : AlikeStatesStay → FieldRunsAreScans → ScansSettle → CoversHoldInField
-covers-hold stay runs settle fixed states rows count asked bound keys depth alone tell asks covers
+pub covers-hold : AlikeInStay → FieldRunsAreScans → ScansSettle → CoversHoldInField
+covers-hold stay runs settle fixed set states rows count asked bound keys depth alone closed tell
+    asks covers
     played scans plays below =
-    never-asked stay runs settle fixed states rows count asked bound keys depth alone tell asks covers
+    never-asked stay runs settle fixed set states rows count asked bound keys depth alone closed tell
+    asks covers
     played plays scans below
 
 -- ---- a path is a run
@@ -208,23 +218,23 @@ length-told : (rows : ℕ → List ℕ) (path : List ℕ) → length (map rows p
 length-told rows [] = refl
 length-told rows (by ∷ path) = let h = length-told rows path in omega (arith, h)
 
-module _ (stay : AlikeStatesStay) (settle : ScansSettle) (fixed : Fixed)
+module _ (stay : AlikeInStay) (settle : ScansSettle) (fixed : Fixed) (set : Refs)
     (states : List ℕ → ControllerState) (rows : ℕ → List ℕ) (count : ℕ)
-    (alone : IsAlone fixed.plan) where
+    (alone : IsAlone fixed.plan) (closed : IsClosed fixed.plan set) where
   lead-alike : (path from to : List ℕ) (s : ControllerState)
-      → (s.stop ≡ 0 → IsSettled fixed.plan s) → StandsFor fixed.plan s (states from)
-      → LeadBy count (leads_to fixed states rows) from path to
-      → IsAlike (behind_scans fixed (map rows path) s) (states to)
+      → (s.stop ≡ 0 → IsSettled fixed.plan s) → StandsFor fixed.plan set s (states from)
+      → LeadBy count (leads_to fixed set states rows) from path to
+      → IsAlikeIn fixed.plan set (behind_scans fixed (map rows path) s) (states to)
   lead-alike [] from to s settled stands same =
-      subst (λ k. IsAlike s (states k)) same stands.alike
+      subst (λ k. IsAlikeIn fixed.plan set s (states k)) same stands.alike
   lead-alike (by ∷ path) from to s settled stands leads =
       let next = leads.1.0 in
       lead-alike path next to (scanned fixed (rows by) s)
-      (scanned-settled stay settle fixed alone (rows by) s (s.stop == 0) refl settled)
+      (scanned-settled stay settle fixed set alone closed (rows by) s (s.stop == 0) refl settled)
       (record {
-        alike = alike-then (scanned fixed (rows by) s) (scanned fixed (rows by) (states from))
+        alike = alike-then fixed.plan set (scanned fixed (rows by) s) (scanned fixed (rows by) (states from))
             (states next)
-            (scanned-alike stay settle fixed alone (rows by) s (states from) (s.stop == 0) refl
+            (scanned-alike stay settle fixed set alone closed (rows by) s (states from) (s.stop == 0) refl
             settled stands)
             leads.1.1.0.alike;
         settled = leads.1.1.0.settled;
@@ -232,28 +242,28 @@ module _ (stay : AlikeStatesStay) (settle : ScansSettle) (fixed : Fixed)
       leads.1.1.1
 
   lead-told : (path from to : List ℕ) → EachTells fixed rows count
-      → LeadBy count (leads_to fixed states rows) from path to
+      → LeadBy count (leads_to fixed set states rows) from path to
       → AreScansTold fixed.plan (map rows path)
   lead-told [] from to tells same = tt
   lead-told (by ∷ path) from to tells leads =
       (tells by leads.0, lead-told path leads.1.0 to tells leads.1.1.1)
 
-pub paths-run : AlikeStatesStay → ScansAreFieldRuns → ScansSettle → PathsAreRuns
-paths-run stay scans settle fixed states rows count path key alone tells r =
+pub paths-run : AlikeInStay → ScansAreFieldRuns → ScansSettle → PathsAreRuns
+paths-run stay scans settle fixed set states rows count path key alone closed tells r =
     let played = scans fixed (map rows path) alone.runs alone.power
-    (lead-told stay settle fixed states rows count alone path r.first key tells r.leads_on) in
+    (lead-told stay settle fixed set states rows count alone closed path r.first key tells r.leads_on) in
     let long = length-told rows path in
     let same = played.same (length path) (omega (arith, long)) in
     let whole : take (length path) (map rows path) ≡ map rows path =
     ap (λ n. take n (map rows path)) (sym long) ∙ took-all (map rows path) in
     record {
       plays = played.plays;
-      alike = subst (λ n. IsAlike (state_after (with_scripts fixed.plan (map rows path))
+      alike = subst (λ n. IsAlikeIn fixed.plan set (state_after (with_scripts fixed.plan (map rows path))
           fixed.scan_time fixed.watchdog n) (states key)) (sym long)
-          (alike-then _ (behind_scans fixed (map rows path) (start fixed.plan)) (states key)
-          (subst (λ (l : List (List ℕ)). IsAlike (state_after (with_scripts fixed.plan
+          (alike-then fixed.plan set _ (behind_scans fixed (map rows path) (start fixed.plan)) (states key)
+          (subst (λ (l : List (List ℕ)). IsAlikeIn fixed.plan set (state_after (with_scripts fixed.plan
           (map rows path)) fixed.scan_time fixed.watchdog (length path))
-          (behind_scans fixed l (start fixed.plan))) whole (agrees-alike _ _ same))
-          (lead-alike stay settle fixed states rows count alone path r.first key
+          (behind_scans fixed l (start fixed.plan))) whole (agrees-alike fixed.plan set _ _ same))
+          (lead-alike stay settle fixed set states rows count alone closed path r.first key
           (start fixed.plan) (λ goes. settle.starts fixed.plan) r.is_first r.leads_on));
     }

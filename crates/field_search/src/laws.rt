@@ -2,13 +2,14 @@
 ghost use Rattle.field_search.specs.Covered.{CoversHoldInField, CoversReachAll};
 ghost use Rattle.field_search.specs.Found.{PathsAreRuns};
 
-use field_runs::{alike_states_stay, field_runs_are_scans, scans_are_field_runs, scans_settle};
+use cone_runs::alike_in_stay;
+use field_runs::{field_runs_are_scans, scans_are_field_runs, scans_settle};
 
 /// What is never so of the states of keys that cover a field is never so in a run of it.
 pub fn covers_hold_in_the_field()
     ensures { CoversHoldInField }
 {
-    alike_states_stay();
+    alike_in_stay();
     field_runs_are_scans();
     scans_settle();
 }
@@ -17,7 +18,7 @@ pub fn covers_hold_in_the_field()
 pub fn covers_reach_all()
     ensures { CoversReachAll }
 {
-    alike_states_stay();
+    alike_in_stay();
     field_runs_are_scans();
     scans_settle();
 }
@@ -26,7 +27,7 @@ pub fn covers_reach_all()
 pub fn paths_are_runs()
     ensures { PathsAreRuns }
 {
-    alike_states_stay();
+    alike_in_stay();
     scans_are_field_runs();
     scans_settle();
 }

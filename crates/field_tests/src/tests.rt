@@ -95,6 +95,28 @@ networks = [\"1,1 NO 10001; 1,2 CO 00001\"]
 networks = [\"1,1 NO 00001; 1,2 NC 10001; 1,3 CO 00016\"]
 ";
 
+/// The same, with a counter of how often one coil went on.
+const COUNTED: &str = "version = 1
+scan_time = 10
+[[controller]]
+node = 1
+coils = 16
+inputs = 16
+registers = 1
+panel = [\"00001\", \"00002\", \"00016\"]
+orders = [\"1 - 1 -\"]
+[[controller.drop]]
+number = 1
+modules = [\"in 10001\"]
+script = [\"0000\", \"8000\", \"4000\", \"C000\"]
+[[controller.segment]]
+networks = [
+    \"1,1 NO 10001; 1,2 NC 10002; 1,3 CO 00001; 2,1 NO 10002; 2,2 NC 10001; 2,3 CO 00002\",
+    \"1,1 NO 00001; 1,2 NO 00002; 1,3 CO 00016\",
+    \"1,1 NO 00001; 2,1 H; 1,2 UCTR 9999 40001\",
+]
+";
+
 // Row 4 presses both at once; ways count from 0.
 #[test]
 fn both_pressed(rt: HostRuntime) -> Result<(), Fail> {
@@ -124,6 +146,21 @@ fn one_keeps_the_other_off(rt: HostRuntime) -> Result<(), Fail> {
     )
 }
 
+// What is counted does not matter: as many states as without the counter.
+#[test]
+fn a_counter_costs_nothing(rt: HostRuntime) -> Result<(), Fail> {
+    show(
+        &rt,
+        &Case {
+            plant: COUNTED,
+            asked: coil(16),
+            limit: None,
+            found: "holds 40",
+        },
+    )
+}
+
+// Nothing matters to its stop but the clock, which stands at 0 or at a tenth of a second.
 #[test]
 fn it_never_stops(rt: HostRuntime) -> Result<(), Fail> {
     show(
@@ -132,7 +169,7 @@ fn it_never_stops(rt: HostRuntime) -> Result<(), Fail> {
             plant: INTERLOCK,
             asked: Asked::Stopped,
             limit: Some(1),
-            found: "holds 5",
+            found: "holds 2",
         },
     )
 }

@@ -12,7 +12,7 @@ use Rattle.never_text.specs.Texts.{fails_text, holds_text}
 -- after scans in which the field brings certain rows, and the text tells these and their run.
 abbrev pub IsNeverDue : Fixed → Asked → Option ℕ → NeverEnd → Type 0
 IsNeverDue fixed asked depth (Holds text) =
-    (states : ℕ) × (IsNeverSo fixed (is_so asked) depth states
+    (states : ℕ) × (IsNeverSo fixed asked depth states
     × (text.items ≡ holds_text depth states))
 IsNeverDue fixed asked depth (Fails text) =
     (told : List (List ℕ)) × (IsFirstSo fixed (is_so asked) depth told

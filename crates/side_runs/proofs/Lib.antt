@@ -1,3 +1,4 @@
+pub mod Standing
 pub mod Counting
 pub mod Bringing
 pub mod Playing

@@ -19,9 +19,10 @@ use Rattle.field_runs.specs.Field.{PlaysInField, state_after}
 use Rattle.field_runs.specs.Scan.{scanned}
 use Rattle.field_runs.specs.Told.{Agrees}
 use Rattle.field_runs.proofs.Runs.{get-some}
-use Rattle.field_search.specs.Covered.{IsAlone, StandsFor}
-use Rattle.field_search.proofs.Fields.{agrees-alike, agrees-settled, alike-then, below-less}
-use Rattle.field_search.proofs.Fields.{scanned-alike, scanned-settled}
+use Rattle.field_search.specs.Covered.{IsAlone}
+use Rattle.side_runs.specs.Standing.{StandsWhole}
+use Rattle.field_search.proofs.Fields.{agrees-settled, below-less}
+use Rattle.side_runs.proofs.Standing.{agrees-alike, alike-then, scanned-alike, scanned-settled}
 use Rattle.side_runs.specs.Beside.{AreAlikePairs, pair_after, PlaySideBySide, StatePair}
 use Rattle.side_runs.specs.Beside.{AreAlikeDrops, TakeOneField}
 use Rattle.side_runs.specs.Brought.{Brings, NamesRows, rows_told, ScanField}
@@ -46,7 +47,7 @@ run-starts plan played scan_time watchdog plays =
 
 -- a state of a run, and the one that a key keeps for it
 pub record Keeps (plan : ControllerPlan) (s kept : ControllerState) : Type 0 where
-  pub stands : StandsFor plan s kept
+  pub stands : StandsWhole plan s kept
   pub settled : s.stop ≡ 0 → IsSettled plan s
 
 -- the drops do not matter to what settles
@@ -59,7 +60,7 @@ settled-own : (plan : ControllerPlan) (drops : List IoDrop) (s : ControllerState
 settled-own plan drops s h = record { kept = h.kept; blocks = h.blocks }
 
 stands-with : (plan : ControllerPlan) (drops : List IoDrop) (s kept : ControllerState)
-    → StandsFor plan s kept → StandsFor (record plan { drops = drops }) s kept
+    → StandsWhole plan s kept → StandsWhole (record plan { drops = drops }) s kept
 stands-with plan drops s kept h =
     record { alike = h.alike; settled = λ goes. settled-with plan drops kept (h.settled goes) }
 
@@ -76,12 +77,12 @@ module _ (stay : AlikeStatesStay) (settle : ScansSettle) (scans : BroughtRunsAre
   run played n = state_after played fixed.scan_time fixed.watchdog n
 
   pub keeps-start : (fields : List ScanField) (played : ControllerPlan) (kept : ControllerState)
-      → Brings fixed drops fields played → StandsFor fixed.plan (start fixed.plan) kept
+      → Brings fixed drops fields played → StandsWhole fixed.plan (start fixed.plan) kept
       → Keeps fixed.plan (run played 0) kept
   keeps-start fields played kept brings stands =
       let at = run-starts fixed.plan played fixed.scan_time fixed.watchdog brings.plays in
       record {
-        stands = subst (λ (q : ControllerState). StandsFor fixed.plan q kept) (sym at) stands;
+        stands = subst (λ (q : ControllerState). StandsWhole fixed.plan q kept) (sym at) stands;
         settled = λ goes. subst (IsSettled fixed.plan) (sym at) (settle.starts fixed.plan);
       }
 
@@ -90,7 +91,7 @@ module _ (stay : AlikeStatesStay) (settle : ScansSettle) (scans : BroughtRunsAre
       → slice_get fields n ≡ Some field
       → rows_told fixed.plan (full_scan fixed.plan) field ≡ rows
       → Keeps fixed.plan (run played n) kept
-      → StandsFor fixed.plan (scanned moved rows kept) next
+      → StandsWhole fixed.plan (scanned moved rows kept) next
       → Keeps fixed.plan (run played (n + 1)) next
   keeps-scan fields played n field rows kept next brings at told keeps stands =
       let s = run played n in

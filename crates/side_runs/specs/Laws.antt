@@ -14,7 +14,8 @@ use Rattle.state_space.specs.Reaching.{IsBelow, Reaches}
 use Rattle.field_runs.specs.Field.{state_after}
 use Rattle.field_runs.specs.Scan.{scanned}
 use Rattle.field_runs.specs.Told.{Agrees}
-use Rattle.field_search.specs.Covered.{IsAlone, StandsFor}
+use Rattle.field_search.specs.Covered.{IsAlone}
+use Rattle.side_runs.specs.Standing.{StandsWhole}
 use Rattle.side_runs.specs.Beside.{AreAlikePairs, pair_after, PlaySideBySide, StatePair}
 use Rattle.side_runs.specs.Beside.{TakeOneField}
 use Rattle.side_runs.specs.Brought.{Brings, NamesRows, ScanField, rows_told}
@@ -62,8 +63,8 @@ pub record TellBoth (old new : Fixed) (fields : ℕ → ScanField) (count : ℕ)
 
 -- A key stands for a pair of states that is alike another.
 pub record StandsForPair (old new : ControllerPlan) (s kept : StatePair) : Type 0 where
-  pub old_stands : StandsFor old s.old kept.old
-  pub new_stands : StandsFor new s.new kept.new
+  pub old_stands : StandsWhole old s.old kept.old
+  pub new_stands : StandsWhole new s.new kept.new
 
 -- The pair of the starts, and the pair after a scan of both in which a field brings this.
 abbrev pub start_pair : Fixed → Fixed → StatePair

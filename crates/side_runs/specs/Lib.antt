@@ -1,3 +1,4 @@
+pub mod Standing
 pub mod Brought
 pub mod Beside
 pub mod Laws

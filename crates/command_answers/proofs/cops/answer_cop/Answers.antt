@@ -3,7 +3,7 @@ use Rattle.std.proofs.lemmas.Result.{IfOk-weaker}
 use Rattle.peer_cop.specs.Lines.{lines_of}
 use Rattle.peer_cop.specs.Wires.{AreRefused, AreWires}
 use Rattle.peer_cop.specs.declared.wire.WireEnd.{WireEnd}
-use Rattle.word_exchange.specs.Wired.{AreWiresOf}
+use Rattle.one_exchange.specs.Runs.{AreWiresOf}
 use Rattle.command_answers.specs.declared.answered.Answer.{Answer}
 use Rattle.command_answers.specs.Due.{IsCopDue, IsExchangeShown, as_due, bad_wire}
 use Rattle.command_answers.proofs.cops.answer_cop.Goals as goal

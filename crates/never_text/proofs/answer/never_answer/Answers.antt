@@ -15,7 +15,7 @@ returns-in_ok-holds_text-in-Holds c =
     c.in-Holds.is c.in_ok-states.ensures in (
       states,
       (
-        subst (λ (limit : Option ℕ). IsNeverSo fixed (is_so c.args.asked) limit states)
+        subst (λ (limit : Option ℕ). IsNeverSo fixed c.args.asked limit states)
             c.limit_of-limit.ensures found,
         c.in_ok-holds_text-in-Holds.ensures,
       ),
