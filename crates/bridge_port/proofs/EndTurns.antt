@@ -11,7 +11,7 @@ use Rattle.tied_lists.proofs.Growth.{grew-ours}
 use Rattle.comm_port.specs.Sides.{RingSideIs}
 use Rattle.comm_port.specs.Turns.{IsOwnTurn}
 use Rattle.bridge_port.specs.EndTurns.{EndTurning, EndPathsAgree}
-use Rattle.joint_history.specs.Bridges.{backs_of, side_items}
+use Rattle.comm_port.specs.JointHistory.{backs_of, side_items}
 use Rattle.bridge_port.specs.Sides.{BridgeSideIs}
 use Rattle.bridge_port.proofs.Across.{still-open, still-stays}
 use Rattle.bridge_port.proofs.Lists.{backs-still, items-still}

@@ -39,7 +39,7 @@ use Rattle.comm_port.proofs.RingTurns.{kept-both, on-still}
 use Rattle.comm_port.proofs.Sends.{kept-found}
 use Rattle.bridge_port.specs.EndParts.{EndGivesUp}
 use Rattle.bridge_port.specs.EndTurns.{EndTurning, EndPathsAgree}
-use Rattle.joint_history.specs.Bridges.{backs_of, side_items}
+use Rattle.comm_port.specs.JointHistory.{backs_of, side_items}
 use Rattle.bridge_port.specs.Sides.{BridgeSideIs}
 use Rattle.bridge_port.proofs.Across.{own-step}
 use Rattle.bridge_port.proofs.EndTurns.{turning-others}

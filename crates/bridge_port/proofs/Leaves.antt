@@ -43,7 +43,7 @@ use Rattle.comm_port.proofs.RingTurns.{not-in}
 use Rattle.comm_port.proofs.Through.{IsEnding, rest-through}
 use Rattle.bridge_port.specs.EndParts.{AsksBridge, EndAsksIfDone, AsksRing, EndGivesUp}
 use Rattle.bridge_port.specs.EndTurns.{EndTies, EndTurning, EndPathsAgree, number_waited}
-use Rattle.joint_history.specs.Bridges.{backs_of, side_items}
+use Rattle.comm_port.specs.JointHistory.{backs_of, side_items}
 use Rattle.bridge_port.specs.Sides.{BridgeSideIs}
 use Rattle.bridge_port.proofs.Across.{own-step}
 use Rattle.bridge_port.proofs.Ends.{end-quiet}

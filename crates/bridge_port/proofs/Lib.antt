@@ -18,3 +18,4 @@ pub mod FourPaths
 pub mod Leaves
 pub mod HoldTurns
 pub mod Standings
+pub mod CommPort

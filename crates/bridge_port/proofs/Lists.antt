@@ -12,8 +12,8 @@ use Rattle.tied_lists.specs.Items.{Called, Items, NetCall, kind_of_sort, no_item
 use Rattle.tied_lists.proofs.Boxes.{each-push}
 use Rattle.tied_lists.proofs.Growth.{grew-one, grew-ours}
 use Rattle.bridge_relay.specs.Laws.{is_by}
-use Rattle.joint_history.specs.Bridges.{back_of, backs_of, made_at_end, side_item_next}
-use Rattle.joint_history.specs.Bridges.{side_items, side_items_after}
+use Rattle.comm_port.specs.JointHistory.{back_of, backs_of, made_at_end, side_item_next, side_items}
+use Rattle.comm_port.specs.JointHistory.{side_items_after}
 
 -- an entry of an end stands in its own list
 pub mine-one : (n : ℕ) (e : BridgeEntry) → side_of e ≡ n → made_at_end n (e ∷ []) ≡ e ∷ []

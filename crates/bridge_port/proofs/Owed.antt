@@ -29,8 +29,8 @@ use Rattle.ring_laws.proofs.Lists.{count-cons, count-push, one-if, none-if, same
 use Rattle.tied_lists.specs.Items.{Answered, Item, Items, no_items}
 use Rattle.tied_lists.proofs.Boxes.{each-drop, each-push}
 use Rattle.bridge_port.specs.EndParts.{is_accept, is_back}
-use Rattle.joint_history.specs.Bridges.{back_of, backs_of, made_at_end, side_item_next, side_items}
-use Rattle.joint_history.specs.Bridges.{side_items_after}
+use Rattle.comm_port.specs.JointHistory.{back_of, backs_of, made_at_end, side_item_next, side_items}
+use Rattle.comm_port.specs.JointHistory.{side_items_after}
 use Rattle.bridge_port.proofs.Across.{legal-front}
 use Rattle.bridge_port.proofs.Lists.{items-joined}
 use Rattle.bridge_port.proofs.Names.{AreAccepted, answers_named}

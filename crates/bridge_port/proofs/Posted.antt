@@ -49,7 +49,7 @@ use Rattle.bridge_port.specs.EndParts.{ArePosted, AreForwarded, IsForwardEntry, 
 use Rattle.bridge_port.specs.EndParts.{backs_left, is_accept, is_any_chosen, is_back, paths_left}
 use Rattle.bridge_port.specs.EndParts.{post_of}
 use Rattle.bridge_port.specs.EndTurns.{EndTurning, number_out, number_waited}
-use Rattle.joint_history.specs.Bridges.{made_at_end}
+use Rattle.comm_port.specs.JointHistory.{made_at_end}
 use Rattle.bridge_port.specs.Sides.{BridgeSideIs, MakesDue}
 use Rattle.bridge_port.proofs.Across.{own-step, still-stays}
 use Rattle.bridge_port.proofs.Agree.{WentOut, have-four, went-out}

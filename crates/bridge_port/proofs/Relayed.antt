@@ -28,7 +28,7 @@ use Rattle.comm_port.specs.Turns.{IsOwnTurn, KeepsInbox}
 use Rattle.comm_port.proofs.RingTurns.{kept-post, mine, own-moved, own-on}
 use Rattle.bridge_port.specs.EndParts.{AreForwarded}
 use Rattle.bridge_port.specs.EndTurns.{EndTurning}
-use Rattle.joint_history.specs.Bridges.{backs_of, side_items}
+use Rattle.comm_port.specs.JointHistory.{backs_of, side_items}
 use Rattle.bridge_port.specs.Sides.{BridgeSideIs, MakesDue}
 use Rattle.bridge_port.proofs.Across.{legal-front}
 use Rattle.bridge_port.proofs.Lists.{items-still, mine-one}

@@ -24,7 +24,7 @@ use Rattle.comm_port.proofs.HostTurning.{own-turn}
 use Rattle.comm_port.proofs.Parts.{each-both, each-grew, grew-none, part-as, part-both}
 use Rattle.bridge_port.specs.EndParts.{EndGivesUp, EndSendsAll, finish_at_end}
 use Rattle.bridge_port.specs.EndTurns.{EndTurning, EndPathsAgree}
-use Rattle.joint_history.specs.Bridges.{backs_of, side_items}
+use Rattle.comm_port.specs.JointHistory.{backs_of, side_items}
 use Rattle.bridge_port.specs.Sides.{BridgeSideIs}
 use Rattle.bridge_port.proofs.EndTurns.{turning-others}
 use Rattle.bridge_port.proofs.Ends.{end-quiet}

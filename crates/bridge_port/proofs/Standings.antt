@@ -25,8 +25,8 @@ use Rattle.comm_port.proofs.Standings.{start-rests}
 use Rattle.comm_port.proofs.Through.{rest-others}
 use Rattle.bridge_port.specs.EndTurns.{BridgeWorkerIs, EndTies, EndPathsAgree, number_out}
 use Rattle.bridge_port.specs.EndTurns.{number_waited}
-use Rattle.joint_history.specs.Bridges.{back_of, backs_of, made_at_end, side_items}
-use Rattle.joint_history.specs.Bridges.{side_items_after}
+use Rattle.comm_port.specs.JointHistory.{back_of, backs_of, made_at_end, side_items}
+use Rattle.comm_port.specs.JointHistory.{side_items_after}
 use Rattle.bridge_port.specs.Sides.{BridgeSideIs}
 use Rattle.bridge_port.specs.Stands.{EndIsReady, own_bridge}
 use Rattle.bridge_port.proofs.Across.{across-stays}

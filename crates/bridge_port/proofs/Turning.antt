@@ -34,7 +34,7 @@ use Rattle.comm_port.specs.Turns.{IsOwnTurn, KeepsInbox}
 use Rattle.comm_port.proofs.HostTurning.{own-turn}
 use Rattle.comm_port.proofs.RingTurns.{on-still, own-moved, own-on}
 use Rattle.bridge_port.specs.EndTurns.{EndTaking, EndTurning, EndPathsAgree}
-use Rattle.joint_history.specs.Bridges.{back_of, backs_of, side_item_next, side_items}
+use Rattle.comm_port.specs.JointHistory.{back_of, backs_of, side_item_next, side_items}
 use Rattle.bridge_port.specs.Sides.{BridgeSideIs}
 use Rattle.bridge_port.proofs.Across.{IsAsWas, as-was, own-step}
 use Rattle.bridge_port.proofs.Agree.{agree-called, agree-replied, agree-taken, have-four, went-out}

@@ -27,7 +27,7 @@ use Rattle.tied_lists.proofs.Asked.{waiting-last}
 use Rattle.tied_lists.proofs.Paths.{number-push, waiting-push}
 use Rattle.comm_port.proofs.Dues.{nothing-waits}
 use Rattle.bridge_port.specs.EndTurns.{EndPathsAgree, number_out, number_waited}
-use Rattle.joint_history.specs.Bridges.{side_items}
+use Rattle.comm_port.specs.JointHistory.{side_items}
 use Rattle.bridge_port.proofs.Lists.{IsNet, all-net}
 
 -- ---- the paths

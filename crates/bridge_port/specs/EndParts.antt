@@ -34,7 +34,7 @@ use Rattle.comm_port.specs.Leaving.{cause_due, HandedOn}
 use Rattle.comm_port.specs.Parts.{InOrder, PartOf, calls_waiting}
 use Rattle.comm_port.specs.Replies.{reply_frame}
 use Rattle.comm_port.specs.SendsAll.{SendsFrames}
-use Rattle.joint_history.specs.Bridges.{made_at_end}
+use Rattle.comm_port.specs.JointHistory.{made_at_end}
 
 -- ---- First: what lies in the inbox is served.
 

@@ -16,7 +16,7 @@ use Rattle.tied_lists.specs.Waits.{waiting, last_number, IsAsk, IsOnRing}
 use Rattle.comm_port.specs.Giving.{IsAtRest}
 use Rattle.comm_port.specs.Sides.{RingSideIs, MayWrite}
 use Rattle.comm_port.specs.Turns.{IsOwnTurn}
-use Rattle.joint_history.specs.Bridges.{backs_of, side_items}
+use Rattle.comm_port.specs.JointHistory.{backs_of, side_items}
 use Rattle.bridge_port.specs.Sides.{BridgeSideIs}
 
 -- The worker of a bridge's end: the end's address, and whether it keeps to a budget of Passes.

@@ -3,3 +3,4 @@ pub mod EndTurns
 pub mod EndParts
 pub mod EndSteps
 pub mod Stands
+pub mod CommPort

@@ -11,4 +11,5 @@ mod serving;
 mod worker;
 
 pub use bridge_side::BridgeSide;
+pub use comm_port::{RamSide, RingSide};
 pub use worker::BridgeWorker;

@@ -10,8 +10,7 @@ use Rattle.std.proofs.lemmas.List.Sums.{sum_by_push, sum_by-cons}
 use Rattle.std.specs.List.{count_by, AllByRecursion}
 use Rattle.plant_types.specs.declared.net.BridgePlan.{BridgePlan}
 use Rattle.plant_types.specs.Plans.{IsBridgePlan}
-use Rattle.mstr_block.specs.declared.call.CallId.{CallId}
-use Rattle.mstr_block.specs.Call.{is_same_call}
+use Rattle.ring_core.specs.MstrBlock.{is_same_call, CallId}
 use Rattle.ring_core.specs.Legal.{IsPath}
 use Rattle.bridge_relay.specs.declared.entry.BridgeEntry.{BridgeEntry}
 use Rattle.bridge_relay.specs.declared.entry.BridgeEntry.TheVariants.{Accept, Forward, Finish}

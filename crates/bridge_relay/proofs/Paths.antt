@@ -2,7 +2,7 @@
 use Rattle.std.proofs.Common.{◌≡◌, ◌⊎◌, ℕ, true, Some, refl, sym, subst, inl, inr, arith}
 use Rattle.std.proofs.lemmas.Bool.{cases_eq}
 use Rattle.std.specs.List.{AllByRecursion}
-use Rattle.mstr_block.specs.Table.{network_paths}
+use Rattle.ring_core.specs.MstrBlock.{network_paths}
 use Rattle.ring_core.specs.Legal.{IsPath}
 use Rattle.bridge_relay.specs.Machine.{EndIs, free_relay_path, is_free_relay_path}
 use Rattle.bridge_relay.specs.Legal.{is_network_path}

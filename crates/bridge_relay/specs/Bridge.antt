@@ -2,7 +2,7 @@
 use Rattle.std.specs.Prelude.{◌≡◌, ℕ, List, [], ◌∷◌, ◌++◌, Option, Some, None, Result, Ok, Err}
 use Rattle.std.specs.Prelude.{option_to_list}
 use Rattle.plant_types.specs.declared.net.BridgePlan.{BridgePlan}
-use Rattle.mstr_block.specs.declared.call.CallId.{CallId}
+use Rattle.ring_core.specs.MstrBlock.{CallId}
 use Rattle.ring_core.specs.declared.frame.Frame.{Frame}
 use Rattle.ring_core.specs.declared.frame.FrameKind.TheVariants as kinds
 use Rattle.ring_core.specs.Words.{request_along, frame_route}

@@ -8,8 +8,7 @@ use Rattle.plant_types.specs.declared.net.BridgePlan.{BridgePlan}
 use Rattle.modbus_pdu.specs.Exceptions.{illegal_function}
 use Rattle.modbus_pdu.specs.Spelling.{reply_bytes}
 use Rattle.modbus_pdu.specs.declared.reply.Reply.TheVariants.{Exception}
-use Rattle.mstr_block.specs.Table.{network_paths, last_call_number}
-use Rattle.mstr_block.specs.declared.call.CallId.{CallId}
+use Rattle.ring_core.specs.MstrBlock.{last_call_number, network_paths, CallId}
 use Rattle.bridge_relay.specs.declared.entry.BridgeEntry.{BridgeEntry}
 use Rattle.bridge_relay.specs.declared.entry.BridgeEntry.TheVariants.{Accept, Forward, Finish}
 use Rattle.bridge_relay.specs.declared.entry.BridgeEntry.TheVariants.{Back, Gone}

@@ -11,9 +11,8 @@ ghost use Rattle.bridge_relay.specs.Bridge.{IsForwarded, IsGivenBack};
 
 use crate::entry::{BridgeEntry, RelayResult};
 use crate::relay::Relay;
-use mstr_block::CallId;
 use plant_types::{BridgePlan, Copied, List, Pdu, Route};
-use ring_core::{Frame, is_path};
+use ring_core::{CallId, Frame, is_path};
 use std::alloc::{AllocError, Global};
 use std::marker::Model;
 

@@ -10,8 +10,8 @@ ghost use Rattle.bridge_relay.specs.Legal.{forward_id, forward_by};
 ghost use Rattle.bridge_relay.specs.Kept.{IsFreePath, returned_by};
 
 use crate::entry::BridgeEntry;
-use mstr_block::CallId;
 use plant_types::{Copied, NETWORK_PATH_COUNT, NETWORK_PATHS, Pdu, Route};
+use ring_core::CallId;
 use std::alloc::{AllocError, Global};
 use std::collections::VecDeque;
 use std::marker::Model;

@@ -3,9 +3,8 @@ ghost use Rattle.std.specs.Prelude.{◌≡◌, IfOk};
 ghost use Rattle.bridge_relay.specs.Machine.{side_of};
 ghost use Rattle.bridge_relay.specs.Bridge.{frame_made};
 
-use mstr_block::CallId;
 use plant_types::{Copied, Pdu, Route};
-use ring_core::{Frame, FrameKind};
+use ring_core::{CallId, Frame, FrameKind};
 use std::alloc::{AllocError, Global};
 
 /// What came of a request that a bridge gave on: a reply, which may be that of an exception, or an

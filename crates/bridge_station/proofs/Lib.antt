@@ -1,1 +1,3 @@
 pub mod Standing
+pub mod EndLaws
+pub mod TurnLaws

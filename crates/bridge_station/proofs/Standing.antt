@@ -17,10 +17,10 @@ use Rattle.bridge_relay.specs.Laws.{is_by}
 use Rattle.bridge_relay.specs.Legal.{IsBridgeHistory, IsEnd}
 use Rattle.bridge_relay.specs.Machine.{side_of}
 use Rattle.tied_lists.specs.Waits.{has_left, status_at}
-use Rattle.joint_history.specs.Bridges.{made_at_end}
-use Rattle.comm_port.specs.Stands.{HasGrown}
-use Rattle.bridge_port.proofs.Standings.{ready-across, ready-new, ready-ring}
-use Rattle.turn_laws.proofs.Holders.{member-there}
+use Rattle.end_laws.specs.JointHistory.{made_at_end}
+use Rattle.end_laws.specs.BridgePort.{HasGrown}
+use Rattle.end_laws.proofs.BridgePort.{ready-across, ready-new, ready-ring}
+use Rattle.end_laws.proofs.TurnLaws.{member-there}
 use Rattle.end_laws.specs.EndKeeps.{EndKeepsOn}
 use Rattle.end_laws.proofs.Complete.{end-complete}
 use Rattle.end_laws.proofs.Others.{end-across, end-others, end-starts}

@@ -7,8 +7,7 @@ use Rattle.ring_core.specs.Kept.{KeptRing}
 use Rattle.ring_core.specs.Legal.{IsLegalRing}
 use Rattle.tied_lists.specs.Own.{own}
 use Rattle.tied_lists.specs.Waits.{Holds, has_left, status_at}
-use Rattle.joint_history.specs.Complete.{EndIsComplete}
-use Rattle.joint_history.specs.JointLaws.{IsTiedBridge}
+use Rattle.end_laws.specs.JointHistory.{EndIsComplete, IsTiedBridge}
 use Rattle.bridge_station.specs.Station.{BridgeStationIs, end_has_left, log_of_bridge}
 use Rattle.bridge_station.specs.Stands.{HeldByEnd, MovedByEnd, StandsBridge, StandsEnd}
 

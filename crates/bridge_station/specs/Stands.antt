@@ -8,9 +8,7 @@ use Rattle.ring_core.specs.Kept.{KeptRing}
 use Rattle.bridge_relay.specs.Bridge.{BridgeIs}
 use Rattle.bridge_relay.specs.Laws.{is_by}
 use Rattle.bridge_relay.specs.Legal.{IsBridgeHistory}
-use Rattle.comm_port.specs.Stands.{HasGrown, RingStands}
-use Rattle.bridge_port.specs.EndParts.{HoldsEndTurn}
-use Rattle.bridge_port.specs.Stands.{EndIsReady}
+use Rattle.end_laws.specs.BridgePort.{EndIsReady, HasGrown, HoldsEndTurn, RingStands}
 use Rattle.end_laws.specs.EndKeeps.{EndKeepsOn}
 use Rattle.bridge_station.specs.Station.{BridgeStationIs, EndStationIs, end_station}
 

@@ -1,8 +1,8 @@
 -- A bridge of a run with the workers of its two ends, as contracts see it. This project's own.
 use Rattle.std.specs.Prelude.{ℕ, ◌==◌, Bool, if◌then◌else◌}
 use Rattle.bridge_relay.specs.Bridge.{BridgeIs}
-use Rattle.bridge_port.specs.EndTurns.{BridgeWorkerIs}
-use Rattle.joint_history.specs.declared.joint.BridgeLog.{BridgeLog}
+use Rattle.end_laws.specs.BridgePort.{BridgeWorkerIs}
+use Rattle.end_laws.specs.JointHistory.{BridgeLog}
 use Rattle.bridge_station.specs.declared.end_station.EndStation.{EndStation}
 
 -- The worker of an end, and whether the end has left.

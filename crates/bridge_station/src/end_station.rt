@@ -4,9 +4,8 @@ ghost use Rattle.tied_lists.specs.Waits.{Holds};
 ghost use Rattle.bridge_station.specs.Station.{seen_end};
 ghost use Rattle.bridge_station.specs.Stands.{EndHeld, EndMoved, EndStands};
 
-use bridge_port::BridgeWorker;
 use bridge_relay::Bridge;
-use end_laws::end_turns_keep_on;
+use end_laws::{BridgeWorker, end_turns_keep_on};
 use ring_core::Ring;
 use std::alloc::AllocError;
 

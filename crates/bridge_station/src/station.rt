@@ -3,14 +3,13 @@ ghost use Rattle.std.specs.Prelude.{◌≡◌, false, OnOk, IfOk};
 ghost use Rattle.plant_types.specs.Plans.{IsBridgePlan, IsNetPlan};
 ghost use Rattle.ring_core.specs.Legal.{IsMember};
 ghost use Rattle.tied_lists.specs.Waits.{Holds};
-ghost use Rattle.joint_history.specs.JointLaws.{IsLegalBridgeLog};
+ghost use Rattle.end_laws.specs.JointHistory.{IsLegalBridgeLog};
 ghost use Rattle.bridge_station.specs.Station.{end_has_left, log_of_bridge};
 ghost use Rattle.bridge_station.specs.Stands.{HeldByEnd, MovedByEnd, StandsEnd, StartsBridge};
 
 use crate::end_station::{EndStation, hold_end};
-use bridge_port::BridgeWorker;
 use bridge_relay::Bridge;
-use joint_history::BridgeLog;
+use end_laws::{BridgeLog, BridgeWorker};
 use plant_types::{BridgePlan, NetPlan};
 use ring_core::Ring;
 use std::alloc::{AllocError, Global};

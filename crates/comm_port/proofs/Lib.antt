@@ -39,3 +39,4 @@ pub mod Steps
 pub mod Later
 pub mod Downs
 pub mod Failed
+pub mod JointHistory

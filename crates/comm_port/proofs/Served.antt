@@ -19,7 +19,7 @@ use Rattle.ring_core.specs.Words.{is_same_call}
 use Rattle.ring_core.specs.Statistics.{is_for_stats}
 use Rattle.ring_core.specs.Machine.{path_places, NodeIs}
 use Rattle.ring_core.specs.Legal.{IsLegalRing, IsFirst}
-use Rattle.reply_laws.specs.Result.{result_of}
+use Rattle.tied_lists.specs.ReplyLaws.{result_of}
 use Rattle.tied_lists.specs.Own.{is_of, own, WentOn, Grew}
 use Rattle.tied_lists.specs.Items.{AController, Items, Called, NetCall, Came, asked_by, last_asked}
 use Rattle.tied_lists.specs.Items.{result_for, reply_of, with_end, with_answer}

@@ -23,3 +23,4 @@ pub mod Visiting
 pub mod RingSteps
 pub mod BothSteps
 pub mod HostSteps
+pub mod JointHistory

@@ -2,8 +2,7 @@
 ghost use Rattle.std.specs.Prelude.{true};
 
 use crate::ram_side::RamSide;
-use controller_core::{Call, Controller};
-use ladder_solver::segments_keep_calls;
+use controller_core::{Call, Controller, segments_keep_calls};
 use mstr_block::{
     CallId, MstrResult, calls_are_taken_in_order, finishes_end_one_call, stays_table,
 };

@@ -13,9 +13,9 @@ use crate::ring_side::RingSide;
 use crate::short::Short;
 use crate::taking::take_next;
 use crate::waiting::Waiting;
-use reply_laws::result_of;
 use ring_core::{Frame, FrameKind};
 use std::alloc::Global;
+use tied_lists::result_of;
 
 /// Ends the call that a Reply is to.
 fn end_call<M: RamSide, R: RingSide>(

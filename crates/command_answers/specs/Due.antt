@@ -24,8 +24,8 @@ use Rattle.joint_history.specs.Runnable.{CanRunPlant}
 use Rattle.route_laws.specs.Effects.{EffectsAreRight}
 use Rattle.entry_causes.specs.Joint.{IsInOneOrder}
 use Rattle.end_times.specs.Joint.{AreBridgesInTime}
-use Rattle.turn_laws.specs.KeepsOn.{NoneSpent}
-use Rattle.serial_run.specs.Serial.{IsSerial}
+use Rattle.one_exchange.specs.TurnLaws.{NoneSpent}
+use Rattle.one_exchange.specs.SerialRun.{IsSerial}
 use Rattle.peer_cop.specs.declared.wire.Wire.{Wire}
 use Rattle.peer_cop.specs.Lines.{lines_of}
 use Rattle.peer_cop.specs.Wires.{AreWires, IsFirstBad}

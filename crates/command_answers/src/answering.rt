@@ -28,12 +28,12 @@ use crate::status::Status;
 use command_words::{Command, Task};
 use joint_history::{Joint, Noted};
 use journal_text::{fits_its_types, journal_text, legal_is_plain};
+use one_exchange::{run_counted, run_noted};
 use panel_text::panel_from_notes;
 use plant_gen::plant_from;
 use plant_loader::{LoadEnd, Version, load};
 use plant_types::{Place, Plant, PlantFault};
 use route_laws::effects_are_right;
-use serial_run::{run_counted, run_noted};
 use std::alloc::{AllocError, Global};
 use summary_text::summary_text;
 

@@ -10,9 +10,9 @@ use crate::judging::{Judged, judge_journal};
 use crate::status::Status;
 use command_words::Command;
 use flow_text::flow_text;
+use one_exchange::run_noted;
 use plant_types::Plant;
 use route_laws::effects_are_right;
-use serial_run::run_noted;
 use std::alloc::{AllocError, Global};
 
 /// The joint history of the journal behind a plant file, or of a run where there is no journal.

@@ -29,7 +29,7 @@ use Rattle.traffic_cop.specs.Drops.{drop_named, exchanged_in}
 use Rattle.traffic_cop.specs.Exchange.{input_total, input_count, put_by, put_words, put_all, row_at}
 use Rattle.traffic_cop.specs.Exchange.{exchanged_by, module_at}
 use Rattle.ladder_solver.specs.State.{SolveState}
-use Rattle.alike_states.specs.Alone.{HasNoMessages}
+use Rattle.field_runs.specs.AlikeStates.{HasNoMessages}
 use Rattle.controller_core.specs.declared.fixed.Fixed.{Fixed}
 use Rattle.controller_core.specs.Replay.{ControllerState, begun, control_is_on, solved}
 use Rattle.controller_core.specs.Replay.{coils_off, discretes_kept, segment_solved, unpowered}

@@ -4,7 +4,7 @@ use Rattle.std.specs.FinSet.{contains}
 use Rattle.plant_types.specs.declared.plan.ControllerPlan.{ControllerPlan}
 use Rattle.plant_types.specs.Discretes.{Refs}
 use Rattle.ladder_solver.specs.declared.places.BlockPlace.{BlockPlace}
-use Rattle.alike_states.specs.Alone.{HasNoMessages}
+use Rattle.field_runs.specs.AlikeStates.{HasNoMessages}
 use Rattle.controller_core.specs.declared.fixed.Fixed.{Fixed}
 use Rattle.controller_core.specs.Replay.{ControllerState}
 use Rattle.field_runs.specs.Alike.{IsSettled}

@@ -13,7 +13,7 @@ use Rattle.plant_types.specs.Checks.{HasSegmentPast}
 use Rattle.plant_types.specs.Sizes.{cleared, discretes, discretes_of, DiscretesFollow}
 use Rattle.plant_types.specs.Store.{Contents}
 use Rattle.plant_types.specs.Discretes.{discretes_on}
-use Rattle.grid_compile.specs.Layout.{grids_of}
+use Rattle.ladder_solver.specs.GridCompile.{grids_of}
 use Rattle.mstr_block.specs.Table.{BlockTable}
 use Rattle.ladder_solver.specs.declared.watch.SolveEnd.{SolveEnd}
 use Rattle.ladder_solver.specs.declared.watch.SolveEnd.TheVariants as ends

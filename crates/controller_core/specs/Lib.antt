@@ -15,3 +15,6 @@ pub mod Laws
 pub mod Parts
 pub mod StateView
 pub mod Feeding
+pub mod LadderSolver
+pub mod TrafficCop
+pub mod ScanOrder

@@ -11,7 +11,7 @@ use Rattle.plant_types.specs.Standing.{message_limit}
 use Rattle.plant_types.specs.declared.sizes.Sizes.{Sizes}
 use Rattle.plant_types.specs.Sizes.{cleared, discretes}
 use Rattle.plant_types.specs.Store.{Contents, HasDiscrete, Keeps}
-use Rattle.grid_compile.specs.Layout.{grids_of}
+use Rattle.ladder_solver.specs.GridCompile.{grids_of}
 use Rattle.ladder_solver.specs.Numbers.{mstr_blocks}
 use Rattle.ladder_solver.specs.State.{solve_state}
 use Rattle.ladder_solver.specs.declared.watch.SolveEnd.{SolveEnd}

@@ -6,7 +6,7 @@ use Rattle.plant_types.specs.Checks.{sizes_of}
 use Rattle.plant_types.specs.Plans.{is_routed}
 use Rattle.plant_types.specs.Sizes.{cleared, discretes_of}
 use Rattle.plant_types.specs.Standing.{message_limit}
-use Rattle.grid_compile.specs.Layout.{grids_of}
+use Rattle.ladder_solver.specs.GridCompile.{grids_of}
 use Rattle.ladder_solver.specs.Numbers.{mstr_blocks}
 use Rattle.mstr_block.specs.Table.{idle_table}
 use Rattle.controller_core.specs.declared.parts.Parts.{Parts}

@@ -19,6 +19,7 @@ pub use call::{Call, CallKind};
 pub use controller::Controller;
 pub use entry::{Entry, Maker, StepEnd};
 pub use fixed::Fixed;
+pub use ladder_solver::segments_keep_calls;
 pub use laws::{
     answers_leave_the_scan, calls_follow, conditions_stay, ended_controllers_stay,
     entries_add_their_lines, entries_add_their_notes, fronts_are_legal, kept_power_is_on,

@@ -25,7 +25,7 @@ use crate::fixed::Fixed;
 use crate::notes::{closes_scan, push_values};
 use crate::parts::{Parts, Solver, Stores, parts_of};
 use crate::state::StateView;
-use ladder_solver::{Ladder, SolveEnd, Watch, grids_ask_no_more, segments_keep_calls};
+use ladder_solver::{Clock, Ladder, SolveEnd, Watch, grids_ask_no_more, segments_keep_calls};
 use modbus_exec::answer_twice;
 use mstr_block::{
     CallId, MstrBank, MstrResult, calls_are_taken_in_order, power_failures_keep_calls,
@@ -37,7 +37,6 @@ use plant_types::{
 use scan_order::{ScanStep, row_of};
 use state_ram::PackedRam;
 use std::alloc::{AllocError, Global};
-use timer_ops::Clock;
 use traffic_cop::Cop;
 
 /// The code with which the watchdog stops a controller.

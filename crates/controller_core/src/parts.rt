@@ -3,8 +3,7 @@ ghost use Rattle.std.specs.Prelude.{IfOk};
 ghost use Rattle.traffic_cop.specs.Rows.{IsRunnablePlan};
 ghost use Rattle.controller_core.specs.Parts.{ArePartsOf, AreStoresOf, IsSolverOf};
 
-use grid_compile::grids_of;
-use ladder_solver::{Ladder, grids_ask_no_more};
+use ladder_solver::{Ladder, grids_ask_no_more, grids_of};
 use mstr_block::MstrBank;
 use plant_types::{ControllerPlan, DROP_LIMIT, checked_plans_find_all, is_routed};
 use state_ram::PackedRam;

@@ -1,8 +1,7 @@
 //! All of a controller's state, lent to be read.
-use ladder_solver::Ladder;
+use ladder_solver::{Clock, Ladder};
 use mstr_block::MstrBank;
 use state_ram::PackedRam;
-use timer_ops::Clock;
 
 /// What a controller's state consists of. This project's own.
 #[derive(Clone, Copy)]

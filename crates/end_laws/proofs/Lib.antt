@@ -7,3 +7,5 @@ pub mod Parts
 pub mod Turn
 mod Spent
 pub mod Worked
+pub mod TurnLaws
+pub mod BridgePort

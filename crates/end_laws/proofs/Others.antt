@@ -10,7 +10,7 @@ use Rattle.std.specs.List.{All, list_all}
 use Rattle.std.proofs.lemmas.List.Elements.{All-nil}
 use Rattle.std.specs.Prelude.{is_some, not}
 use Rattle.tied_lists.proofs.Turns.{membership-kept, own-found}
-use Rattle.bridge_port.proofs.Across.{across-stays}
+use Rattle.end_times.proofs.BridgePort.{across-stays}
 use Rattle.joint_history.specs.Complete.{LeavesQuietly}
 use Rattle.end_times.specs.EndTimes.{IsEndInTime}
 use Rattle.end_times.proofs.Turn.{others-in-time, starts-in-time}

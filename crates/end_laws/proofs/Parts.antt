@@ -20,15 +20,12 @@ use Rattle.ring_core.specs.declared.entry.RingEntry.TheVariants.{Pass, Leave, Jo
 use Rattle.tied_lists.specs.Own.{Grew, WentOn, is_of}
 use Rattle.tied_lists.proofs.Boxes.{CameOn, HasCome}
 use Rattle.tied_lists.proofs.Growth.{grew-more, grew-one}
-use Rattle.comm_port.specs.Giving.{each_path}
-use Rattle.comm_port.specs.Order.{IsSending}
-use Rattle.comm_port.specs.Parts.{InOrder, PartOf}
-use Rattle.comm_port.specs.SendsAll.{IsNextSending}
-use Rattle.comm_port.proofs.Parts.{each-added, grew-none}
+use Rattle.turn_laws.specs.CommPort.{each_path, InOrder, IsNextSending, IsSending, PartOf}
+use Rattle.turn_laws.proofs.CommPort.{each-added, grew-none}
 use Rattle.joint_history.specs.Complete.{IsQuiet}
-use Rattle.bridge_port.specs.EndParts.{ArePosted, EndGivesUp, EndSendsAll, EndServes, EndServesAs}
-use Rattle.bridge_port.specs.EndParts.{IsBackEntry, IsForwardEntry, are_some, finish_at_end}
-use Rattle.bridge_port.specs.EndParts.{post_of}
+use Rattle.end_times.specs.BridgePort.{are_some, finish_at_end, post_of, ArePosted, EndGivesUp}
+use Rattle.end_times.specs.BridgePort.{EndSendsAll, EndServes, EndServesAs, IsBackEntry}
+use Rattle.end_times.specs.BridgePort.{IsForwardEntry}
 use Rattle.end_laws.proofs.Silent.{IsNoForward, IsOfNoCall}
 use Rattle.turn_laws.proofs.Passes.{IsInner, each-join}
 

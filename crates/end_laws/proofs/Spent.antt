@@ -14,9 +14,8 @@ use Rattle.tied_lists.specs.Own.{is_of, own}
 use Rattle.tied_lists.specs.Waits.{IsOnRing}
 use Rattle.tied_lists.proofs.Growth.{grew-ours}
 use Rattle.tied_lists.proofs.Histories.{legal-follows}
-use Rattle.comm_port.specs.Giving.{part_at}
-use Rattle.comm_port.specs.Leaving.{cause_due, is_due, last_entry}
-use Rattle.bridge_port.specs.EndParts.{AsksRing, EndAsksIfDone, HoldsEndTurn, LeavesIf, are_some}
+use Rattle.turn_laws.specs.CommPort.{cause_due, is_due, last_entry, part_at}
+use Rattle.end_times.specs.BridgePort.{are_some, AsksRing, EndAsksIfDone, HoldsEndTurn, LeavesIf}
 use Rattle.turn_laws.specs.KeepsOn.{NoneSpent}
 use Rattle.turn_laws.proofs.Passes.{all-push}
 use Rattle.turn_laws.proofs.Spent.{IsUnspent, all-inner, more, not-spent}

@@ -24,16 +24,12 @@ use Rattle.tied_lists.specs.Own.{Grew, is_of, own}
 use Rattle.tied_lists.specs.Waits.{status_at}
 use Rattle.tied_lists.proofs.Growth.{grew-ours}
 use Rattle.tied_lists.proofs.Histories.{legal-follows}
-use Rattle.comm_port.specs.Giving.{part_at}
-use Rattle.comm_port.specs.HostStands.{own_side}
-use Rattle.comm_port.specs.Leaving.{cause_due, is_due, last_entry}
-use Rattle.comm_port.proofs.Leaves.{quiet-due}
+use Rattle.turn_laws.specs.CommPort.{cause_due, is_due, last_entry, own_side, part_at}
+use Rattle.turn_laws.proofs.CommPort.{quiet-due}
 use Rattle.joint_history.specs.Complete.{IsQuiet, LeavesQuietly}
-use Rattle.bridge_port.specs.EndParts.{AsksRing, EndAsksIfDone, HoldsEndTurn}
-use Rattle.bridge_port.specs.EndParts.{LeavesBridge, LeavesIf, are_some}
-use Rattle.bridge_port.specs.EndTurns.{EndTies}
-use Rattle.bridge_port.specs.Stands.{own_bridge}
-use Rattle.bridge_port.proofs.Across.{legal-front}
+use Rattle.end_times.specs.BridgePort.{are_some, own_bridge, AsksRing, EndAsksIfDone, EndTies}
+use Rattle.end_times.specs.BridgePort.{HoldsEndTurn, LeavesBridge, LeavesIf}
+use Rattle.end_times.proofs.BridgePort.{legal-front}
 use Rattle.end_times.specs.EndTimes.{IsEndInTime}
 use Rattle.end_times.proofs.Turn.{end-in-time}
 use Rattle.end_laws.specs.EndKeeps.{EndKeepsOn, IsNoDoneLeave, IsQuietSinceDone}

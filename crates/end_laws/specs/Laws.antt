@@ -10,10 +10,8 @@ use Rattle.bridge_relay.specs.Legal.{IsBridgeHistory, IsEnd, IsOpenEnd}
 use Rattle.ring_core.specs.declared.entry.RingEntry.{RingEntry}
 use Rattle.tied_lists.specs.Own.{own}
 use Rattle.tied_lists.specs.Waits.{IsOnRing}
-use Rattle.comm_port.specs.HostStands.{own_side}
-use Rattle.bridge_port.specs.EndTurns.{EndTies}
-use Rattle.bridge_port.specs.EndParts.{HoldsEndTurn}
-use Rattle.bridge_port.specs.Stands.{own_bridge}
+use Rattle.turn_laws.specs.CommPort.{own_side}
+use Rattle.end_times.specs.BridgePort.{own_bridge, EndTies, HoldsEndTurn}
 use Rattle.joint_history.specs.Bridges.{made_at_end}
 use Rattle.joint_history.specs.Complete.{EndIsComplete}
 use Rattle.turn_laws.specs.KeepsOn.{NoneSpent}

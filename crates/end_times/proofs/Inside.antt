@@ -23,7 +23,7 @@ use Rattle.bridge_relay.specs.Laws.{is_by}
 use Rattle.bridge_relay.specs.Legal.{IsBridgeHistory, IsBridgeStep}
 use Rattle.bridge_relay.proofs.Legal.{forward_made}
 use Rattle.bridge_relay.proofs.Steps.{after_more, step_left, step_right}
-use Rattle.joint_history.specs.Bridges.{made_at_end}
+use Rattle.bridge_port.specs.CommPort.{made_at_end}
 use Rattle.one_order.specs.Merges.{tally}
 use Rattle.one_order.proofs.Merges.{tally-append}
 use Rattle.end_times.specs.EndCauses.{EndNoted, no_end_notes, end_note}

@@ -26,16 +26,10 @@ use Rattle.ring_core.specs.declared.entry.RingEntry.TheVariants.{Pass, Leave, Jo
 use Rattle.tied_lists.specs.Items.{reply_of}
 use Rattle.tied_lists.specs.Own.{is_of, own, Grew}
 use Rattle.tied_lists.proofs.Growth.{grew-more, grew-one, grew-ours}
-use Rattle.comm_port.specs.Giving.{each_path, inbox_of}
-use Rattle.comm_port.specs.HoldTurn.{overdue}
-use Rattle.comm_port.specs.Leaving.{cause_due, last_entry}
-use Rattle.comm_port.specs.Order.{IsSending}
-use Rattle.comm_port.specs.Parts.{InOrder, PartOf}
-use Rattle.comm_port.specs.Replies.{reply_frame}
-use Rattle.comm_port.specs.SendsAll.{IsNextSending}
-use Rattle.comm_port.proofs.Leaves.{quiet-due}
-use Rattle.comm_port.proofs.Parts.{each-added}
-use Rattle.joint_history.specs.Bridges.{made_at_end}
+use Rattle.bridge_port.specs.CommPort.{cause_due, each_path, inbox_of, last_entry, made_at_end}
+use Rattle.bridge_port.specs.CommPort.{overdue, reply_frame, InOrder, IsNextSending, IsSending}
+use Rattle.bridge_port.specs.CommPort.{PartOf}
+use Rattle.bridge_port.proofs.CommPort.{each-added, quiet-due}
 use Rattle.bridge_port.specs.EndParts.{ArePosted, AsksRing, EndAsksIfDone, EndGivesUp, EndSendsAll}
 use Rattle.bridge_port.specs.EndParts.{EndServes, EndServesAs, EndsEndTurn}
 use Rattle.bridge_port.specs.EndParts.{IsBackEntry, IsForwardEntry, LeavesBridge, LeavesIf}

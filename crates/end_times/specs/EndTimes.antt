@@ -3,7 +3,7 @@ use Rattle.std.specs.Prelude.{ℕ, List}
 use Rattle.bridge_relay.specs.declared.entry.BridgeEntry.{BridgeEntry}
 use Rattle.ring_core.specs.declared.entry.RingEntry.{RingEntry}
 use Rattle.tied_lists.specs.Own.{own}
-use Rattle.joint_history.specs.Bridges.{made_at_end}
+use Rattle.bridge_port.specs.CommPort.{made_at_end}
 use Rattle.one_order.specs.Merges.{InTimeFrom}
 use Rattle.end_times.specs.EndCauses.{EndNoted, EndDone, no_end_notes, no_end_deeds, end_note}
 use Rattle.end_times.specs.EndCauses.{end_deed, AreEndCaused}

@@ -5,7 +5,7 @@ use Rattle.plant_types.specs.Plans.{IsBridgePlan}
 use Rattle.bridge_relay.specs.declared.entry.BridgeEntry.{BridgeEntry}
 use Rattle.bridge_relay.specs.Legal.{IsBridgeHistory, IsEnd}
 use Rattle.bridge_relay.specs.Machine.{far_side}
-use Rattle.joint_history.specs.Bridges.{made_at_end}
+use Rattle.bridge_port.specs.CommPort.{made_at_end}
 use Rattle.one_order.specs.Merges.{tally}
 use Rattle.end_times.specs.EndCauses.{EndNoted, no_end_notes, end_note}
 

@@ -2,9 +2,7 @@
 use Rattle.std.specs.Prelude.{List}
 use Rattle.std.specs.List.{All}
 use Rattle.ring_core.specs.declared.entry.RingEntry.{RingEntry}
-use Rattle.joint_history.specs.declared.joint.BridgeLog.{BridgeLog}
-use Rattle.joint_history.specs.declared.joint.Joint.{Joint}
-use Rattle.joint_history.specs.Nets.{noted_on_rings}
+use Rattle.bridge_port.specs.CommPort.{noted_on_rings, BridgeLog, Joint}
 use Rattle.end_times.specs.EndTimes.{IsEndInTime}
 
 -- A bridge's list is in time, for each of its two ends, with what that end's node did.

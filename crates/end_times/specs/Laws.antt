@@ -7,7 +7,7 @@ use Rattle.bridge_relay.specs.Laws.{is_by}
 use Rattle.ring_core.specs.declared.entry.RingEntry.{RingEntry}
 use Rattle.tied_lists.specs.Own.{own}
 use Rattle.bridge_port.specs.EndParts.{HoldsEndTurn}
-use Rattle.joint_history.specs.Bridges.{made_at_end}
+use Rattle.bridge_port.specs.CommPort.{made_at_end}
 use Rattle.end_times.specs.EndTimes.{IsEndInTime}
 
 -- A hold of the token by an end keeps it in time with its node.

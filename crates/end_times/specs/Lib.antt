@@ -3,3 +3,4 @@ pub mod EndTimes
 pub mod Inside
 pub mod Joint
 pub mod Laws
+pub mod BridgePort

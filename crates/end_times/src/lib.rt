@@ -4,6 +4,7 @@
 
 mod laws;
 
+pub use bridge_port::BridgeWorker;
 pub use laws::{
     bridges_keep_order, end_others_stay_in_time, end_turns_stay_in_time, ends_start_in_time,
 };

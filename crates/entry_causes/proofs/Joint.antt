@@ -8,13 +8,9 @@ use Rattle.plant_types.specs.declared.plan.ControllerPlan.{ControllerPlan}
 use Rattle.plant_types.specs.declared.plan.Plant.{Plant}
 use Rattle.plant_types.specs.Plans.{IsPlant}
 use Rattle.ring_core.specs.declared.entry.RingEntry.{RingEntry}
-use Rattle.tied_lists.specs.Own.{own}
-use Rattle.joint_history.specs.declared.joint.ControllerLog.{ControllerLog}
-use Rattle.joint_history.specs.declared.joint.HostLog.{HostLog}
-use Rattle.joint_history.specs.declared.joint.RingLog.{RingLog}
-use Rattle.joint_history.specs.declared.joint.Joint.{Joint}
-use Rattle.joint_history.specs.JointLaws.{IsLegalJoint}
-use Rattle.joint_history.specs.Nets.{noted_on_rings}
+use Rattle.net_laws.specs.TiedLists.{own}
+use Rattle.net_laws.specs.JointHistory.{noted_on_rings, ControllerLog, HostLog, IsLegalJoint, Joint}
+use Rattle.net_laws.specs.JointHistory.{RingLog}
 use Rattle.one_order.specs.Merges.{Merged, AsNoted, AsDone, noted_of, deeds_of, Runs, InTimeFrom}
 use Rattle.one_order.specs.Orders.{HaveNodesApart, Log}
 use Rattle.entry_causes.specs.Causes.{StationEntry, ByController, ByHost, Noted, Done, no_notes}

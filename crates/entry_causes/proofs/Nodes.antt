@@ -9,8 +9,7 @@ use Rattle.plant_types.specs.declared.net.NetPlan.{NetPlan}
 use Rattle.plant_types.specs.declared.plan.Plant.{Plant}
 use Rattle.plant_types.specs.Plans.{IsNetOf, controllers_on, hosts_on, ends_on}
 use Rattle.plant_types.proofs.Rising.{flips, rising-distinct}
-use Rattle.joint_history.specs.declared.joint.Joint.{Joint}
-use Rattle.joint_history.specs.JointLaws.{IsLegalJoint}
+use Rattle.net_laws.specs.JointHistory.{IsLegalJoint, Joint}
 use Rattle.one_order.specs.Orders.{Log, HaveNodesApart, NotAmong}
 use Rattle.entry_causes.specs.Joint.{stations_on}
 use Rattle.entry_causes.proofs.On.{station-nodes}

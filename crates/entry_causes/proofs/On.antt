@@ -10,13 +10,9 @@ use Rattle.plant_types.specs.declared.plan.ControllerPlan.{ControllerPlan}
 use Rattle.plant_types.specs.declared.plan.Plant.{Plant}
 use Rattle.plant_types.specs.Plans.{IsPlant, controllers_on, hosts_on}
 use Rattle.ring_core.specs.declared.entry.RingEntry.{RingEntry}
-use Rattle.tied_lists.specs.Own.{own}
-use Rattle.joint_history.specs.declared.joint.ControllerLog.{ControllerLog}
-use Rattle.joint_history.specs.declared.joint.HostLog.{HostLog}
-use Rattle.joint_history.specs.declared.joint.RingLog.{RingLog}
-use Rattle.joint_history.specs.declared.joint.Joint.{Joint}
-use Rattle.joint_history.specs.JointLaws.{IsLegalHostLog, IsLegalJoint, IsLegalLog}
-use Rattle.joint_history.specs.Nets.{noted_on_rings}
+use Rattle.net_laws.specs.TiedLists.{own}
+use Rattle.net_laws.specs.JointHistory.{noted_on_rings, ControllerLog, HostLog, IsLegalHostLog}
+use Rattle.net_laws.specs.JointHistory.{IsLegalJoint, IsLegalLog, Joint, RingLog}
 use Rattle.one_order.specs.Orders.{Log}
 use Rattle.entry_causes.specs.Causes.{StationEntry}
 use Rattle.entry_causes.specs.Joint.{controller_log, host_log, logs_on, stations_on}

@@ -6,17 +6,13 @@ use Rattle.ring_core.specs.Words.{maker}
 use Rattle.ring_core.specs.declared.entry.RingEntry.{RingEntry}
 use Rattle.plant_types.specs.declared.plan.Plant.{Plant}
 use Rattle.plant_types.specs.Plans.{IsPlant}
-use Rattle.tied_lists.specs.Own.{own}
-use Rattle.joint_history.specs.JointLaws.{IsLegalJoint}
-use Rattle.joint_history.specs.declared.joint.ControllerLog.{ControllerLog}
-use Rattle.joint_history.specs.declared.joint.HostLog.{HostLog}
-use Rattle.joint_history.specs.declared.joint.RingLog.{RingLog}
-use Rattle.joint_history.specs.declared.joint.Joint.{Joint}
+use Rattle.net_laws.specs.TiedLists.{own}
+use Rattle.net_laws.specs.JointHistory.{noted_on_rings, ControllerLog, HostLog, IsLegalJoint, Joint}
+use Rattle.net_laws.specs.JointHistory.{RingLog}
 use Rattle.one_order.specs.Orders.{Log, HasOneOrder}
 use Rattle.entry_causes.specs.Causes.{StationEntry, ByController, ByHost, no_notes, no_deeds}
 use Rattle.entry_causes.specs.Causes.{note, deed, AreCaused}
 use Rattle.entry_causes.specs.InTime.{InTime, HostInTime}
-use Rattle.joint_history.specs.Nets.{noted_on_rings}
 
 -- The list of a controller, under its node.
 abbrev pub controller_log : ControllerLog → Log StationEntry

@@ -21,7 +21,7 @@ use Rattle.field_runs.specs.Scan.{scanned}
 use Rattle.field_search.specs.Covered.{AsksAlike, CoversHoldInField, CoversReachAll, IsAlone, TellAll}
 use Rattle.field_search.specs.Covered.{leads_to, starts_at, StandsFor}
 use Rattle.cone_of.specs.Cone.{HasIn, IsCone}
-use Rattle.cone_runs.specs.AlikeIn.{IsAlikeIn}
+use Rattle.field_search.specs.ConeRuns.{IsAlikeIn}
 use Rattle.field_search.specs.Found.{PathsAreRuns}
 use Rattle.field_search.proofs.Fields.{alike-then}
 use Rattle.field_machine.specs.declared.asked.Asked.{Asked}

@@ -33,7 +33,7 @@ use Rattle.controller_core.specs.Replay.{ControllerState, start}
 use Rattle.field_runs.specs.Alike.{IsAlike}
 use Rattle.cone_laws.specs.Agree.{place_matters, SameIn}
 use Rattle.cone_laws.proofs.Stores.{insert-elsewhere, onward}
-use Rattle.cone_runs.specs.AlikeIn.{IsAlikeIn}
+use Rattle.field_search.specs.ConeRuns.{IsAlikeIn}
 use Rattle.field_machine.specs.Counters.{Among}
 use Rattle.field_machine.specs.Keys.{edges_set, IsKeyOf}
 use Rattle.field_machine.specs.Narrow.{apart_of, does_not_matter, kind_outside, one_outside}

@@ -10,3 +10,4 @@ pub mod Narrow
 pub mod Narrowed
 pub mod Never
 pub mod Shown
+pub mod FieldSearch

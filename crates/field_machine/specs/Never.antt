@@ -10,7 +10,7 @@ use Rattle.state_space.specs.Reaching.{IsBelow, up_to}
 use Rattle.field_runs.specs.Field.{PlaysInField, state_after}
 use Rattle.field_runs.specs.Played.{with_scripts, AreScansTold}
 use Rattle.cone_of.specs.Cone.{IsCone}
-use Rattle.cone_runs.specs.AlikeIn.{IsAlikeIn}
+use Rattle.field_search.specs.ConeRuns.{IsAlikeIn}
 use Rattle.field_machine.specs.declared.asked.Asked.{Asked}
 use Rattle.field_machine.specs.declared.searching.Found.{Found}
 use Rattle.field_machine.specs.declared.searching.Found.TheVariants.{Holds, Fails}

@@ -8,3 +8,5 @@ pub mod Telling
 pub mod PairKeys
 pub mod Scanned
 pub mod Found
+pub mod FieldMachine
+pub mod SideRuns

@@ -7,3 +7,5 @@ pub mod Same
 pub mod Choices
 pub mod Keys
 pub mod Pair
+pub mod FieldMachine
+pub mod SideRuns

@@ -2,7 +2,7 @@
 ghost use Rattle.std.specs.Prelude.{◌≡◌, IfOk};
 ghost use Rattle.controller_core.specs.Controller.{fixed_with};
 ghost use Rattle.controller_core.specs.Machine.{IsRunnable};
-ghost use Rattle.field_search.specs.Covered.{IsAlone};
+ghost use Rattle.side_runs.specs.FieldSearch.{IsAlone};
 ghost use Rattle.side_runs.specs.Laws.{with_drops};
 ghost use Rattle.field_pair.specs.Pair.{IsPair};
 

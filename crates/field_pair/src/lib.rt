@@ -12,4 +12,5 @@ mod rows;
 mod searching;
 
 pub use alike::{Difference, first_difference};
+pub use field_machine::{Exchange, is_alone};
 pub use searching::{Apart, FoundPair, PanelEnd, search_pair};

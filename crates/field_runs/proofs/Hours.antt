@@ -12,8 +12,7 @@ use Rattle.scan_order.specs.declared.due.ScanStep.{ScanStep}
 use Rattle.scan_order.specs.declared.due.ScanStep.TheVariants as steps
 use Rattle.scan_order.specs.Due.{rows_from, input_of, row_of}
 use Rattle.traffic_cop.specs.Drops.{input_after}
-use Rattle.ladder_solver.specs.State.{SolveState}
-use Rattle.ladder_solver.specs.Segment.{segment_after}
+use Rattle.controller_core.specs.LadderSolver.{segment_after, SolveState}
 use Rattle.alike_states.specs.Later.{later, SolvesAskNoHour}
 use Rattle.controller_core.specs.declared.fixed.Fixed.{Fixed}
 use Rattle.controller_core.specs.Event.{entry_of}

@@ -17,7 +17,7 @@ use Rattle.scan_order.specs.Due.{due, due_with, full_scan, input_of, row_of}
 use Rattle.scan_order.specs.Power.{KeptPowerStays}
 use Rattle.traffic_cop.specs.Drops.{input_after}
 use Rattle.traffic_cop.specs.Rows.{FitsPlan, NamesDrop}
-use Rattle.ladder_solver.specs.State.{SolveState}
+use Rattle.controller_core.specs.LadderSolver.{SolveState}
 use Rattle.controller_core.specs.declared.fixed.Fixed.{Fixed}
 use Rattle.controller_core.specs.Event.{entry_of}
 use Rattle.controller_core.specs.Replay.{ControllerState, apply, control_is_on, exchanged, read_in}

@@ -20,8 +20,7 @@ use Rattle.scan_order.specs.Due.{due, due_with, full_scan, rows_from, input_of, 
 use Rattle.scan_order.specs.Power.{KeptPowerStays}
 use Rattle.traffic_cop.specs.Drops.{drop_named, exchanged_in, input_after}
 use Rattle.traffic_cop.specs.Exchange.{exchanged_by, row_at}
-use Rattle.ladder_solver.specs.State.{SolveState}
-use Rattle.ladder_solver.specs.Segment.{segment_after}
+use Rattle.controller_core.specs.LadderSolver.{segment_after, SolveState}
 use Rattle.controller_core.specs.declared.entry.Entry.{Entry}
 use Rattle.controller_core.specs.declared.fixed.Fixed.{Fixed}
 use Rattle.controller_core.specs.Controller.{fixed_with}

@@ -14,9 +14,7 @@ use Rattle.scan_order.specs.declared.due.ScanStep.{ScanStep}
 use Rattle.scan_order.specs.declared.due.ScanStep.TheVariants as steps
 use Rattle.scan_order.specs.Due.{full_scan}
 use Rattle.ladder_solver.specs.State.{SolveState}
-use Rattle.controller_core.specs.declared.fixed.Fixed.{Fixed}
-use Rattle.controller_core.specs.Controller.{fixed_with}
-use Rattle.controller_core.specs.Replay.{ControllerState, start}
+use Rattle.field_runs.specs.ControllerCore.{fixed_with, start, ControllerState, Fixed}
 use Rattle.state_space.specs.Answers.{Covers, IsAmong}
 use Rattle.state_space.specs.Reaching.{IsBelow, LeadBy}
 use Rattle.field_runs.specs.Alike.{IsSettled, ScansSettle}

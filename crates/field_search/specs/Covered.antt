@@ -5,9 +5,8 @@ use Rattle.plant_types.specs.Discretes.{Refs}
 use Rattle.plant_types.specs.Plans.{KeepsPower}
 use Rattle.scan_order.specs.Due.{full_scan}
 use Rattle.traffic_cop.specs.Rows.{IsRunnablePlan}
-use Rattle.alike_states.specs.Alone.{HasNoMessages}
-use Rattle.controller_core.specs.declared.fixed.Fixed.{Fixed}
-use Rattle.controller_core.specs.Replay.{ControllerState, start}
+use Rattle.field_runs.specs.AlikeStates.{HasNoMessages}
+use Rattle.field_runs.specs.ControllerCore.{start, ControllerState, Fixed}
 use Rattle.state_space.specs.Answers.{Covers}
 use Rattle.state_space.specs.Reaching.{IsBelow}
 use Rattle.field_runs.specs.Alike.{IsSettled}

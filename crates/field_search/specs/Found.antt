@@ -1,8 +1,7 @@
 -- Moves that lead to a state, and the run that they are. All of it is this project's own.
 use Rattle.std.specs.Prelude.{◌<◌, ℕ, List, length, map}
 use Rattle.scan_order.specs.Due.{full_scan}
-use Rattle.controller_core.specs.declared.fixed.Fixed.{Fixed}
-use Rattle.controller_core.specs.Replay.{ControllerState}
+use Rattle.field_runs.specs.ControllerCore.{ControllerState, Fixed}
 use Rattle.state_space.specs.Reaching.{Reaches}
 use Rattle.plant_types.specs.Discretes.{Refs}
 use Rattle.field_runs.specs.Field.{PlaysInField, state_after}

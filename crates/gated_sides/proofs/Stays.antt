@@ -11,8 +11,8 @@ use Rattle.ring_core.specs.declared.frame.FrameKind.{FrameKind}
 use Rattle.ring_core.specs.declared.frame.FrameKind.TheVariants.{Request, Reply}
 use Rattle.ring_core.specs.declared.frame.Frame.{Frame}
 use Rattle.ring_core.specs.Scratch.{words_put}
-use Rattle.comm_port.specs.Sides.{taken_entries}
-use Rattle.comm_port.proofs.TurnEnds.{words-as}
+use Rattle.bridge_port.specs.CommPort.{taken_entries}
+use Rattle.bridge_port.proofs.CommPort.{words-as}
 use Rattle.ring_core.specs.Machine.{ring_after, ring_node}
 use Rattle.ring_core.specs.Legal.{IsNextNumber}
 use Rattle.ring_core.specs.Words.{maker}

@@ -4,7 +4,7 @@ ghost use Rattle.turn_gate.specs.Known.{IsPassReady};
 ghost use Rattle.gated_sides.specs.Cells.{maker_number};
 
 use crate::cells::RamCell;
-use comm_port::RamSide;
+use bridge_port::RamSide;
 use controller_core::{Call, conditions_stay};
 use mstr_block::{CallId, MstrResult};
 use plant_types::{List, Pdu};

@@ -7,7 +7,7 @@ ghost use Rattle.turn_gate.specs.Known.{IsPassReady};
 use crate::cells::RingCell;
 use crate::meets::Meet;
 use crate::tallies::{Outside, Tally};
-use comm_port::RingSide;
+use bridge_port::RingSide;
 use mstr_block::{CallId, MstrResult};
 use ring_core::{Frame, Heard, LeaveCause, LocalOp, NodeStatus, Ring, RingNo};
 use std::marker::Model;

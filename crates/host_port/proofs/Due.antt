@@ -10,7 +10,7 @@ use Rattle.plant_types.specs.declared.net.HostAsk.{HostAsk}
 use Rattle.plant_types.specs.declared.net.HostPlan.{HostPlan}
 use Rattle.plant_types.specs.Limits.{request_limit}
 use Rattle.plant_types.specs.Plans.{IsAskOf, IsHostPlan}
-use Rattle.mstr_block.specs.declared.call.CallId.{CallId}
+use Rattle.ring_core.specs.MstrBlock.{CallId}
 use Rattle.ring_core.specs.Words.{request_along}
 use Rattle.host_port.specs.declared.entry.HostEntry.{HostEntry}
 use Rattle.host_port.specs.Calls.{asked_on, goes_on_path, requests_in, next_host_call}

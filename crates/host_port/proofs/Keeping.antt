@@ -7,9 +7,7 @@ use Rattle.std.proofs.lemmas.Bool.{cases_Bool, eqb-true, eq-eqb, ne_eqb, not-tru
 use Rattle.std.proofs.lemmas.List.Sums.{sum_by_push}
 use Rattle.std.proofs.lemmas.List.Folds.{list_any-append}
 use Rattle.plant_types.specs.declared.net.HostPlan.{HostPlan}
-use Rattle.mstr_block.specs.declared.call.CallId.{CallId}
-use Rattle.mstr_block.specs.Call.{is_same_call}
-use Rattle.mstr_block.specs.Table.{network_paths}
+use Rattle.ring_core.specs.MstrBlock.{is_same_call, network_paths, CallId}
 use Rattle.ring_core.specs.declared.frame.Frame.{Frame}
 use Rattle.ring_core.specs.Words.{request_along}
 use Rattle.host_port.specs.declared.entry.HostEntry.{HostEntry}

@@ -7,8 +7,7 @@ use Rattle.std.specs.Prelude.{option_map}
 use Rattle.std.specs.List.{slice_get}
 use Rattle.std.proofs.lemmas.Option.{slice_get-map}
 use Rattle.plant_types.specs.declared.net.HostPlan.{HostPlan}
-use Rattle.mstr_block.specs.declared.call.CallId.{CallId}
-use Rattle.mstr_block.specs.Table.{network_paths}
+use Rattle.ring_core.specs.MstrBlock.{network_paths, CallId}
 use Rattle.ring_core.specs.Legal.{IsPath}
 use Rattle.host_port.specs.declared.entry.HostEntry.{HostEntry}
 use Rattle.host_port.specs.declared.entry.HostEntry.TheVariants.{Ask, Answer, Served}

@@ -3,7 +3,7 @@ use Rattle.std.proofs.Common.{◌≡◌, ◌⊎◌, ℕ, ◌-◌, [], ◌∷◌,
 use Rattle.std.proofs.Common.{inr, arith}
 use Rattle.std.proofs.lemmas.Bool.{cases_eq}
 use Rattle.std.specs.List.{AllByRecursion}
-use Rattle.mstr_block.specs.Table.{network_paths}
+use Rattle.ring_core.specs.MstrBlock.{network_paths}
 use Rattle.ring_core.specs.Legal.{IsPath}
 
 path_cases : (p : ℕ) → IsPath p → (p ≡ 1) ⊎ ((p ≡ 2) ⊎ ((p ≡ 3) ⊎ (p ≡ 4)))

@@ -5,12 +5,11 @@ use Rattle.std.proofs.Common.{arith}
 use Rattle.std.specs.List.{list_all, list_any, AllByRecursion}
 use Rattle.std.proofs.lemmas.Bool.{eq-eqb, ne_eqb}
 use Rattle.plant_types.specs.declared.net.HostPlan.{HostPlan}
-use Rattle.mstr_block.specs.Table.{network_paths}
+use Rattle.ring_core.specs.MstrBlock.{network_paths, CallId}
 use Rattle.ring_core.specs.declared.frame.Frame.{Frame}
 use Rattle.ring_core.specs.Legal.{IsPath}
 use Rattle.host_port.specs.declared.entry.HostEntry.{HostEntry}
 use Rattle.host_port.specs.declared.host.Path.{Path}
-use Rattle.mstr_block.specs.declared.call.CallId.{CallId}
 use Rattle.host_port.specs.Calls.{asked_on, goes_on_path, is_unanswered, unanswered_in}
 use Rattle.host_port.specs.Kept.{IsLast, path_in}
 use Rattle.host_port.proofs.Lists.{and_false}

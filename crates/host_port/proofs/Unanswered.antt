@@ -7,8 +7,7 @@ use Rattle.std.proofs.lemmas.Bool.{cases_Bool, and_parts, eqb-true, eq-eqb}
 use Rattle.std.proofs.lemmas.List.Elements.{filter_map-append, filter-append}
 use Rattle.std.proofs.lemmas.List.Folds.{list_any-append}
 use Rattle.plant_types.specs.declared.net.HostPlan.{HostPlan}
-use Rattle.mstr_block.specs.declared.call.CallId.{CallId}
-use Rattle.mstr_block.specs.Call.{is_same_call}
+use Rattle.ring_core.specs.MstrBlock.{is_same_call, CallId}
 use Rattle.ring_core.specs.declared.frame.Frame.{Frame}
 use Rattle.ring_core.specs.Words.{request_along}
 use Rattle.ring_core.specs.Legal.{IsPath}

@@ -4,7 +4,7 @@ use Rattle.std.specs.Prelude.{length, slice_get, Option, Some, None, Result, Ok,
 use Rattle.std.specs.Option.{option_map_or}
 use Rattle.plant_types.specs.declared.net.HostAsk.{HostAsk}
 use Rattle.plant_types.specs.declared.net.HostPlan.{HostPlan}
-use Rattle.mstr_block.specs.declared.call.CallId.{CallId}
+use Rattle.ring_core.specs.MstrBlock.{CallId}
 use Rattle.ring_core.specs.declared.frame.Frame.{Frame}
 use Rattle.ring_core.specs.Words.{request_along, frame_route}
 use Rattle.host_port.specs.declared.entry.HostEntry.{HostEntry}

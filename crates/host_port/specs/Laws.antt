@@ -3,8 +3,7 @@ use Rattle.std.specs.Prelude.{◌≡◌, ◌==◌, ◌+◌, ℕ, true, false, no
 use Rattle.std.specs.Prelude.{◌∷◌, ◌++◌}
 use Rattle.std.specs.Prelude.{Some, None}
 use Rattle.plant_types.specs.declared.net.HostPlan.{HostPlan}
-use Rattle.mstr_block.specs.declared.call.CallId.{CallId}
-use Rattle.mstr_block.specs.Call.{is_same_call}
+use Rattle.ring_core.specs.MstrBlock.{is_same_call, CallId}
 use Rattle.ring_core.specs.declared.frame.Frame.{Frame}
 use Rattle.ring_core.specs.Words.{request_along}
 use Rattle.ring_core.specs.Legal.{IsPath}

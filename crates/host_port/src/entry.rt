@@ -2,8 +2,8 @@
 ghost use Rattle.std.specs.Prelude.{◌≡◌};
 ghost use Rattle.host_port.specs.Calls.{is_ask};
 
-use mstr_block::CallId;
 use plant_types::{Copied, Pdu, Route};
+use ring_core::CallId;
 use std::alloc::{AllocError, Global};
 
 /// What came of a host's request: a reply, which may be that of an exception, or an error word.

@@ -15,11 +15,10 @@ ghost use Rattle.host_port.specs.Kept.{HasPath, IsDueRequest, paths_after};
 
 use crate::entry::{HostEntry, HostResult};
 use modbus_pdu::{ILLEGAL_FUNCTION, Reply, encode_reply};
-use mstr_block::CallId;
 use plant_types::{
     Copied, HostAsk, HostPlan, List, NETWORK_PATH_COUNT, NETWORK_PATHS, NetPlan, Pdu, Route,
 };
-use ring_core::{Frame, is_path};
+use ring_core::{CallId, Frame, is_path};
 use std::alloc::{AllocError, Global};
 use std::marker::Model;
 

@@ -14,8 +14,7 @@ use Rattle.plant_types.specs.declared.drops.IoDrop.{IoDrop}
 use Rattle.plant_types.specs.declared.network.Segment.{Segment}
 use Rattle.plant_types.specs.declared.plan.OrderRow.{OrderRow}
 use Rattle.plant_types.specs.Plans.{IsRouteFrom, is_routed}
-use Rattle.ladder_solver.specs.Laws.{SegmentsKeepCalls}
-use Rattle.ladder_solver.specs.Numbers.{mstr_blocks}
+use Rattle.controller_core.specs.LadderSolver.{mstr_blocks, SegmentsKeepCalls}
 use Rattle.mstr_block.specs.Call.{is_same_call}
 use Rattle.mstr_block.specs.Laws.{CallsAreTakenInOrder, EndsOneCall, FinishesEndOneCall, KeepsCalls}
 use Rattle.mstr_block.specs.Laws.{GivesNewNumbers, StaysTable, collected}
@@ -36,7 +35,7 @@ use Rattle.mstr_block.specs.declared.state.BlockState.TheVariants.{Idle, Waiting
 use Rattle.mstr_block.specs.declared.state.BlockState.TheVariants.{Ready}
 use Rattle.mstr_block.specs.declared.state.Running.{Running}
 use Rattle.mstr_block.proofs.Failing.{power_failures-keep_calls}
-use Rattle.scan_order.specs.Due.{row_of}
+use Rattle.controller_core.specs.ScanOrder.{row_of}
 use Rattle.controller_core.specs.declared.call.Call.{Call}
 use Rattle.controller_core.specs.declared.entry.Entry.{Entry}
 use Rattle.controller_core.specs.declared.entry.Entry.TheVariants as entries

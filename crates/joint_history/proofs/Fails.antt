@@ -5,7 +5,7 @@ use Rattle.std.specs.Prelude.{ℕ, fold, if◌then◌else◌}
 use Rattle.plant_types.specs.declared.drops.IoDrop.{IoDrop}
 use Rattle.plant_types.specs.declared.network.Segment.{Segment}
 use Rattle.plant_types.specs.declared.plan.OrderRow.{OrderRow}
-use Rattle.scan_order.specs.Due.{row_of}
+use Rattle.controller_core.specs.ScanOrder.{row_of}
 use Rattle.controller_core.specs.declared.entry.Entry.{Entry}
 use Rattle.controller_core.specs.declared.entry.Entry.TheVariants.{Begin, Input, Solve, Output, End}
 use Rattle.controller_core.specs.declared.entry.Entry.TheVariants.{Fail, Dark, Off}

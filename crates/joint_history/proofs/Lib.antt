@@ -8,3 +8,4 @@ pub mod PowerFails
 pub mod OneRing
 mod BridgeRead
 mod JoinedRings
+pub mod TiedLists

@@ -6,3 +6,4 @@ pub mod Complete
 pub mod Effects
 pub mod Runnable
 pub mod Noted
+pub mod TiedLists

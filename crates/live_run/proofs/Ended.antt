@@ -29,11 +29,9 @@ use Rattle.joint_history.specs.Nets.{entries_of_rings, own_ring}
 use Rattle.joint_history.specs.Reading.{host_items_of, items_of}
 use Rattle.entry_causes.specs.InTime.{HostInTime, InTime}
 use Rattle.entry_causes.specs.Joint.{IsControllerInTime, IsHostInTime}
-use Rattle.turn_laws.specs.KeepsOn.{NoneSpent}
-use Rattle.turn_laws.specs.Laws.{ControllersComplete, HostsComplete}
-use Rattle.end_laws.proofs.Complete.{end-complete}
-use Rattle.end_times.specs.EndTimes.{EndInTime, IsEndInTime}
-use Rattle.end_times.specs.Joint.{IsBridgeInTime}
+use Rattle.live_workers.specs.TurnLaws.{ControllersComplete, HostsComplete, NoneSpent}
+use Rattle.live_workers.proofs.EndLaws.{end-complete}
+use Rattle.live_workers.specs.EndTimes.{EndInTime, IsBridgeInTime, IsEndInTime}
 use Rattle.net_laws.proofs.Standing.{away-same, gone-same}
 use Rattle.live_workers.specs.Stations.{CameToEnd, EndCameToEnd, HostCameToEnd}
 use Rattle.live_run.proofs.Heard.{HasAllOwn}

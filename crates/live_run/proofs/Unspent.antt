@@ -19,7 +19,7 @@ use Rattle.tied_lists.specs.Own.{is_of, own}
 use Rattle.joint_history.specs.declared.joint.RingLog.{RingLog}
 use Rattle.joint_history.specs.JointLaws.{IsLegalRingLog}
 use Rattle.joint_history.specs.Nets.{entries_of_rings}
-use Rattle.turn_laws.specs.KeepsOn.{NoneSpent, leaves_spent}
+use Rattle.live_workers.specs.TurnLaws.{leaves_spent, NoneSpent}
 use Rattle.net_laws.proofs.Members.{all_nodes, member-stands}
 use Rattle.net_laws.proofs.On.{net-sound, there-times}
 use Rattle.net_laws.proofs.Rings.{entry-on}

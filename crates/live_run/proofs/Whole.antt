@@ -20,9 +20,8 @@ use Rattle.joint_history.specs.JointLaws.{IsLegalLog, IsLegalRingLog, IsTiedBrid
 use Rattle.joint_history.specs.JointLaws.{IsTiedController, IsTiedHost}
 use Rattle.joint_history.specs.Nets.{noted_on_rings}
 use Rattle.entry_causes.specs.Joint.{IsControllerInTime, IsHostInTime, StationsAreInTime}
-use Rattle.turn_laws.specs.KeepsOn.{NoneSpent}
-use Rattle.turn_laws.specs.Laws.{ControllersComplete, HostsComplete}
-use Rattle.end_times.specs.Joint.{AreBridgesInTime, IsBridgeInTime}
+use Rattle.live_workers.specs.TurnLaws.{ControllersComplete, HostsComplete, NoneSpent}
+use Rattle.live_workers.specs.EndTimes.{AreBridgesInTime, IsBridgeInTime}
 use Rattle.net_laws.proofs.On.{IsOn, controller-on, host-on, left-on, right-on}
 use Rattle.live_workers.specs.declared.stations.NotedLog.{NotedLog}
 use Rattle.live_workers.specs.Stations.{CameNoted, EndCameToEnd, HostCameToEnd}

@@ -8,9 +8,9 @@ ghost use Rattle.joint_history.specs.Nets.{noted_on_rings};
 ghost use Rattle.joint_history.specs.Noted.{IsNoted};
 ghost use Rattle.joint_history.specs.Runnable.{CanRunPlant};
 ghost use Rattle.route_laws.specs.Effects.{EffectsAreRight};
-ghost use Rattle.end_times.specs.Joint.{AreBridgesInTime};
+ghost use Rattle.live_workers.specs.EndTimes.{AreBridgesInTime};
 ghost use Rattle.entry_causes.specs.Joint.{IsInOneOrder};
-ghost use Rattle.turn_laws.specs.KeepsOn.{NoneSpent};
+ghost use Rattle.live_workers.specs.TurnLaws.{NoneSpent};
 ghost use Rattle.live_run.specs.Closing.{IsClosable, IsOpened, net_of_gate};
 ghost use Rattle.live_run.specs.Runs.{IsOutcome, IsRoomFor};
 
@@ -22,7 +22,9 @@ use controller_core::notes_ask_no_scans;
 use entry_causes::joint_is_in_one_order;
 use gated_sides::{Meet, RingCell};
 use joint_history::{BridgeLog, HostLog, Joint, Noted};
-use live_workers::{Crew, Ends, NotedLog, Run, Station, run_all};
+use live_workers::{
+    Crew, Ends, NotedLog, Run, Station, controllers_complete, hosts_complete, run_all,
+};
 use plant_types::Plant;
 use route_laws::effects_are_right;
 use std::alloc::{AllocError, Global};
@@ -30,7 +32,6 @@ use std::sync::Wait;
 use std::thread::Threads;
 use std::time::Clock;
 use turn_gate::Pass;
-use turn_laws::{controllers_complete, hosts_complete};
 
 /// What a run of all stations comes to.
 struct Outcome {

@@ -7,3 +7,4 @@ pub mod Closing
 pub mod Ran
 pub mod Tending
 pub mod Crossed
+pub mod EndLaws

@@ -4,3 +4,5 @@ pub mod Talking
 pub mod Pairs
 pub mod Bridging
 pub mod Stations
+pub mod TurnLaws
+pub mod EndTimes

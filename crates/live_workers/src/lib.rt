@@ -13,3 +13,4 @@ mod talking;
 
 pub use crews::{Crew, Run};
 pub use stations::{Ends, NotedLog, Station, run_all};
+pub use turn_laws::{controllers_complete, hosts_complete};

@@ -20,7 +20,7 @@ use Rattle.ring_core.specs.Machine.{addresses}
 use Rattle.ring_core.specs.Legal.{IsLawful, IsLegalRing, IsMember, IsRun}
 use Rattle.ring_laws.specs.Once.{IsRingHistory}
 use Rattle.ring_laws.proofs.Lists.{count-cons, count-contains}
-use Rattle.tied_lists.specs.Own.{is_of, own}
+use Rattle.joint_history.specs.TiedLists.{is_of, own}
 use Rattle.joint_history.specs.declared.joint.RingLog.{RingLog}
 use Rattle.joint_history.specs.JointLaws.{IsLegalRingLog}
 use Rattle.joint_history.specs.Nets.{entries_of_rings, entries_on, entries_if}

@@ -20,9 +20,8 @@ use Rattle.ring_core.specs.Machine.{admitted_status, gone_by}
 use Rattle.ring_core.specs.Machine.{after_pass, is_held, made_asking, with_status}
 use Rattle.ring_core.proofs.Sound.{opening-sound}
 use Rattle.ring_core.proofs.Stability.{admitted-part, out, status-sent, status-set}
-use Rattle.tied_lists.specs.Own.{own}
-use Rattle.tied_lists.specs.Waits.{status_at}
-use Rattle.tied_lists.proofs.Histories.{length-arrived}
+use Rattle.joint_history.specs.TiedLists.{own, status_at}
+use Rattle.joint_history.proofs.TiedLists.{length-arrived}
 use Rattle.net_laws.specs.Standing.{status_from, status_left, status_next}
 
 -- ---- no entry makes nodes more or fewer

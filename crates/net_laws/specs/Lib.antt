@@ -1,2 +1,4 @@
 pub mod Rings
 pub mod Standing
+pub mod JointHistory
+pub mod TiedLists

@@ -2,7 +2,7 @@
 use Rattle.std.specs.Prelude.{◌≡◌, ℕ}
 use Rattle.plant_types.specs.declared.plan.Plant.{Plant}
 use Rattle.plant_types.specs.Plans.{IsPlant, net_of}
-use Rattle.tied_lists.specs.Own.{own}
+use Rattle.joint_history.specs.TiedLists.{own}
 use Rattle.joint_history.specs.declared.joint.Joint.{Joint}
 use Rattle.joint_history.specs.JointLaws.{IsLegalJoint}
 use Rattle.joint_history.specs.Nets.{noted_on, noted_on_rings}

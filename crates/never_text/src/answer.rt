@@ -3,7 +3,7 @@ ghost use Rattle.std.specs.Prelude.{◌≡◌, ◌++◌, IfOk, OnOk, length, str
 ghost use Rattle.plant_types.specs.Checks.{sizes_of};
 ghost use Rattle.controller_core.specs.Controller.{fixed_with};
 ghost use Rattle.controller_core.specs.Machine.{IsRunnable};
-ghost use Rattle.field_search.specs.Covered.{IsAlone};
+ghost use Rattle.field_machine.specs.FieldSearch.{IsAlone};
 ghost use Rattle.field_machine.specs.Asked.{CanBeAsked};
 ghost use Rattle.field_machine.specs.Never.{told_in_ways};
 ghost use Rattle.never_text.specs.Due.{IsNeverDue};

@@ -13,7 +13,7 @@ use Rattle.joint_history.specs.declared.joint.Joint.{Joint}
 use Rattle.joint_history.specs.Nets.{noted_on}
 use Rattle.joint_history.proofs.Collected.{CallLaws}
 use Rattle.tied_lists.specs.Waits.{status_at}
-use Rattle.turn_laws.specs.KeepsOn.{is_out_of_ring}
+use Rattle.one_run.specs.TurnLaws.{is_out_of_ring}
 use Rattle.fed_turns.proofs.Agreements.{ended-same, off-same, started-same}
 use Rattle.fed_turns.proofs.AgreedScans.{step-same}
 use Rattle.fed_turns.proofs.AgreedTurns.{holds, visits}

@@ -1,2 +1,4 @@
 pub mod OneExchange
 pub mod Runs
+pub mod SerialRun
+pub mod TurnLaws

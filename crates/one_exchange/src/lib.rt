@@ -4,5 +4,5 @@
 mod laws;
 
 pub use laws::one_exchange;
-pub use one_run::one_serial_run;
+pub use one_run::{one_serial_run, run_counted, run_noted};
 pub use word_exchange::cop_run;

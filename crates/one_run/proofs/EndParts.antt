@@ -32,7 +32,7 @@ use Rattle.comm_port.specs.Replies.{reply_frame}
 use Rattle.bridge_port.specs.EndParts.{EndGivesUp, EndSendsAll, EndServes, EndServesAs}
 use Rattle.bridge_port.specs.EndParts.{IsBackEntry, IsForwardEntry, PostsAll, finish_at_end}
 use Rattle.bridge_port.specs.EndParts.{post_of}
-use Rattle.turn_laws.proofs.Passes.{each-join}
+use Rattle.serial_run.proofs.TurnLaws.{each-join}
 use Rattle.one_run.proofs.Dues.{op-same, result-is, word-is}
 use Rattle.one_run.proofs.Fails.{IsNoSend}
 use Rattle.one_run.proofs.Meets.{grew-is, grew-ours}

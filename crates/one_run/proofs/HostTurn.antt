@@ -40,7 +40,7 @@ use Rattle.comm_port.specs.Giving.{inbox_of, HasFailed}
 use Rattle.comm_port.specs.HostTurns.{host_cause, host_notes_of, went_on}
 use Rattle.comm_port.specs.Leaving.{last_entry}
 use Rattle.comm_port.specs.Replies.{reply_frame}
-use Rattle.turn_laws.proofs.Passes.{cons-head, cons-tail, nil-cons}
+use Rattle.serial_run.proofs.TurnLaws.{cons-head, cons-tail, nil-cons}
 use Rattle.one_run.proofs.Dues.{op-same, result-is, ring-step, word-is}
 use Rattle.one_run.proofs.Fails.{HasFailedOn, IsNoSend, next-fails, no-more-fail}
 use Rattle.one_run.proofs.Parts.{Goes, goes-then}

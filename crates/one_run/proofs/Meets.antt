@@ -26,8 +26,7 @@ use Rattle.tied_lists.specs.Items.{no_items}
 use Rattle.tied_lists.specs.Tied.{Tied}
 use Rattle.tied_lists.proofs.Turns.{legal-parts}
 use Rattle.joint_history.specs.Reading.{item_next, items_after, items_of}
-use Rattle.turn_laws.proofs.Passes.{cons-head, cons-tail, ended-join}
-use Rattle.turn_laws.proofs.Rests.{items-push}
+use Rattle.serial_run.proofs.TurnLaws.{cons-head, cons-tail, ended-join, items-push}
 
 -- ---- entries of one node
 

@@ -22,7 +22,7 @@ use Rattle.comm_port.specs.HoldTurn.{SendsAll, finish_of}
 use Rattle.comm_port.specs.Parts.{InOrder, PartOf}
 use Rattle.joint_history.specs.Reading.{called_of, controller_at, has_started_at, is_ours, items_of}
 use Rattle.joint_history.proofs.Collected.{CallLaws, collected-new}
-use Rattle.turn_laws.proofs.Passes.{each-join}
+use Rattle.serial_run.proofs.TurnLaws.{each-join}
 use Rattle.one_run.proofs.Dues.{One, OneDue, one-in-order}
 use Rattle.one_run.proofs.Meets.{Behind, IsMine, May, behind-by, behind-more, closings}
 use Rattle.one_run.proofs.Meets.{endings, grew-is, grew-ours, may-as, may-front}

@@ -23,7 +23,7 @@ use Rattle.tied_lists.specs.Own.{is_of}
 use Rattle.one_run.proofs.Dues.{ring-step}
 use Rattle.one_run.proofs.Fails.{HasFailedOn, SendsOn, SendsPath, next-fails}
 use Rattle.one_run.proofs.Meets.{IsMine, grew-is, grew-ours}
-use Rattle.turn_laws.proofs.Passes.{cancel}
+use Rattle.serial_run.proofs.TurnLaws.{cancel}
 
 -- why a call is not refused
 first-none : (a b : Option RingNo) → or_no a b ≡ None → a ≡ None

@@ -39,7 +39,7 @@ use Rattle.comm_port.specs.declared.turn_end.TurnEnd.{TurnEnd}
 use Rattle.joint_history.specs.Reading.{failures_at, has_ended_at, has_started_at, is_off_at}
 use Rattle.joint_history.specs.Reading.{is_ours}
 use Rattle.joint_history.proofs.Collected.{CallLaws}
-use Rattle.turn_laws.proofs.Passes.{each-join}
+use Rattle.serial_run.proofs.TurnLaws.{each-join}
 use Rattle.one_run.proofs.Dues.{one-ended, one-given, one-made, one-served}
 use Rattle.one_run.proofs.Fails.{HasFailedOn, IsNoSend, no-more-fail}
 use Rattle.one_run.proofs.Meets.{Behind, IsMine, May, behind-more, closings, endings}

@@ -4,7 +4,7 @@ use Rattle.plant_types.specs.declared.net.NetPlan.{NetPlan}
 use Rattle.controller_core.specs.declared.entry.Entry.{Entry}
 use Rattle.controller_core.specs.declared.fixed.Fixed.{Fixed}
 use Rattle.ring_core.specs.declared.entry.RingEntry.{RingEntry}
-use Rattle.turn_laws.specs.KeepsOn.{StandsTied}
+use Rattle.serial_run.specs.TurnLaws.{StandsTied}
 use Rattle.joint_history.proofs.Collected.{CallLaws}
 use Rattle.one_run.specs.OneRun.{IsRunOf, OneSerialRun, OneTurnsRun}
 use Rattle.one_run.specs.OneTurn.{OneHostTurn, OneTurn, OneVisit}

@@ -1,2 +1,4 @@
 pub mod OneTurn
 pub mod OneRun
+pub mod SerialRun
+pub mod TurnLaws

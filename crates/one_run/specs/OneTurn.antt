@@ -18,7 +18,7 @@ use Rattle.comm_port.specs.HoldTurn.{VisitsEnd}
 use Rattle.comm_port.specs.WholeTurn.{HoldsTurn}
 use Rattle.comm_port.specs.HostTurns.{HoldsHostTurn}
 use Rattle.bridge_port.specs.EndParts.{HoldsEndTurn}
-use Rattle.turn_laws.specs.KeepsOn.{StandsTied}
+use Rattle.serial_run.specs.TurnLaws.{StandsTied}
 
 -- Two holds of the token by a controller that begin alike, when none of its calls has failed, end
 -- alike.

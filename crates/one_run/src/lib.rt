@@ -4,3 +4,4 @@
 mod laws;
 
 pub use laws::{one_end_turn, one_host_turn, one_serial_run, one_turn, one_turns_run, one_visit};
+pub use serial_run::{run_counted, run_noted};

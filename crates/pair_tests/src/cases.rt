@@ -3,11 +3,9 @@ ghost use Rattle.std.specs.Prelude.{All};
 ghost use Rattle.plant_types.specs.Plans.{IsPlant};
 ghost use Rattle.traffic_cop.specs.Rows.{IsRunnablePlan};
 
-use field_machine::is_alone;
-use field_pair::{Difference, first_difference};
 use plant_loader::{Version, load};
 use plant_types::Plant;
-use same_text::{SameEnd, same_answer};
+use same_text::{Difference, SameEnd, first_difference, is_alone, same_answer};
 use std::alloc::{AllocGlobal, Global};
 use std::process::Abort;
 use std::test::Fail;

@@ -1,6 +1,6 @@
 //! What keeps controllers from being compared.
 use crate::cases::differ;
-use field_pair::Difference;
+use same_text::Difference;
 use std::test::Fail;
 
 /// Two drops.

@@ -7,7 +7,7 @@ use Rattle.std.proofs.lemmas.Bool.{and_from, and_parts, cases_eq, cases_lt, eq-e
 use Rattle.std.proofs.lemmas.Bool.{le-leb, lt-leb, ne_eqb}
 use Rattle.std.proofs.lemmas.List.{get_or-drop, get_or_past}
 use Rattle.std.proofs.lemmas.List.Elements.{All-get_or}
-use Rattle.mstr_block.specs.declared.call.MstrResult.TheVariants.{Good}
+use Rattle.ring_core.specs.MstrBlock.{Good}
 use Rattle.modbus_pdu.specs.Bytes.{words_in}
 use Rattle.modbus_pdu.specs.Spelling.{exception_code}
 use Rattle.modbus_pdu.proofs.Bytes.{IsBytes, length-words_bytes, words_again}

@@ -3,8 +3,7 @@ use Rattle.std.specs.Prelude.{◌≡◌, ℕ, ◌+◌, ◌*◌, ◌-◌, ◌/◌
 use Rattle.std.specs.Prelude.{nat_le, if◌then◌else◌, List, [], ◌∷◌, length, take, drop, slice_index}
 use Rattle.std.specs.Prelude.{Option, Some, None}
 use Rattle.std.specs.Str.{bytes_eq}
-use Rattle.mstr_block.specs.declared.call.MstrResult.{MstrResult}
-use Rattle.mstr_block.specs.declared.call.MstrResult.TheVariants.{Good, Bad}
+use Rattle.ring_core.specs.MstrBlock.{Bad, Good, MstrResult}
 use Rattle.modbus_pdu.specs.Bytes.{word_in, words_in, bytes_for, spare_count}
 use Rattle.modbus_pdu.specs.Quantities.{is_up_to, most_discretes_read, most_registers_read}
 use Rattle.modbus_pdu.specs.Quantities.{most_coils_written, most_registers_written}

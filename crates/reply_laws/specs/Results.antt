@@ -3,8 +3,7 @@ use Rattle.std.specs.Prelude.{◌≡◌, ◌≢◌, ℕ, ◌^◌, ◌<◌, nat_l
 use Rattle.std.specs.Prelude.{length}
 use Rattle.std.specs.List.{All}
 use Rattle.plant_types.specs.Words.{most_block_words}
-use Rattle.mstr_block.specs.declared.call.MstrResult.{MstrResult}
-use Rattle.mstr_block.specs.declared.call.MstrResult.TheVariants.{Good}
+use Rattle.ring_core.specs.MstrBlock.{Good, MstrResult}
 use Rattle.modbus_pdu.specs.Spelling.{Spells, exception_code}
 use Rattle.modbus_pdu.specs.Decoding.{IsSpelledReply, HasNoReply, IsUnspelled}
 use Rattle.modbus_pdu.specs.declared.request.Request.{Request}

@@ -17,9 +17,8 @@ use modbus_pdu::{
     COILS_WRITTEN, DISCRETES_READ, REGISTERS_EXCHANGED, REGISTERS_READ, REGISTERS_WRITTEN,
     exception_code,
 };
-use mstr_block::MstrResult;
 use plant_types::{BLOCK_LIMIT, Block, Pdu, is_up_to};
-use ring_core::{CLEAR_STATISTICS, GET_STATISTICS};
+use ring_core::{CLEAR_STATISTICS, GET_STATISTICS, MstrResult};
 
 /// The word of a reply that tells no result, and the first of those of exceptions.
 pub const NO_RESULT: u16 = 0x3000;

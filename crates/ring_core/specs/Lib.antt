@@ -8,3 +8,4 @@ pub mod Bare
 pub mod Coded
 pub mod Statistics
 pub mod Stability
+pub mod MstrBlock

@@ -29,6 +29,7 @@ pub use laws::{
     holder_is_member, holders_keep, membership_stays, only_bridges_stays, onward_to_bridges,
     outsiders_keep,
 };
+pub use mstr_block::{CallId, MstrResult, NOBODY_THERE};
 pub use refusal::RingNo;
 pub use ring::Ring;
 pub use stats_request::{CLEAR_STATISTICS, GET_STATISTICS, is_stats};

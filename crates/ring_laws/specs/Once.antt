@@ -1,7 +1,7 @@
 -- What every legal history of a ring says of its Requests and Replies. This project's own.
 use Rattle.std.specs.Prelude.{◌≡◌, ◌≢◌, ℕ, ◌<◌, ◌≤◌, ◌⊎◌, Bool, false, List, count_by, All}
 use Rattle.std.specs.Prelude.{Contains}
-use Rattle.mstr_block.specs.declared.call.CallId.{CallId}
+use Rattle.ring_core.specs.MstrBlock.{CallId}
 use Rattle.ring_core.specs.declared.frame.FrameKind.TheVariants.{Request, Reply}
 use Rattle.ring_core.specs.declared.frame.Frame.{Frame}
 use Rattle.plant_types.specs.declared.net.NetPlan.{NetPlan}

@@ -19,8 +19,7 @@ use Rattle.controller_core.specs.Panel.{line_text, value_text, values_told}
 use Rattle.controller_core.specs.Replay.{ControllerState}
 use Rattle.panel_line.specs.Told.{stopped_told}
 use Rattle.field_runs.specs.Field.{PlaysInField, state_after}
-use Rattle.field_machine.specs.declared.exchanges.Exchange.{Exchange}
-use Rattle.field_machine.specs.Never.{state_of_run}
+use Rattle.field_pair.specs.FieldMachine.{state_of_run, Exchange}
 use Rattle.never_text.specs.Texts.{fails_line}
 use Rattle.never_text.proofs.OneScan.{scan_told}
 use Rattle.never_text.proofs.RunLines.{run-each}

@@ -1,8 +1,8 @@
 -- The number of pairs to which runs side by side come is one.
 use Rattle.std.proofs.Common.{◌≡◌, ◌∙◌, ℕ, ◌≤◌, Option, sym, arith}
 use Rattle.controller_core.specs.declared.fixed.Fixed.{Fixed}
-use Rattle.side_runs.proofs.Standing.{alike-then}
-use Rattle.side_runs.specs.Beside.{AreAlikePairs, pair_after, StatePair}
+use Rattle.field_pair.proofs.SideRuns.{alike-then}
+use Rattle.field_pair.specs.SideRuns.{pair_after, AreAlikePairs, StatePair}
 use Rattle.field_pair.specs.Same.{IsSameFor}
 use Rattle.field_pair.proofs.AsMany.{Each, no-longer}
 use Rattle.field_pair.proofs.PairKeys.{alike-back}

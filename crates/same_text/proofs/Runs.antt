@@ -20,12 +20,10 @@ use Rattle.plant_types.proofs.SizesLemmas.{get-cleared}
 use Rattle.controller_core.specs.declared.fixed.Fixed.{Fixed}
 use Rattle.controller_core.specs.Notes.{values_of}
 use Rattle.controller_core.specs.Replay.{ControllerState, start}
-use Rattle.field_machine.specs.declared.exchanges.Exchange.{Exchange}
-use Rattle.field_machine.specs.Never.{state_of_run}
+use Rattle.field_pair.specs.FieldMachine.{state_of_run, Exchange}
 use Rattle.never_text.proofs.Stopping.{stays-stopped}
-use Rattle.side_runs.specs.Beside.{PlaySideBySide}
-use Rattle.side_runs.specs.Brought.{Brings, NamesRows, ScanField}
-use Rattle.side_runs.proofs.Pairs.{run-starts}
+use Rattle.field_pair.specs.SideRuns.{Brings, NamesRows, PlaySideBySide, ScanField}
+use Rattle.field_pair.proofs.SideRuns.{run-starts}
 use Rattle.field_pair.specs.Exchanged.{AreOfBoth, field_of}
 use Rattle.field_pair.specs.Panel.{panel_told}
 use Rattle.field_pair.specs.Same.{ApartRuns, fields_of, IsFirstApart, TellTheSame}

@@ -7,7 +7,7 @@ use Rattle.controller_core.specs.Controller.{fixed_with}
 use Rattle.controller_core.specs.NotedLines.{noted_texts}
 use Rattle.controller_core.specs.Panel.{line_text, panel_lines}
 use Rattle.controller_core.specs.Run.{run_of}
-use Rattle.field_machine.specs.declared.exchanges.Exchange.{Exchange}
+use Rattle.field_pair.specs.FieldMachine.{Exchange}
 use Rattle.field_pair.specs.declared.searching.Apart.{Apart}
 use Rattle.field_pair.specs.declared.searching.PanelEnd.{PanelEnd}
 use Rattle.field_pair.specs.Same.{ApartRuns, listed}

@@ -2,8 +2,8 @@
 ghost use Rattle.std.specs.Prelude.{◌≡◌, IfOk};
 ghost use Rattle.controller_core.specs.Controller.{fixed_with};
 ghost use Rattle.controller_core.specs.Machine.{IsRunnable};
-ghost use Rattle.field_search.specs.Covered.{IsAlone};
-ghost use Rattle.side_runs.specs.Beside.{TakeOneField};
+ghost use Rattle.field_pair.specs.FieldMachine.{IsAlone};
+ghost use Rattle.field_pair.specs.SideRuns.{TakeOneField};
 ghost use Rattle.same_text.specs.Due.{IsSameDue};
 ghost use Rattle.same_text.specs.Texts.{found_text};
 

@@ -7,4 +7,5 @@ mod laws;
 mod lines;
 
 pub use answer::{SameEnd, same_answer};
+pub use field_pair::{Difference, first_difference, is_alone};
 pub use laws::one_answer_same;

@@ -3,8 +3,7 @@ ghost use Rattle.std.specs.Prelude.{◌≡◌, ◌++◌, OnOk, string_bytes};
 ghost use Rattle.field_pair.specs.Same.{listed};
 ghost use Rattle.same_text.specs.Texts.{brought_lines, end_line};
 
-use field_machine::Exchange;
-use field_pair::PanelEnd;
+use field_pair::{Exchange, PanelEnd};
 use never_text::push_scan;
 use panel_line::{push_gone, push_stopped, readings_of};
 use plant_types::ControllerPlan;

@@ -27,10 +27,9 @@ use Rattle.controller_core.proofs.FeedingLemmas.{rows-keep}
 use Rattle.joint_history.specs.declared.joint.ControllerLog.{ControllerLog}
 use Rattle.joint_history.specs.JointLaws.{fixed_of}
 use Rattle.joint_history.specs.Runnable.{CanRunPlant}
-use Rattle.comm_port.specs.HostStands.{own_side}
-use Rattle.comm_port.specs.Worker.{Standing, WorkerIs}
-use Rattle.turn_laws.specs.KeepsOn.{KeepsOn}
-use Rattle.net_laws.proofs.Apart.{same-controller}
+use Rattle.serial_run.specs.CommPort.{own_side, Standing, WorkerIs}
+use Rattle.serial_run.specs.TurnLaws.{KeepsOn}
+use Rattle.serial_run.proofs.NetLaws.{same-controller}
 use Rattle.whole_scan.specs.Scans.{IsBetweenScans}
 use Rattle.fed_turns.specs.Agreeing.{AgreeOn}
 use Rattle.fed_turns.proofs.Agreements.{ended-same, left-same, rows, started-same, state-same}

@@ -8,13 +8,13 @@ use Rattle.plant_types.specs.declared.net.NetPlan.{NetPlan}
 use Rattle.plant_types.specs.declared.plan.ControllerPlan.{ControllerPlan}
 use Rattle.plant_types.specs.declared.plan.Plant.{Plant}
 use Rattle.plant_types.specs.Plans.{first_net, net_numbers, IsPlant}
-use Rattle.route_laws.specs.Laws.{AllEffectsAreRight}
-use Rattle.entry_causes.specs.Joint.{JointIsInOneOrder}
+use Rattle.serial_run.specs.RouteLaws.{AllEffectsAreRight}
+use Rattle.serial_run.specs.EntryCauses.{JointIsInOneOrder}
 use Rattle.controller_core.specs.Notes.{NotesAskNoScans}
 use Rattle.joint_history.specs.declared.joint.Joint.{Joint}
 use Rattle.joint_history.specs.declared.noted.Noted.{Noted}
 use Rattle.joint_history.specs.Runnable.{CanRunPlant}
-use Rattle.turn_laws.specs.Laws.{ControllersComplete, HostsComplete}
+use Rattle.serial_run.specs.TurnLaws.{ControllersComplete, HostsComplete}
 use Rattle.serial_run.specs.declared.stations.Stations.{Stations}
 use Rattle.serial_run.specs.Feeding.{AreAsBefore, CanFeedNode, FedNode}
 use Rattle.serial_run.specs.Held.{AllHave, IsOffAway, IsVisited, stations_here}

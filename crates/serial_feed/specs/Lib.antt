@@ -1,3 +1,4 @@
 pub mod Feeding
 pub mod Standing
 pub mod SerialRuns
+pub mod CommPort

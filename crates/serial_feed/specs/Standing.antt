@@ -3,9 +3,9 @@ use Rattle.std.specs.Prelude.{◌≡◌, ℕ, Bool, true, false, not, List}
 use Rattle.plant_types.specs.declared.drops.ScriptRow.{ScriptRow}
 use Rattle.plant_types.specs.declared.plan.Plant.{Plant}
 use Rattle.plant_types.specs.Plans.{first_net}
-use Rattle.route_laws.specs.Effects.{EffectsAreRight}
-use Rattle.entry_causes.specs.Joint.{IsInOneOrder}
-use Rattle.end_times.specs.Joint.{AreBridgesInTime}
+use Rattle.serial_run.specs.RouteLaws.{EffectsAreRight}
+use Rattle.serial_run.specs.EntryCauses.{IsInOneOrder}
+use Rattle.serial_run.specs.EndTimes.{AreBridgesInTime}
 use Rattle.joint_history.specs.declared.joint.Joint.{Joint}
 use Rattle.joint_history.specs.declared.noted.Noted.{Noted}
 use Rattle.joint_history.specs.Complete.{IsComplete}

@@ -8,15 +8,15 @@ ghost use Rattle.serial_feed.specs.Standing.{are_gone, Begins, FedFor, StaysFor,
 ghost use Rattle.serial_feed.specs.Standing.{IsNotedOfEach, IsRunOfEach};
 
 use controller_core::{Entry, notes_ask_no_scans};
-use entry_causes::joint_is_in_one_order;
 use joint_history::{Joint, Noted};
 use plant_types::{Plant, ScriptRow};
 use ring_core::RingEntry;
-use route_laws::effects_are_right;
-use serial_run::{Stations, noted_of};
+use serial_run::{
+    Stations, controllers_complete, effects_are_right, hosts_complete, joint_is_in_one_order,
+    noted_of,
+};
 use std::alloc::{AllocError, Global};
 use std::marker::Model;
-use turn_laws::{controllers_complete, hosts_complete};
 
 /// A serial run that has made some of its repetitions, for its plant with the rows fed so far. This
 /// project's own.

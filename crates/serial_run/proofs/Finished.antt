@@ -17,8 +17,8 @@ use Rattle.controller_core.specs.Controller.{is_none, is_off, left_of}
 use Rattle.controller_core.specs.Controller.{state_of}
 use Rattle.bridge_station.specs.Station.{end_has_left}
 use Rattle.bridge_station.specs.Stands.{StandsEnd}
-use Rattle.end_laws.specs.EndKeeps.{EndKeepsOn}
-use Rattle.end_laws.proofs.Complete.{end-complete}
+use Rattle.bridge_station.specs.EndLaws.{EndKeepsOn}
+use Rattle.bridge_station.proofs.EndLaws.{end-complete}
 use Rattle.joint_history.specs.declared.joint.RingLog.{RingLog}
 use Rattle.joint_history.specs.Complete.{ControllerIsCompleteOn, EndIsComplete, HostIsCompleteOn}
 use Rattle.joint_history.specs.Complete.{IsComplete, IsCompleteBridgeLog, IsCompleteHostLog}
@@ -29,11 +29,9 @@ use Rattle.joint_history.specs.Reading.{has_ended_at, has_started_at, is_off_at}
 use Rattle.comm_port.specs.Worker.{IsMemberWorker}
 use Rattle.comm_port.specs.HostStands.{own_side}
 use Rattle.tied_lists.specs.Waits.{has_left, status_at}
-use Rattle.turn_laws.specs.KeepsOn.{HostKeepsOn, HostStandsTied}
-use Rattle.turn_laws.specs.KeepsOn.{KeepsOn, is_out_of_ring}
-use Rattle.turn_laws.specs.KeepsOn.{StandsTied}
-use Rattle.turn_laws.specs.Laws.{ControllersComplete, HostsComplete}
-use Rattle.turn_laws.proofs.Stands.{host-stands-of, stands-of}
+use Rattle.bridge_station.specs.TurnLaws.{is_out_of_ring, ControllersComplete, HostKeepsOn}
+use Rattle.bridge_station.specs.TurnLaws.{HostStandsTied, HostsComplete, KeepsOn, StandsTied}
+use Rattle.bridge_station.proofs.TurnLaws.{host-stands-of, stands-of}
 use Rattle.whole_scan.specs.Scans.{KeepsStepsLeft}
 use Rattle.serial_run.specs.declared.stations.BridgeSite.{BridgeSite}
 use Rattle.serial_run.specs.declared.stations.ControllerStation.{ControllerStation}

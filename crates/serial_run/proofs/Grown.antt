@@ -10,7 +10,7 @@ use Rattle.ring_core.specs.Words.{maker}
 use Rattle.tied_lists.specs.Own.{is_of, own, Adds, Grew, WentOn}
 use Rattle.tied_lists.specs.Waits.{status_at}
 use Rattle.ring_core.specs.declared.status.NodeStatus.TheVariants.{Away}
-use Rattle.turn_laws.proofs.Holders.{away-others, left-others}
+use Rattle.bridge_station.proofs.TurnLaws.{away-others, left-others}
 use Rattle.serial_run.specs.Turns.{node_has_left}
 
 -- a list went on by entries of one maker alone

@@ -13,8 +13,8 @@ use Rattle.controller_core.specs.declared.fixed.Fixed.{Fixed}
 use Rattle.controller_core.specs.Notes.{NotesAskNoScans, notes_of}
 use Rattle.controller_core.specs.Replay.{ControllerState, apply, replay, start}
 use Rattle.route_laws.specs.Effects.{EffectsAreRight}
-use Rattle.entry_causes.specs.Joint.{IsInOneOrder}
-use Rattle.end_times.specs.Joint.{AreBridgesInTime}
+use Rattle.bridge_station.specs.TurnLaws.{IsInOneOrder}
+use Rattle.bridge_station.specs.EndTimes.{AreBridgesInTime}
 use Rattle.joint_history.specs.declared.joint.Joint.{Joint}
 use Rattle.joint_history.specs.declared.noted.Noted.{Noted}
 use Rattle.summary_text.specs.Coils.{all_coils, coils_at_end, coils_by_log}

@@ -34,12 +34,13 @@ use Rattle.plant_types.specs.declared.net.BridgePlan.{BridgePlan}
 use Rattle.bridge_relay.specs.declared.entry.BridgeEntry.{BridgeEntry}
 use Rattle.bridge_relay.specs.Laws.{end_after}
 use Rattle.bridge_relay.specs.Machine.{is_idle_end}
-use Rattle.bridge_port.specs.EndParts.{AsksBridge, AsksRing, EndGivesUp, HoldsEndTurn, LeavesIf}
+use Rattle.bridge_station.specs.BridgePort.{AsksBridge, AsksRing, EndGivesUp, HoldsEndTurn}
+use Rattle.bridge_station.specs.BridgePort.{LeavesIf}
 use Rattle.host_port.specs.declared.entry.HostEntry.{HostEntry}
 use Rattle.comm_port.specs.Leaving.{cause_due, is_due, last_entry}
 use Rattle.comm_port.specs.Order.{IsGivingUp}
 use Rattle.comm_port.specs.HostTurns.{GivenUp, give_up_of, HoldsHostTurn}
-use Rattle.turn_laws.specs.KeepsOn.{leaves_out}
+use Rattle.bridge_station.specs.TurnLaws.{leaves_out}
 use Rattle.serial_run.specs.Held.{turns_of, unnoticed_of}
 use Rattle.serial_run.proofs.Grown.{Further, further-both, further-grew, further-adds, further-none}
 use Rattle.serial_run.proofs.Grown.{further-went}

@@ -30,7 +30,7 @@ use Rattle.serial_run.specs.Stations.{StandAll, station_ring}
 use Rattle.serial_run.specs.Held.{HasToken, HeldController, HeldHost, KnowsLeft}
 use Rattle.serial_run.specs.Held.{VisitedController, VisitedWhere, failures_of, is_visit_due}
 use Rattle.serial_run.specs.Held.{site_turns, turns_in, turns_left, turns_of}
-use Rattle.turn_laws.proofs.Holders.{in-of}
+use Rattle.bridge_station.proofs.TurnLaws.{in-of}
 use Rattle.serial_run.proofs.HoldsDid.{IsEndOn, IsLeftOn, IsRightOn, end-grew, end-turn}
 use Rattle.serial_run.proofs.Lists.{set-there}
 use Rattle.serial_run.proofs.Grown.{Further}

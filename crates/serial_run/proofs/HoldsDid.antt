@@ -19,7 +19,7 @@ use Rattle.controller_core.specs.Controller.{made}
 use Rattle.joint_history.specs.declared.joint.Joint.{Joint}
 use Rattle.joint_history.specs.JointLaws.{fixed_of}
 use Rattle.joint_history.specs.Nets.{noted_on}
-use Rattle.bridge_port.specs.EndParts.{HoldsEndTurn}
+use Rattle.bridge_station.specs.BridgePort.{HoldsEndTurn}
 use Rattle.bridge_station.specs.Station.{end_station}
 use Rattle.bridge_station.specs.Stands.{HeldByEnd, MovedByEnd, StandsEnd}
 use Rattle.net_laws.proofs.On.{net-sound}
@@ -44,9 +44,8 @@ use Rattle.serial_run.specs.Stations.{host_log_of, joint_of, log_of, log_of_site
 use Rattle.serial_run.specs.Stations.{ring_if, station_ring}
 use Rattle.serial_run.specs.Held.{StaysStation, HeldController, StandsBeside, HasToken}
 use Rattle.serial_run.specs.Held.{HostStandsBeside, HeldHost}
-use Rattle.turn_laws.specs.KeepsOn.{HostKeepsOn, KeepsOn}
-use Rattle.turn_laws.specs.Laws.{SomebodyHolds}
-use Rattle.turn_laws.proofs.Holders.{there-member}
+use Rattle.bridge_station.specs.TurnLaws.{HostKeepsOn, KeepsOn, SomebodyHolds}
+use Rattle.bridge_station.proofs.TurnLaws.{there-member}
 use Rattle.serial_run.proofs.Grown.{Further, further-grew}
 use Rattle.serial_run.proofs.HeldTurns.{turn-ring, host-turn-ring}
 use Rattle.serial_run.proofs.Lists.{find-none, found-at, position-none, zip-at-first}

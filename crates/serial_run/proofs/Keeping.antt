@@ -24,10 +24,9 @@ use Rattle.comm_port.specs.HostStands.{own_side}
 use Rattle.comm_port.specs.Turns.{IsNoBridge}
 use Rattle.tied_lists.specs.Own.{is_of}
 use Rattle.tied_lists.specs.Waits.{HasLeft, has_left, status_at}
-use Rattle.turn_laws.specs.KeepsOn.{HostKeepsOn, KeepsOn, StandsTied, is_out_of_ring}
-use Rattle.turn_laws.specs.KeepsOn.{leaves_out}
-use Rattle.turn_laws.specs.Laws.{StandsAs}
-use Rattle.turn_laws.proofs.Stands.{stands-of}
+use Rattle.bridge_station.specs.TurnLaws.{is_out_of_ring, leaves_out, HostKeepsOn, KeepsOn}
+use Rattle.bridge_station.specs.TurnLaws.{StandsAs, StandsTied}
+use Rattle.bridge_station.proofs.TurnLaws.{stands-of}
 use Rattle.whole_scan.specs.Scans.{KeepsStepsLeft}
 use Rattle.serial_run.specs.declared.stations.ControllerStation.{ControllerStation}
 use Rattle.serial_run.specs.declared.stations.HostStation.{HostStation}

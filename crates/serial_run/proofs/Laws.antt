@@ -24,11 +24,10 @@ use Rattle.joint_history.specs.JointLaws.{IsLegalLog, IsTiedBridge, IsTiedContro
 use Rattle.joint_history.specs.JointLaws.{IsTiedSide}
 use Rattle.joint_history.specs.Nets.{noted_on_rings}
 use Rattle.joint_history.specs.Reading.{items_of, host_items_of}
-use Rattle.entry_causes.specs.InTime.{InTime, HostInTime}
-use Rattle.entry_causes.specs.Joint.{IsControllerInTime, IsHostInTime, StationsAreInTime}
+use Rattle.bridge_station.specs.TurnLaws.{HostInTime, InTime, IsControllerInTime, IsHostInTime}
+use Rattle.bridge_station.specs.TurnLaws.{StationsAreInTime}
 use Rattle.net_laws.proofs.Rings.{own-on}
-use Rattle.end_times.specs.EndTimes.{EndInTime, IsEndInTime}
-use Rattle.end_times.specs.Joint.{AreBridgesInTime, IsBridgeInTime}
+use Rattle.bridge_station.specs.EndTimes.{AreBridgesInTime, EndInTime, IsBridgeInTime, IsEndInTime}
 use Rattle.serial_run.specs.declared.order.Turn.{Turn}
 use Rattle.serial_run.specs.declared.stations.BridgeSite.{BridgeSite}
 use Rattle.serial_run.specs.declared.stations.ControllerStation.{ControllerStation}

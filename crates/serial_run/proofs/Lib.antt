@@ -22,3 +22,5 @@ pub mod Finished
 pub mod Handed
 pub mod TurnCases
 pub mod Fed
+pub mod TurnLaws
+pub mod NetLaws

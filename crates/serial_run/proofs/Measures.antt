@@ -49,8 +49,8 @@ use Rattle.serial_run.specs.Held.{members_in, members_of_ring, site_has_left, si
 use Rattle.serial_run.specs.Held.{station_turns, stations_here, turns_in, turns_left, turns_of}
 use Rattle.serial_run.specs.Held.{unnoticed_of}
 use Rattle.serial_run.proofs.Grown.{Further, others-own}
-use Rattle.turn_laws.specs.Laws.{SomebodyHolds}
-use Rattle.turn_laws.proofs.Holders.{in-of, there-member}
+use Rattle.bridge_station.specs.TurnLaws.{SomebodyHolds}
+use Rattle.bridge_station.proofs.TurnLaws.{in-of, there-member}
 use Rattle.serial_run.proofs.Lists.{found-place, position-none, zip-at-first}
 use Rattle.serial_run.proofs.Members.{member-station}
 use Rattle.serial_run.proofs.Networks.{GrewBy, NodeOn, contains-at, low-members, ring-of}

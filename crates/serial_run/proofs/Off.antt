@@ -29,7 +29,7 @@ use Rattle.serial_run.specs.Held.{AllHave}
 use Rattle.serial_run.specs.Held.{CameBack, GainFor, HeldController, HeldHost, IsOffAway, IsVisited}
 use Rattle.serial_run.specs.Held.{Stay, VisitedController, is_away_status, site_has_left}
 use Rattle.serial_run.specs.Held.{stations_here, status_in}
-use Rattle.turn_laws.proofs.Holders.{left-others}
+use Rattle.bridge_station.proofs.TurnLaws.{left-others}
 use Rattle.serial_run.proofs.Did.{came-further, visit-further}
 use Rattle.serial_run.proofs.HoldsDid.{host-further}
 use Rattle.serial_run.proofs.Gained.{gains-with, stays-all, stays-turn}

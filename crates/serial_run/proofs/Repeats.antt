@@ -22,7 +22,7 @@ use Rattle.joint_history.specs.JointLaws.{fixed_of, logged}
 use Rattle.joint_history.specs.Reading.{is_off_at}
 use Rattle.tied_lists.specs.Waits.{has_left, status_at}
 use Rattle.tied_lists.proofs.Boxes.{count-cons, one-if}
-use Rattle.turn_laws.specs.KeepsOn.{is_out_of_ring}
+use Rattle.bridge_station.specs.TurnLaws.{is_out_of_ring}
 use Rattle.whole_scan.specs.Scans.{IsBetweenScans, KeepsStepsLeft}
 use Rattle.serial_run.specs.declared.stations.BridgeSite.{BridgeSite}
 use Rattle.serial_run.specs.declared.stations.ControllerStation.{ControllerStation}

@@ -18,7 +18,7 @@ use Rattle.joint_history.specs.declared.joint.Joint.{Joint}
 use Rattle.joint_history.specs.Nets.{noted_on}
 use Rattle.joint_history.specs.Reading.{has_ended_at}
 use Rattle.tied_lists.specs.Waits.{status_at}
-use Rattle.turn_laws.specs.Laws.{SomebodyHolds}
+use Rattle.bridge_station.specs.TurnLaws.{SomebodyHolds}
 use Rattle.whole_scan.specs.Scans.{KeepsStepsLeft}
 use Rattle.serial_run.specs.declared.order.Turn.{Turn}
 use Rattle.serial_run.specs.declared.order.Turn.TheVariants.{Hold}

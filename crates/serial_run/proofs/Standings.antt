@@ -30,9 +30,8 @@ use Rattle.bridge_station.specs.Stands.{StandsEnd}
 use Rattle.bridge_station.proofs.Standing.{stands-beside}
 use Rattle.net_laws.proofs.On.{controller-at-on, host-at-on, left-on, right-on}
 use Rattle.ring_core.specs.Legal.{IsMember}
-use Rattle.turn_laws.specs.KeepsOn.{HostKeepsOn, KeepsOn}
-use Rattle.turn_laws.proofs.Others.{others, scans as scans-keep}
-use Rattle.turn_laws.proofs.HostOthers.{host-others}
+use Rattle.bridge_station.specs.TurnLaws.{HostKeepsOn, KeepsOn}
+use Rattle.bridge_station.proofs.TurnLaws.{host-others, others, scans as scans-keep}
 use Rattle.controller_core.specs.Controller.{IsLegal}
 use Rattle.joint_history.specs.JointLaws.{fixed_of}
 use Rattle.whole_scan.specs.Scans.{MadeEvents}

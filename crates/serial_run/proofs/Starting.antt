@@ -31,9 +31,7 @@ use Rattle.host_port.specs.Host.{HostIs}
 use Rattle.host_port.specs.Legal.{IsHostHistory}
 use Rattle.net_laws.proofs.On.{left-on, right-on}
 use Rattle.tied_lists.specs.Waits.{has_left}
-use Rattle.turn_laws.proofs.Others.{starts}
-use Rattle.turn_laws.proofs.HostOthers.{host-starts}
-use Rattle.turn_laws.proofs.Holders.{member-there}
+use Rattle.bridge_station.proofs.TurnLaws.{host-starts, member-there, starts}
 use Rattle.whole_scan.specs.Scans.{IsBetweenScans}
 use Rattle.serial_run.specs.declared.stations.BridgeSite.{BridgeSite}
 use Rattle.serial_run.specs.declared.stations.ControllerStation.{ControllerStation}

@@ -15,8 +15,8 @@ use Rattle.bridge_station.specs.Station.{BridgeStationIs, end_has_left}
 use Rattle.bridge_station.specs.Stands.{HeldByEnd, MovedByEnd, StandsEnd}
 use Rattle.bridge_station.proofs.Standing.{holding-there}
 use Rattle.comm_port.specs.Turns.{IsNoBridge}
-use Rattle.turn_laws.specs.Laws.{SomebodyHolds}
-use Rattle.turn_laws.proofs.Holders.{there-member}
+use Rattle.bridge_station.specs.TurnLaws.{SomebodyHolds}
+use Rattle.bridge_station.proofs.TurnLaws.{there-member}
 use Rattle.serial_run.specs.declared.stations.BridgeSite.{BridgeSite}
 use Rattle.serial_run.specs.declared.stations.ControllerStation.{ControllerStation}
 use Rattle.serial_run.specs.declared.stations.HostStation.{HostStation}

@@ -21,8 +21,7 @@ use Rattle.comm_port.specs.WholeTurn.{HoldsTurn}
 use Rattle.comm_port.specs.HostTurns.{CountsPasses, HoldsHostTurn, HostTies}
 use Rattle.comm_port.specs.Worker.{IsMemberWorker, IsSameWorker, Standing}
 use Rattle.comm_port.specs.HostStands.{own_side}
-use Rattle.turn_laws.specs.KeepsOn.{HostKeepsOn, KeepsOn, leaves_out}
-use Rattle.turn_laws.specs.Laws.{EndsWhere}
+use Rattle.bridge_station.specs.TurnLaws.{leaves_out, EndsWhere, HostKeepsOn, KeepsOn}
 use Rattle.serial_run.specs.declared.order.Turn.TheVariants.{Hold}
 use Rattle.serial_run.specs.declared.stations.BridgeSite.{BridgeSite}
 use Rattle.serial_run.specs.declared.stations.ControllerStation.{ControllerStation}

@@ -5,3 +5,8 @@ pub mod Stations
 pub mod Held
 pub mod Over
 pub mod Feeding
+pub mod EndTimes
+pub mod TurnLaws
+pub mod RouteLaws
+pub mod CommPort
+pub mod EntryCauses

@@ -2,8 +2,8 @@
 use Rattle.std.specs.Prelude.{◌≡◌, ℕ}
 use Rattle.plant_types.specs.declared.plan.Plant.{Plant}
 use Rattle.route_laws.specs.Effects.{EffectsAreRight}
-use Rattle.entry_causes.specs.Joint.{IsInOneOrder}
-use Rattle.end_times.specs.Joint.{AreBridgesInTime}
+use Rattle.bridge_station.specs.TurnLaws.{IsInOneOrder}
+use Rattle.bridge_station.specs.EndTimes.{AreBridgesInTime}
 use Rattle.joint_history.specs.declared.noted.Noted.{Noted}
 use Rattle.summary_text.specs.Coils.{coils_at_end}
 use Rattle.joint_history.specs.Complete.{IsComplete}

@@ -17,7 +17,7 @@ use Rattle.joint_history.specs.Reading.{controller_at, has_ended_at, is_off_at}
 use Rattle.whole_scan.specs.Scans.{with_scan}
 use Rattle.ring_core.specs.Machine.{is_in}
 use Rattle.tied_lists.specs.Waits.{status_at}
-use Rattle.turn_laws.specs.KeepsOn.{is_out_of_ring}
+use Rattle.bridge_station.specs.TurnLaws.{is_out_of_ring}
 use Rattle.serial_run.specs.declared.order.Turn.{Turn}
 use Rattle.serial_run.specs.declared.order.Turn.TheVariants.{Hold, Visit, Away}
 use Rattle.serial_run.specs.Turns.{nothing_made, MakesTurns}

@@ -34,7 +34,7 @@ use Rattle.serial_run.specs.declared.stations.RingStation.{RingStation}
 use Rattle.serial_run.specs.declared.stations.Stations.{Stations}
 use Rattle.serial_run.specs.Turns.{node_has_left, nothing_made}
 use Rattle.serial_run.specs.Scans.{AreBetweenScans}
-use Rattle.turn_laws.specs.KeepsOn.{HostKeepsOn, KeepsOn}
+use Rattle.bridge_station.specs.TurnLaws.{HostKeepsOn, KeepsOn}
 
 -- The log of a station.
 abbrev pub log_of : ControllerStation → ControllerLog

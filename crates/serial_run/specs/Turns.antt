@@ -13,7 +13,7 @@ use Rattle.ring_core.specs.declared.status.NodeStatus.{NodeStatus}
 use Rattle.ring_core.specs.declared.status.NodeStatus.TheVariants as statuses
 use Rattle.ring_core.specs.declared.entry.RingEntry.{RingEntry}
 use Rattle.bridge_relay.specs.declared.entry.BridgeEntry.{BridgeEntry}
-use Rattle.bridge_port.specs.EndParts.{HoldsEndTurn}
+use Rattle.bridge_station.specs.BridgePort.{HoldsEndTurn}
 use Rattle.controller_core.specs.declared.fixed.Fixed.{Fixed}
 use Rattle.controller_core.specs.declared.entry.Entry.{Entry}
 use Rattle.controller_core.specs.Controller.{stepped}
@@ -34,7 +34,7 @@ use Rattle.comm_port.specs.WholeTurn.{HoldsTurn}
 use Rattle.comm_port.specs.HostTurns.{HoldsHostTurn}
 use Rattle.serial_run.specs.declared.order.Turn.{Turn}
 use Rattle.serial_run.specs.declared.order.Turn.TheVariants.{Step, Hold, Visit, Away}
-use Rattle.turn_laws.specs.KeepsOn.{is_out_of_ring}
+use Rattle.bridge_station.specs.TurnLaws.{is_out_of_ring}
 
 -- The empty list of a controller, and those of a host, of a bridge and of a network's ring.
 abbrev pub empty_log : ControllerPlan → ControllerLog

@@ -2,8 +2,8 @@
 ghost use Rattle.std.specs.Prelude.{◌≡◌, ◌≤◌, IfOk};
 ghost use Rattle.plant_types.specs.Limits.{most_scans};
 ghost use Rattle.route_laws.specs.Effects.{EffectsAreRight};
-ghost use Rattle.entry_causes.specs.Joint.{IsInOneOrder};
-ghost use Rattle.end_times.specs.Joint.{AreBridgesInTime};
+ghost use Rattle.bridge_station.specs.TurnLaws.{IsInOneOrder};
+ghost use Rattle.bridge_station.specs.EndTimes.{AreBridgesInTime};
 ghost use Rattle.joint_history.specs.Complete.{IsComplete};
 ghost use Rattle.joint_history.specs.JointLaws.{IsJoint, IsLegalJoint};
 ghost use Rattle.serial_run.specs.Turns.{IsTurns};
@@ -15,13 +15,12 @@ use crate::coils::coils_of;
 use crate::joining::noted_of;
 use crate::order::Turn;
 use crate::stations::Stations;
+use bridge_station::{controllers_complete, hosts_complete, joint_is_in_one_order};
 use controller_core::notes_ask_no_scans;
-use entry_causes::joint_is_in_one_order;
 use joint_history::{Joint, Noted};
 use plant_types::Plant;
 use route_laws::effects_are_right;
 use std::alloc::{AllocError, Global};
-use turn_laws::{controllers_complete, hosts_complete};
 
 /// Makes turns one after another from the start of a plant, and gives what all stations, bridges
 /// and rings noted. Workers keep to their budget of Passes. The only error is that memory ran out.

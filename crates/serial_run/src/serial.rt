@@ -11,9 +11,9 @@ ghost use Rattle.serial_run.specs.Held.{stations_here, AllHave, IsOffAway, IsVis
 ghost use Rattle.serial_run.specs.Held.{RoundOn, Stay};
 
 use crate::stations::{BridgeSite, RingStation, Stations};
+use bridge_station::somebody_holds;
 use ring_core::{NodeStatus, Ring};
 use std::alloc::AllocError;
-use turn_laws::somebody_holds;
 use whole_scan::scan;
 
 /// Whether a node is a member of the ring now.

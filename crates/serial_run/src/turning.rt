@@ -2,7 +2,7 @@
 ghost use Rattle.std.specs.Prelude.{◌≡◌, ◌==◌, ◌<◌, true, false, length, Some, OnOk};
 ghost use Rattle.std.specs.List.{position};
 ghost use Rattle.controller_core.specs.Controller.{stepped};
-ghost use Rattle.turn_laws.specs.KeepsOn.{is_out_of_ring, leaves_out};
+ghost use Rattle.bridge_station.specs.TurnLaws.{is_out_of_ring, leaves_out};
 ghost use Rattle.ring_core.specs.Legal.{IsMember};
 ghost use Rattle.comm_port.specs.Turns.{IsNoBridge};
 ghost use Rattle.whole_scan.specs.Scans.{MadeEvents};
@@ -18,14 +18,14 @@ ghost use Rattle.serial_run.specs.Held.{stations_here};
 
 use crate::order::Turn;
 use crate::stations::{ControllerStation, HostStation, Stations};
+use bridge_station::{
+    away_turns_keep_on, host_turns_keep_on, somebody_holds, turns_end_where, turns_keep_on,
+    visits_keep_on,
+};
 use comm_port::TurnEnd;
 use controller_core::{Controller, calls_follow, ended_controllers_stay};
 use ring_core::{NodeStatus, Ring};
 use std::alloc::AllocError;
-use turn_laws::{
-    away_turns_keep_on, host_turns_keep_on, somebody_holds, turns_end_where, turns_keep_on,
-    visits_keep_on,
-};
 
 /// Reserves the memory of a scan, if that was not done yet.
 pub(crate) fn reserve(controller: &mut Controller) -> Result<(), AllocError>

@@ -2,3 +2,4 @@ pub mod Standing
 pub mod Brought
 pub mod Beside
 pub mod Laws
+pub mod FieldSearch

@@ -5,7 +5,7 @@ use Rattle.std.specs.Prelude.{map, filter_map, Option, Some, None}
 use Rattle.std.specs.List.{cons_option}
 use Rattle.modbus_pdu.specs.Spelling.{reply_bytes}
 use Rattle.modbus_pdu.specs.declared.reply.Reply.TheVariants as replies
-pub use Rattle.mstr_block.specs.Call.{words_told}
+pub use Rattle.ring_core.specs.MstrBlock.{words_told}
 use Rattle.ring_core.specs.Words.{is_same_call, frame_route}
 use Rattle.tied_lists.specs.Words.{CallId, MstrResult, Bad, FrameKind, Request, Reply, Frame}
 use Rattle.tied_lists.specs.Words.{LocalOp, RemoteGet, RemoteClear, RingEntry, Post, Take, Local}

@@ -4,3 +4,4 @@ pub mod Items
 pub mod Tied
 pub mod Waits
 pub mod Calls
+pub mod ReplyLaws

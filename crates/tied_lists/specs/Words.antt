@@ -1,7 +1,7 @@
 -- The words of the ring, as this crate uses them.
-pub use Rattle.mstr_block.specs.declared.call.CallId.{CallId}
-pub use Rattle.mstr_block.specs.declared.call.MstrResult.{MstrResult}
-pub use Rattle.mstr_block.specs.declared.call.MstrResult.TheVariants.{Good, Bad}
+pub use Rattle.ring_core.specs.MstrBlock.{CallId}
+pub use Rattle.ring_core.specs.MstrBlock.{MstrResult}
+pub use Rattle.ring_core.specs.MstrBlock.{Good, Bad}
 pub use Rattle.plant_types.specs.declared.net.NetPlan.{NetPlan}
 pub use Rattle.ring_core.specs.declared.frame.FrameKind.{FrameKind}
 pub use Rattle.ring_core.specs.declared.frame.FrameKind.TheVariants.{Request, Reply}

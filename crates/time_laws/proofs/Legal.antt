@@ -20,9 +20,9 @@ use Rattle.tied_lists.specs.Calls.{AreNewCalls}
 use Rattle.tied_lists.specs.Waits.{IsOnRing}
 use Rattle.tied_lists.proofs.Boxes.{CameOn, HasCome}
 use Rattle.tied_lists.proofs.Histories.{legal-follows}
-use Rattle.joint_history.specs.Reading.{called_of, items_of}
+use Rattle.comm_port.specs.JointHistory.{called_of, items_of}
 use Rattle.comm_port.specs.HoldTurn.{inbox_of}
-use Rattle.joint_history.proofs.Collected.{CallLaws, collected-new}
+use Rattle.comm_port.proofs.JointHistory.{collected-new, CallLaws}
 use Rattle.time_laws.specs.Laws.{TurnsStayInTime, VisitsStayInTime, HostTurnsStayInTime}
 use Rattle.time_laws.proofs.Turn.{IsForeign, NamesOwn, turn-in-time, visit-in-time}
 use Rattle.time_laws.proofs.HostTurn.{each-of, host-in-time}

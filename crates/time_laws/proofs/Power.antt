@@ -15,9 +15,9 @@ use Rattle.controller_core.specs.declared.entry.Entry.TheVariants as entries
 use Rattle.controller_core.specs.declared.fixed.Fixed.{Fixed}
 use Rattle.controller_core.specs.Replay.{ControllerState, apply, control_is_on, read_in, replay}
 use Rattle.controller_core.specs.Replay.{segment_solved, solved, start}
-use Rattle.joint_history.specs.Reading.{failures_at, is_off_at, is_ours, item_next, items_after}
-use Rattle.joint_history.specs.Reading.{items_of}
-use Rattle.joint_history.proofs.Fails.{failures-are}
+use Rattle.comm_port.specs.JointHistory.{failures_at, is_off_at, is_ours, item_next, items_after}
+use Rattle.comm_port.specs.JointHistory.{items_of}
+use Rattle.comm_port.proofs.JointHistory.{failures-are}
 use Rattle.tied_lists.specs.Items.{Items, no_items}
 use Rattle.one_order.specs.Merges.{tally}
 use Rattle.one_order.proofs.Merges.{Allows}

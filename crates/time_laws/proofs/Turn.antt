@@ -33,7 +33,7 @@ use Rattle.tied_lists.proofs.Growth.{grew-ours, grew-one}
 use Rattle.comm_port.specs.Leaving.{last_entry}
 use Rattle.comm_port.specs.Order.{IsSending}
 use Rattle.comm_port.specs.Parts.{InOrder, PartOf}
-use Rattle.joint_history.specs.Reading.{failures_at, has_started_at, is_off_at, is_ours}
+use Rattle.comm_port.specs.JointHistory.{failures_at, has_started_at, is_off_at, is_ours}
 use Rattle.comm_port.specs.declared.turn_end.TurnEnd.{TurnEnd}
 use Rattle.comm_port.specs.Failing.{ComesBack, GoesDown, join_entries}
 use Rattle.comm_port.specs.Replies.{reply_frame}

@@ -14,7 +14,7 @@ use Rattle.comm_port.specs.Failing.{ComesBack}
 use Rattle.comm_port.specs.HoldTurn.{VisitsEnd}
 use Rattle.comm_port.specs.WholeTurn.{HoldsTurn}
 use Rattle.comm_port.specs.HostTurns.{HoldsHostTurn}
-use Rattle.joint_history.specs.Reading.{is_ours}
+use Rattle.comm_port.specs.JointHistory.{is_ours}
 use Rattle.time_laws.specs.InTime.{StaysInTime, HostStaysInTime}
 
 -- A hold of the token keeps a controller's list in time with its node.

@@ -4,7 +4,7 @@ ghost use Rattle.time_laws.specs.Laws.{AwayTurnsStayInTime, OthersStayInTime};
 ghost use Rattle.time_laws.specs.Laws.{HostOthersStayInTime};
 ghost use Rattle.time_laws.specs.Laws.{StartsInTime, HostStartsInTime};
 
-use ladder_solver::segments_keep_calls;
+use controller_core::segments_keep_calls;
 use mstr_block::{calls_are_taken_in_order, finishes_end_one_call, stays_table};
 
 /// A hold of the token, the turn of a node that is away, and a visit of a controller whose node has

@@ -3,4 +3,5 @@
 
 mod laws;
 
+pub use entry_causes::joint_is_in_one_order;
 pub use laws::{others_stay_in_time, turns_stay_in_time};

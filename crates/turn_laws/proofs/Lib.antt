@@ -21,3 +21,4 @@ mod Read2
 pub mod Spent
 pub mod EndsWhere
 pub mod Uncollected
+pub mod CommPort

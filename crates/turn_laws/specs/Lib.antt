@@ -1,2 +1,4 @@
 pub mod KeepsOn
 pub mod Laws
+pub mod EntryCauses
+pub mod CommPort

@@ -7,7 +7,7 @@ ghost use Rattle.turn_laws.specs.Laws.{HostTurnsSpendNothing, VisitsSpendNothing
 ghost use Rattle.turn_laws.specs.Laws.{AwayTurnsKeepOn, AwayTurnsSpendNothing, AwayTurnsEndWhere};
 ghost use Rattle.turn_laws.specs.Laws.{EndedStays, SomebodyHolds, TurnsEndWhere, VisitsCollect};
 
-use ladder_solver::segments_keep_calls;
+use controller_core::segments_keep_calls;
 use mstr_block::{calls_are_taken_in_order, finishes_end_one_call, stays_table};
 use ring_core::holder_is_member;
 use time_laws::turns_stay_in_time;

@@ -9,3 +9,4 @@ pub use laws::{
     scans_keep_on, somebody_holds, starts_keep, turns_end_where, turns_keep_on, visits_collect,
     visits_keep_on,
 };
+pub use time_laws::joint_is_in_one_order;

@@ -19,7 +19,7 @@ use Rattle.joint_history.specs.declared.joint.RingLog.{RingLog}
 use Rattle.joint_history.specs.JointLaws.{fixed_of}
 use Rattle.joint_history.specs.Nets.{entries_on, noted_on}
 use Rattle.joint_history.specs.Reading.{controller_at, has_ended_at, is_ours}
-use Rattle.comm_port.specs.Order.{IsGivingUp}
+use Rattle.serial_feed.specs.CommPort.{IsGivingUp}
 use Rattle.serial_feed.specs.SerialRuns.{Hold, Visit, Away}
 use Rattle.serial_feed.specs.SerialRuns.{log_with_scan, members_on, scanned}
 use Rattle.serial_feed.specs.SerialRuns.{IsChain, IsRepetition, MakesRound, MakesRoundOfEach}

@@ -2,11 +2,7 @@ use Rattle.std.proofs.Common.{◌≡◌, ℕ, true, ap, sym, subst, ◌∙◌}
 use Rattle.plant_types.specs.declared.net.BridgePlan.{BridgePlan}
 use Rattle.plant_types.specs.declared.net.NetPlan.{NetPlan}
 use Rattle.bridge_relay.specs.Legal.{IsOpenEnd}
-use Rattle.comm_port.specs.HostStands.{own_side}
-use Rattle.comm_port.specs.Leaving.{IsHere}
-use Rattle.bridge_port.specs.EndParts.{HoldsEndTurn}
-use Rattle.bridge_port.specs.EndTurns.{EndTies}
-use Rattle.bridge_port.specs.Stands.{own_bridge}
+use Rattle.end_laws.specs.BridgePort.{own_bridge, own_side, EndTies, HoldsEndTurn, IsHere}
 use Rattle.end_laws.specs.EndKeeps.{EndKeepsOn}
 use Rattle.bridge_station.proofs.end_station.hold_end.Goals as goal
 

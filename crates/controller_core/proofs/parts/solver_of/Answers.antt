@@ -4,7 +4,7 @@ use Rattle.plant_types.specs.Checks.{sizes_of}
 use Rattle.plant_types.specs.Sizes.{cleared}
 use Rattle.plant_types.specs.declared.network.Segment.{Segment}
 use Rattle.plant_types.specs.Standing.{cells_of_segments, message_count, message_limit}
-use Rattle.grid_compile.specs.Layout.{grids_of}
+use Rattle.ladder_solver.specs.GridCompile.{grids_of}
 use Rattle.ladder_solver.specs.Conditions.{GridsAskNoMore}
 use Rattle.ladder_solver.specs.Numbers.{mstr_blocks, mstr_count}
 use Rattle.ladder_solver.specs.Program.{CanLay}

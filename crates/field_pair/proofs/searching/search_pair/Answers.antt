@@ -8,7 +8,7 @@ use Rattle.state_space.specs.declared.exploring.Answer.TheVariants.{Fails}
 use Rattle.field_machine.specs.Work.{IsWorkOf}
 use Rattle.state_space.specs.Answers.{FailsBy, IsAnswer}
 use Rattle.traffic_cop.specs.Rows.{IsRunnablePlan}
-use Rattle.field_search.specs.Covered.{IsAlone}
+use Rattle.side_runs.specs.FieldSearch.{IsAlone}
 use Rattle.side_runs.specs.Beside.{TakeOneField}
 use Rattle.side_runs.specs.Laws.{AreSearchable, with_drops}
 use Rattle.field_pair.specs.declared.pair.Pair.{Pair}

@@ -13,8 +13,8 @@ use Rattle.joint_history.specs.Noted.{IsNoted, notes_by_log}
 use Rattle.joint_history.specs.Runnable.{CanRunPlant}
 use Rattle.route_laws.specs.Effects.{EffectsAreRight}
 use Rattle.entry_causes.specs.Joint.{IsInOneOrder}
-use Rattle.end_times.specs.Joint.{AreBridgesInTime}
-use Rattle.turn_laws.specs.KeepsOn.{NoneSpent}
+use Rattle.live_workers.specs.EndTimes.{AreBridgesInTime}
+use Rattle.live_workers.specs.TurnLaws.{NoneSpent}
 use Rattle.live_run.specs.Closing.{AllClosed, net_of_gate}
 use Rattle.live_run.specs.Runs.{IsMadeOf, IsOutcome}
 use Rattle.live_run.proofs.Closed.{closed-legal}

@@ -1,5 +1,5 @@
 use Rattle.std.proofs.Common.{◌≡◌, ◌++◌, ℕ, List, Global, length, map, ap, ◌∙◌, append_assoc, Vec}
-use Rattle.field_machine.specs.declared.exchanges.Exchange.{Exchange}
+use Rattle.field_pair.specs.FieldMachine.{Exchange}
 use Rattle.never_text.specs.Texts.{fails_line}
 use Rattle.same_text.specs.Texts.{brought_lines, end_line}
 use Rattle.same_text.proofs.answer.apart_text.Goals as goal

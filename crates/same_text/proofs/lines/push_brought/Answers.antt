@@ -2,8 +2,8 @@ use Rattle.std.proofs.Common.{◌≡◌, ◌+◌, ◌++◌, ℕ, List, drop, Glo
 use Rattle.std.proofs.Common.{append_assoc}
 use Rattle.std.proofs.Common.{append-nil, string_bytes, Vec}
 use Rattle.std.specs.List.{enumerate_from, flat_map}
-use Rattle.field_machine.specs.declared.exchanges.Exchange.{Exchange}
-use Rattle.field_machine.proofs.Items.{next-in, none-left}
+use Rattle.field_pair.specs.FieldMachine.{Exchange}
+use Rattle.field_pair.proofs.FieldMachine.{next-in, none-left}
 use Rattle.never_text.specs.Texts.{exchange_line}
 use Rattle.same_text.specs.Texts.{brought_in_scan}
 use Rattle.same_text.proofs.lines.push_brought.Goals as goal

@@ -1,6 +1,6 @@
 use Rattle.std.proofs.Common.{◌≡◌, ◌+◌, ◌++◌, drop, Global, map, string_bytes, Vec}
 use Rattle.std.specs.List.{enumerate_from, flat_map}
-use Rattle.field_machine.specs.declared.exchanges.Exchange.{Exchange}
+use Rattle.field_pair.specs.FieldMachine.{Exchange}
 use Rattle.same_text.specs.Texts.{brought_in_scan, brought_lines}
 use Rattle.same_text.proofs.lines.push_brought.Given as goal
 

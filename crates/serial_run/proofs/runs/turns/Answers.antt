@@ -2,8 +2,8 @@ use Rattle.std.proofs.Common.{take, sym, subst}
 use Rattle.std.proofs.lemmas.List.{take_more}
 use Rattle.joint_history.specs.JointLaws.{IsJoint, IsLegalJoint}
 use Rattle.route_laws.specs.Effects.{EffectsAreRight}
-use Rattle.entry_causes.specs.Joint.{IsInOneOrder}
-use Rattle.end_times.specs.Joint.{AreBridgesInTime}
+use Rattle.bridge_station.specs.TurnLaws.{IsInOneOrder}
+use Rattle.bridge_station.specs.EndTimes.{AreBridgesInTime}
 use Rattle.serial_run.specs.Turns.{MakesTurns, nothing_made}
 use Rattle.serial_run.specs.Stations.{joint_of}
 use Rattle.serial_run.proofs.Laws.{one-more-turn, stand-bridges-in-time, stand-in-time}

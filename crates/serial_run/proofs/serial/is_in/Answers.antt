@@ -1,6 +1,6 @@
 use Rattle.std.proofs.Common.{◌≡◌, true, false, sym, ◌∙◌, ⊎_elim}
 use Rattle.std.proofs.lemmas.Bool.{cases_Bool}
-use Rattle.turn_laws.proofs.Holders.{there-member}
+use Rattle.bridge_station.proofs.TurnLaws.{there-member}
 use Rattle.serial_run.specs.Held.{is_in_ring}
 use Rattle.serial_run.proofs.serial.is_in.Goals as goal
 

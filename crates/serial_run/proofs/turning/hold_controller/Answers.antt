@@ -2,7 +2,7 @@ use Rattle.std.proofs.Common.{true, ◌∙◌, Bool, ap, refl, subst, sym}
 use Rattle.plant_types.specs.declared.net.NetPlan.{NetPlan}
 use Rattle.ring_core.specs.Legal.{IsLegalRing}
 use Rattle.tied_lists.specs.Waits.{status_at}
-use Rattle.turn_laws.specs.KeepsOn.{KeepsOn}
+use Rattle.bridge_station.specs.TurnLaws.{KeepsOn}
 use Rattle.serial_run.proofs.Keeping.{left-as, stands-before, stands-behind}
 use Rattle.serial_run.proofs.turning.hold_controller.Goals as goal
 

@@ -3,8 +3,8 @@ use Rattle.plant_types.specs.declared.net.HostPlan.{HostPlan}
 use Rattle.plant_types.specs.declared.net.NetPlan.{NetPlan}
 use Rattle.comm_port.specs.HostTurns.{HoldsHostTurn}
 use Rattle.comm_port.specs.HostStands.{own_side}
-use Rattle.turn_laws.specs.KeepsOn.{HostKeepsOn, HostStandsTied}
-use Rattle.turn_laws.proofs.Stands.{host-stands-of}
+use Rattle.bridge_station.specs.TurnLaws.{HostKeepsOn, HostStandsTied}
+use Rattle.bridge_station.proofs.TurnLaws.{host-stands-of}
 use Rattle.serial_run.proofs.Keeping.{after-budget, after-node, left-from}
 use Rattle.serial_run.proofs.turning.hold_host.Goals as goal
 

@@ -7,7 +7,7 @@ use Rattle.tied_lists.specs.Waits.{has_left, status_at}
 use Rattle.joint_history.specs.Reading.{is_off_at}
 use Rattle.comm_port.specs.Failing.{IsAway, join_entries}
 use Rattle.comm_port.specs.Worker.{IsSameWorker}
-use Rattle.turn_laws.specs.KeepsOn.{KeepsOn}
+use Rattle.bridge_station.specs.TurnLaws.{KeepsOn}
 use Rattle.serial_run.specs.Turns.{coming_back}
 use Rattle.serial_run.specs.Held.{is_away, is_away_status}
 use Rattle.serial_run.proofs.Keeping.{is-away, off-away, stands-before, stands-behind}

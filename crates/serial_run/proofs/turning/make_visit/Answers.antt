@@ -4,8 +4,8 @@ use Rattle.controller_core.specs.Controller.{has_ended, has_started, is_off}
 use Rattle.joint_history.specs.Reading.{has_started_at}
 use Rattle.tied_lists.specs.Waits.{HasLeft, status_at}
 use Rattle.std.specs.Prelude.{◌&&◌}
-use Rattle.turn_laws.specs.KeepsOn.{KeepsOn}
-use Rattle.turn_laws.proofs.Uncollected.{alone-collects, visit-status}
+use Rattle.bridge_station.specs.TurnLaws.{KeepsOn}
+use Rattle.bridge_station.proofs.TurnLaws.{alone-collects, visit-status}
 use Rattle.serial_run.specs.declared.stations.ControllerStation.{ControllerStation}
 use Rattle.serial_run.specs.Held.{VisitedWhere, is_visit_due, status_in}
 use Rattle.serial_run.specs.Turns.{may_visit}

@@ -1,4 +1,4 @@
-use Rattle.joint_history.proofs.Collected.{CallLaws}
+use Rattle.comm_port.proofs.JointHistory.{CallLaws}
 use Rattle.time_laws.proofs.Legal.{legal-turn, legal-visit, legal-host}
 use Rattle.time_laws.proofs.Turn.{back-in-time}
 use Rattle.time_laws.proofs.laws.turns_stay_in_time.Goals as goal

@@ -1,6 +1,6 @@
 use Rattle.std.proofs.Common.{◌≡◌, drop}
 use Rattle.std.specs.List.{find}
-use Rattle.mstr_block.specs.Table.{network_paths}
+use Rattle.ring_core.specs.MstrBlock.{network_paths}
 use Rattle.bridge_relay.specs.Machine.{is_free_relay_path}
 use Rattle.bridge_relay.proofs.end.End.free_path.Given as goal
 

@@ -1,5 +1,5 @@
 use Rattle.std.proofs.Common.{false, ap}
-use Rattle.bridge_port.specs.EndTurns.{BridgeWorkerIs}
+use Rattle.end_laws.specs.BridgePort.{BridgeWorkerIs}
 use Rattle.bridge_station.proofs.Standing.{bridge-starts}
 use Rattle.bridge_station.specs.Station.{BridgeStationIs, EndStationIs}
 use Rattle.bridge_station.proofs.station.BridgeStation.new.Goals as goal

@@ -1,6 +1,6 @@
 use Rattle.std.proofs.Common.{◌≡◌, drop}
 use Rattle.std.specs.List.{find}
-use Rattle.mstr_block.specs.Table.{network_paths}
+use Rattle.ring_core.specs.MstrBlock.{network_paths}
 use Rattle.host_port.specs.Calls.{path_is_free}
 use Rattle.host_port.proofs.host.Host.free_path.Given as goal
 

@@ -1,6 +1,6 @@
 use Rattle.std.proofs.Common.{◌∙◌, ap, sym, inl, inr, arith}
 use Rattle.std.proofs.lemmas.Bool.{both_ways, cases_Bool}
-use Rattle.mstr_block.specs.declared.call.CallId.{CallId}
+use Rattle.ring_core.specs.MstrBlock.{CallId}
 use Rattle.host_port.specs.Calls.{is_unanswered, unanswered_in}
 use Rattle.host_port.specs.Host.{HostIs}
 use Rattle.host_port.proofs.Reading.{out_nowhere, out_where, path_read}

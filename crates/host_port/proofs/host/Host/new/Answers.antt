@@ -2,7 +2,7 @@ use Rattle.std.proofs.Common.{sym, subst, map, [], List}
 use Rattle.host_port.specs.declared.entry.HostEntry.{HostEntry}
 use Rattle.host_port.specs.Kept.{IsHost, path_in}
 use Rattle.plant_types.specs.declared.net.HostPlan.{HostPlan}
-use Rattle.mstr_block.specs.Table.{network_paths}
+use Rattle.ring_core.specs.MstrBlock.{network_paths}
 use Rattle.host_port.proofs.Keeping.{kept_new}
 use Rattle.host_port.proofs.host.Host.new.Goals as goal
 

@@ -1,0 +1,3 @@
+-- Words of end_times, for those that stand on this crate. All of it is this project's own.
+pub use Rattle.end_times.specs.Joint.{AreBridgesInTime, IsBridgeInTime}
+pub use Rattle.end_times.specs.EndTimes.{EndInTime, IsEndInTime}

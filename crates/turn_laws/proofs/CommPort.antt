@@ -1,0 +1,3 @@
+-- Lemmas of comm_port, for those that stand on this crate.
+pub use Rattle.comm_port.proofs.Parts.{each-added, grew-none}
+pub use Rattle.comm_port.proofs.Leaves.{quiet-due}
