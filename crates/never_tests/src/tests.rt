@@ -120,6 +120,20 @@ fn pumps_that_keep_each_other_off_never_run_together(rt: HostRuntime) -> Result<
     )
 }
 
+// No pump and no button can matter to a stop, which leaves the ten times of the clock.
+#[test]
+fn pumps_do_not_matter_to_a_stop(rt: HostRuntime) -> Result<(), Fail> {
+    show(
+        &rt,
+        &Case {
+            plant: INTERLOCKED,
+            asked: Asked::Stopped,
+            depth: None,
+            told: "holds 10\n",
+        },
+    )
+}
+
 // With the button on at the first exchange and off at the second no network is left.
 #[test]
 fn the_watchdog_stops_it(rt: HostRuntime) -> Result<(), Fail> {
