@@ -251,7 +251,7 @@ abbrev pub no_reference : Due
 no_reference = refused_with (codes "20 NoReference") (codes "never")
 
 -- What is due where it is never so in the field of a controller: to how many states runs come, no
--- two of them alike.
+-- two of them alike on the cone of what is asked.
 pub record IsNever (fixed : Fixed) (asked : Asked) (depth : Option ℕ) (what : Due) : Type 0 where
   pub states : ℕ
   pub never : IsNeverSo fixed asked depth states
