@@ -4,25 +4,9 @@
 ghost use Rattle.std.specs.Prelude.{◌≡◌, ◌⊎◌, IfErr};
 
 #[cfg(test)]
-mod cops;
-#[cfg(test)]
-mod flows;
-#[cfg(test)]
-mod hostile;
+mod calls;
 mod live;
-#[cfg(test)]
-mod nets;
-#[cfg(test)]
-mod nevers;
-#[cfg(test)]
-mod pairs;
-#[cfg(test)]
-mod rows;
-#[cfg(test)]
-mod sames;
 mod serial;
-#[cfg(test)]
-mod tests;
 #[cfg(test)]
 mod threads;
 mod top;

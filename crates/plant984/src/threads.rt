@@ -1,21 +1,8 @@
 // Live runs of plants in threads: their journals are judged, and their panels replayed.
-ghost use Rattle.command_words.specs.Words.{IsNumberOfScans};
-
-use crate::nets::{bridged, pumps, read2};
-use crate::tests::{Call, Outcome, call_over, ends_so};
-use crate::top::plant_top;
-use command_answers::Status;
-use controller_core::Entry;
+use crate::calls::{AMPLE, READ2, ended};
 use crossbeam_utils::Backoff;
-use host_port::{HostEntry, HostResult};
-use joint_history::Joint;
-use joint_law::{Verdict, judge};
-use journal_text::read_journal;
 use live_run::{Meet, NoMeet};
-use mstr_block::MstrResult;
-use plant_loader::{Version, load};
 use std::alloc::{AllocError, Global};
-use std::str;
 use std::sync::Wait;
 use std::sync::atomic::{AtomicU64, Ordering};
 use std::test::Fail;
@@ -86,151 +73,136 @@ impl Meet for Meeting {
     }
 }
 
-// How the top call ends over this plant, and what it writes.
-fn run_live<M: Meet + Sync, R: Threads + Wait + Clock + Sync>(
+// How a call over these pieces of an input ends.
+fn ended_over<M: Meet + Sync, R: Threads + Wait + Clock + Sync>(
     rt: &R,
     alloc: Global,
     line: &str,
-    plant: &str,
+    pieces: &[&str],
     meet: &M,
-) -> Result<Outcome, AllocError> {
-    let Call {
-        words,
-        mut source,
-        mut sink,
-    } = call_over(alloc, line, plant.as_bytes())?;
-    let status = plant_top(rt, alloc, &words, &mut source, &mut sink, meet);
-    Ok(Outcome { status, sink })
-}
-
-// The journal of a live run of a plant, and the panel behind it.
-fn live_texts<M: Meet + Sync, R: Threads + Wait + Clock + Sync>(
-    rt: &R,
-    alloc: Global,
-    line: &str,
-    plant: &str,
-    meet: &M,
-) -> Result<(String, String), Fail> {
-    let outcome = run_live(rt, alloc, line, plant, meet)?;
-    if outcome.status != Status::Ok {
-        return Err("the status".into());
+) -> Result<String, AllocError> {
+    let mut input = Vec::new(alloc);
+    for piece in pieces {
+        input.extend_from_slice(piece.as_bytes())?;
     }
-    parted(alloc, outcome.written())
+    ended(rt, alloc, line, input, &AMPLE, meet)
 }
 
-// The journal and the panel of a text.
-fn parted(alloc: Global, text: &[u8]) -> Result<(String, String), Fail> {
-    let text = str::from_utf8(text).map_err(|_| "the text")?;
+// The journal of a live run of a plant, if it is that of a whole run and its replay is the panel
+// behind it; else what is wrong.
+fn journal_of<M: Meet + Sync, R: Threads + Wait + Clock + Sync>(
+    rt: &R,
+    alloc: Global,
+    scans: u32,
+    plant: &str,
+    meet: &M,
+) -> Result<String, Fail> {
+    let live = format!(in alloc; "live {scans}")?;
+    let told = ended_over(rt, alloc, live.as_str(), &[plant], meet)?;
+    let text = told.as_str().strip_prefix("Ok\n").ok_or("the status")?;
     let (lines, panel) = text.split_once("%END\n").ok_or("the end")?;
-    let journal = format!(in alloc; "{lines}%END\n")?;
-    Ok((journal, String::from_str(alloc, panel)?))
-}
-
-// The joint history of a journal, if it reads and is that of a whole run of the plant.
-fn judged_legal(alloc: Global, plant: &str, scans: u32, journal: &str) -> Result<Joint, Fail>
-    requires { IsNumberOfScans scans }
-{
-    let plant = load(alloc, Version::Two, plant.as_bytes()).map_err(|_| "the plant")?;
-    let joint = read_journal(alloc, journal.as_bytes()).map_err(|_| "the journal")?;
-    match judge(alloc, &plant, &joint, scans)? {
-        Verdict::Legal => Ok(joint),
-        Verdict::Illegal(spot) => Err(spot.into()),
+    let journal = [plant, lines, "%END\n"];
+    let check = format!(in alloc; "check {scans}")?;
+    let judged = ended_over(rt, alloc, check.as_str(), &journal, &NoMeet)?;
+    if judged.as_str() != "Ok\nlegal\n" {
+        return Err("a legal journal")?;
     }
-}
-
-// Whether an answer is a reply; none where the entry is no answer.
-fn is_reply(entry: &HostEntry) -> Option<bool> {
-    match entry {
-        HostEntry::Answer { result, .. } => Some(matches!(result, HostResult::Reply(_))),
-        _ => None,
+    let replay = format!(in alloc; "replay {scans}")?;
+    let shown = ended_over(rt, alloc, replay.as_str(), &journal, &NoMeet)?;
+    if shown.as_str().strip_prefix("Ok\n") != Some(panel) {
+        return Err("the panel of the replay")?;
     }
+    Ok(String::from_str(alloc, lines)?)
 }
 
-// Whether each answer of the hosts is a reply, and there is one.
-fn has_reply(joint: &Joint) -> bool {
-    let mut replied = false;
-    for log in joint.hosts.as_slice() {
-        for entry in log.entries.as_slice() {
-            match is_reply(entry) {
-                Some(true) => replied = true,
-                Some(false) => return false,
-                None => {}
-            }
-        }
-    }
-    replied
-}
-
-fn is_good(entry: &Entry) -> bool {
-    matches!(
-        entry,
-        Entry::Finish {
-            result: MstrResult::Good(_),
-            ..
-        }
-    )
-}
-
-// Whether a message of this controller came to its words.
-fn has_good(joint: &Joint, node: u8) -> bool {
-    for log in joint.controllers.as_slice() {
-        for entry in log.entries.as_slice() {
-            if log.node == node && is_good(entry) {
-                return true;
-            }
-        }
-    }
-    false
-}
-
-// Whether the journal of a live run is that of a whole run in which the host was answered, and the
-// message of node 2 came to its words.
-fn all_came(alloc: Global, plant: &str, journal: &str) -> Result<bool, Fail> {
-    let joint = judged_legal(alloc, plant, 2, journal)?;
-    Ok(has_reply(&joint) && has_good(&joint, 2))
-}
-
+// The host asks node 5 while it solves. Its answer is a reply, and the message of node 2 comes to its
+// words.
 #[test]
 fn a_scan_and_a_host_meet(rt: HostRuntime) -> Result<(), Fail> {
     let alloc = rt.alloc();
     let host = "[[host]]\nnode = 1\nrequests = [\"1 5 0300000001\"]\n";
-    let plant = format!(in alloc; "{}{host}", read2())?;
+    let plant = format!(in alloc; "{READ2}{host}")?;
     let meeting = Meeting::new();
-    let (journal, _) = live_texts(&rt, alloc, "live 2", plant.as_str(), &meeting)?;
+    let journal = journal_of(&rt, alloc, 2, plant.as_str(), &meeting)?;
     assert!(rt; meeting.is_in_time(), "the turns ran out");
     assert!(rt; meeting.has_met(), "one of the two did not come");
+    let is_answered = journal.contains("\nA 1.1.1 R ") && !journal.contains("\nA 1.1.1 B ");
     assert!(rt;
-        all_came(alloc, plant.as_str(), journal.as_str())?,
+        is_answered && journal.contains("\nF 2.1.1 G "),
         "{journal}"
     );
     Ok(())
 }
 
-// Whether the journal of a live run of a plant is legal, and its replay is this panel.
-fn replays(alloc: Global, plant: &str, journal: &str, panel: &str) -> Result<bool, Fail> {
-    judged_legal(alloc, plant, 6, journal)?;
-    let input = format!(in alloc; "{plant}{journal}")?;
-    Ok(ends_so(alloc, "replay 6", input.as_bytes(), Status::Ok, panel)?)
-}
+// A plant of two networks: node 2 reads two registers of node 5 over a bridge.
+const BRIDGED: &str = r#"version = 2
+bridges = ["1 9 2 12"]
+[net]
+rounds = 8
+[[network]]
+number = 1
+[[network]]
+number = 2
+[[controller]]
+node = 2
+network = 1
+coils = 16
+registers = 20
+panel = ["40002","40011","40012","00001","00002","00003"]
+orders = ["1 - - -"]
+[[controller.segment]]
+networks = ["1,1 ADD 2 0 40001; 4,1 ADD 2 0 40003","1,1 ADD 1 0 40004; 4,1 ADD 9 0 40005",
+"1,1 ADD 5 0 40006","1,1 H; 1,2 MSTR 40001 40011 10; 1,3 CO 00001; 2,3 CO 00002; 3,3 CO 00003"]
+[[controller]]
+node = 5
+network = 2
+registers = 4
+orders = ["1 - - -"]
+[[controller.segment]]
+networks = ["1,1 ADD 41 1 40001; 4,1 ADD 43 0 40002"]
+"#;
+
+// A plant of two pumps' controllers that read each other's registers, and a host that reads them.
+const PUMPS: &str = r#"version = 1
+scan_time = 50
+[net]
+rotations = 2
+[[controller]]
+node = 2
+coils = 16
+inputs = 16
+input_registers = 1
+registers = 40
+panel = ["00001","30001","40001","00002"]
+orders = ["1 - 1 1"]
+[[controller.drop]]
+number = 1
+modules = ["in 10001", "inw 30001 1", "out 00001"]
+script = ["8000 0064", "0000 0065", "0000 0066", "4000 0067"]
+[[controller.segment]]
+networks = [
+"1,1 NO 10001; 2,1 NO 00001; 1,1 V; 1,2 NC 10002; 1,3 CO 00001",
+"1,1 NO 00001; 2,1 NO 00001; 1,2 T1.0 9 40001",
+"1,1 ADD 5 0 40011; 4,1 ADD 1 0 40013",
+"1,1 BLKM 30001 40021 1",
+"1,1 H; 1,2 MSTR 40011 40021 1; 3,3 CO 00002"]
+[[controller]]
+node = 5
+registers = 40
+panel = ["40012","40014","40021"]
+orders = ["1 - - -"]
+[[controller.segment]]
+networks = ["1,1 ADD 6 0 40011; 4,1 ADD 1 0 40013", "1,1 ADD 2 0 40015",
+"1,1 H; 1,2 MSTR 40011 40021 1"]
+[[host]]
+node = 10
+requests = ["1 2 0300000001", "2 2 0800150003"]
+"#;
 
 #[test]
-fn pumps_run_live(rt: HostRuntime) -> Result<(), Fail> {
-    let alloc = rt.alloc();
-    let (journal, panel) = live_texts(&rt, alloc, "live 6", pumps(), &NoMeet)?;
-    assert!(rt;
-        replays(alloc, pumps(), journal.as_str(), panel.as_str())?,
-        "{journal}"
-    );
-    Ok(())
-}
-
-#[test]
-fn two_networks_run_live(rt: HostRuntime) -> Result<(), Fail> {
-    let alloc = rt.alloc();
-    let (journal, panel) = live_texts(&rt, alloc, "live 6", bridged(), &NoMeet)?;
-    assert!(rt;
-        replays(alloc, bridged(), journal.as_str(), panel.as_str())?,
-        "{journal}"
-    );
+fn plants_run_live(rt: HostRuntime) -> Result<(), Fail> {
+    for plant in [PUMPS, BRIDGED] {
+        journal_of(&rt, rt.alloc(), 6, plant, &NoMeet)?;
+    }
     Ok(())
 }
