@@ -129,13 +129,13 @@ pub(crate) fn has_run(ram: &MapRam, at: Ref, count: u16) -> bool
     true
 }
 
-fn set(rt: &impl Abort, ram: &mut MapRam, number: u16, value: u16) {
+pub(crate) fn set(rt: &impl Abort, ram: &mut MapRam, number: u16, value: u16) {
     let at = register(number);
     assert!(rt; ram.has(at));
     ram.set_word(at, value);
 }
 
-fn get(rt: &impl Abort, ram: &MapRam, number: u16) -> u16 {
+pub(crate) fn get(rt: &impl Abort, ram: &MapRam, number: u16) -> u16 {
     let at = register(number);
     assert!(rt; ram.has(at));
     ram.word(at)

@@ -6,8 +6,9 @@ ghost use Rattle.plant_types.specs.Slots.{control_block};
 ghost use Rattle.plant_types.specs.Store.{HasRegisters};
 ghost use Rattle.mstr_block.specs.Running.{IsCall, IsTable};
 ghost use Rattle.mstr_block.specs.Solve.{SolvesBlock, block_solved};
-ghost use Rattle.mstr_block.specs.Table.{IsBlock, idle_table, started_calls, has_untaken};
-ghost use Rattle.mstr_block.specs.Table.{first_taken, is_taken_out, finished, power_failed};
+ghost use Rattle.mstr_block.specs.Table.{IsBlock, idle_table, resting_table, started_calls};
+ghost use Rattle.mstr_block.specs.Table.{has_untaken, first_taken, is_taken_out, finished};
+ghost use Rattle.mstr_block.specs.Table.{power_failed};
 
 use crate::blocks::Blocks;
 use crate::call::{CallId, MstrCall, MstrResult};
@@ -40,19 +41,20 @@ impl MstrBank {
     pub fn new(alloc: Global, node: u8, blocks: u16, routed: bool) -> Result<MstrBank, AllocError>
         ensures { IfOk result (λ bank. bank ≡ idle_table node routed blocks) }
     {
-        let blocks = Blocks::new(alloc, node, routed, blocks, [0; PATH_PLACES])?;
-        Ok(MstrBank { blocks })
+        MstrBank::with_numbers(alloc, node, blocks, routed, [0; PATH_PLACES])
     }
 
-    /// As many idle blocks whose paths have given these numbers.
-    #[cfg(test)]
-    pub(crate) fn with_numbers(
+    /// Such blocks, whose paths go on from the last numbers that they gave, with path 0 first.
+    pub fn with_numbers(
         alloc: Global,
         node: u8,
         blocks: u16,
+        routed: bool,
         numbers: [u32; PATH_PLACES],
-    ) -> Result<MstrBank, AllocError> {
-        let blocks = Blocks::new(alloc, node, false, blocks, numbers)?;
+    ) -> Result<MstrBank, AllocError>
+        ensures { IfOk result (λ bank. bank ≡ resting_table node routed blocks numbers) }
+    {
+        let blocks = Blocks::new(alloc, node, routed, blocks, numbers)?;
         Ok(MstrBank { blocks })
     }
 

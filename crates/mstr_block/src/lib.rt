@@ -18,6 +18,3 @@ pub use laws::{
     calls_are_taken_in_order, finishes_end_one_call, power_failures_keep_calls,
     solves_give_new_numbers, solves_keep_calls, stays_table,
 };
-
-#[cfg(test)]
-mod tests;

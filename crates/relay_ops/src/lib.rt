@@ -9,9 +9,6 @@ ghost use Rattle.relay_ops.specs.Relay.{passes_power};
 
 use plant_types::{Ref, RefStore, discretes_are_on};
 
-#[cfg(test)]
-mod tests;
-
 /// The contacts (*Modicon Ladder Logic Block Library User Guide*).
 #[derive(Clone, Copy, Debug, PartialEq, Eq)]
 pub enum ContactKind {

@@ -1,4 +1,4 @@
-use crate::{CallId, MstrAsk, MstrCall, MstrResult};
+use mstr_block::{CallId, MstrAsk, MstrCall, MstrResult};
 use plant_types::{Block, Copied};
 use std::alloc::AllocError;
 

@@ -1,10 +1,7 @@
 //! A bank with its registers, as a controller has them.
-ghost use Rattle.std.specs.Prelude.{◌≡◌};
-ghost use Rattle.std.specs.Bool.{OnTrue};
-ghost use Rattle.plant_types.specs.Store.{HasRegisters};
-
-use crate::{CallId, MstrBank, MstrResult};
-use plant_types::{Block, MapRam, Ref, RefKind, RefStore, ref_after};
+use crate::rows::{get, has_run, register, set};
+use mstr_block::{CallId, MstrBank, MstrResult};
+use plant_types::{Block, MapRam};
 use std::alloc::{AllocError, Global};
 use std::process::Abort;
 
@@ -55,30 +52,6 @@ pub(crate) struct Rig {
     pub ram: MapRam,
 }
 
-fn register(number: u16) -> Ref
-    ensures { result ≡ record { kind = RefKind.Register; number = number } }
-{
-    Ref {
-        kind: RefKind::Register,
-        number,
-    }
-}
-
-/// Whether so many registers stand from one on.
-fn has_run(ram: &MapRam, at: Ref, count: u16) -> bool
-    ensures { OnTrue result (HasRegisters ram.now at count) }
-{
-    if at.kind != RefKind::Register || at.number > 9985 || count > 9985 - at.number {
-        return false;
-    }
-    for i in 0..count {
-        if !ram.has(ref_after(at, i)) {
-            return false;
-        }
-    }
-    true
-}
-
 pub(crate) fn call_id(path: u8, seq: u32) -> CallId {
     CallId {
         node: OWN,
@@ -100,28 +73,20 @@ impl Rig {
     pub fn late(alloc: Global) -> Result<Rig, AllocError> {
         let numbers = [u32::MAX, u32::MAX - 1, 0, 0, 0];
         Ok(Rig {
-            bank: MstrBank::with_numbers(alloc, OWN, 3, numbers)?,
+            bank: MstrBank::with_numbers(alloc, OWN, 3, false, numbers)?,
             ram: MapRam::new(alloc, 0, 0, 0, 60)?,
         })
     }
 
-    pub fn set(&mut self, rt: &impl Abort, number: u16, value: u16) {
-        let at = register(number);
-        assert!(rt; self.ram.has(at));
-        self.ram.set_word(at, value);
-    }
-
     pub fn get(&self, rt: &impl Abort, number: u16) -> u16 {
-        let at = register(number);
-        assert!(rt; self.ram.has(at));
-        self.ram.word(at)
+        get(rt, &self.ram, number)
     }
 
     /// Sets registers from one on.
     pub fn fill(&mut self, rt: &impl Abort, number: u16, words: &[u16]) {
         for (i, word) in words.iter().enumerate() {
             assert!(rt; i < 60 && number < 60);
-            self.set(rt, number + i as u16, *word);
+            set(rt, &mut self.ram, number + i as u16, *word);
         }
     }
 

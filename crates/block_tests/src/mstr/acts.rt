@@ -1,6 +1,6 @@
 //! What is done with blocks, one after another, and what is found.
 use super::rig::{Rig, Stand, call_id};
-use crate::{CallId, MstrAsk, MstrCall, MstrResult};
+use mstr_block::{CallId, MstrAsk, MstrCall, MstrResult};
 use std::alloc::{AllocError, AllocGlobal};
 use std::process::Abort;
 
@@ -106,21 +106,27 @@ fn goes(rt: &impl Abort, rig: &mut Rig, act: &Act) -> bool {
     }
 }
 
+/// What is done with so many blocks of a station, whose routes may lead over bridges or not.
+pub(crate) struct Script {
+    pub name: &'static str,
+    pub blocks: u16,
+    pub routed: bool,
+    pub acts: &'static [Act],
+}
+
 /// Each act goes as it says.
-pub(crate) fn play(rt: &impl Abort, rig: &mut Rig, acts: &[Act]) {
+pub(crate) fn play(rt: &impl Abort, rig: &mut Rig, name: &str, acts: &[Act]) {
     for (i, act) in acts.iter().enumerate() {
         let went = goes(rt, rig, act);
-        assert!(rt; went, "act {i}");
+        assert!(rt; went, "{name}: act {i}");
     }
 }
 
-/// So many blocks play these acts.
-pub(crate) fn show(
-    rt: &(impl Abort + AllocGlobal),
-    blocks: u16,
-    acts: &[Act],
-) -> Result<(), AllocError> {
-    let mut rig = Rig::new(rt.alloc(), blocks, false)?;
-    play(rt, &mut rig, acts);
+/// Each script goes as it says.
+pub(crate) fn show(rt: &(impl Abort + AllocGlobal), scripts: &[Script]) -> Result<(), AllocError> {
+    for script in scripts {
+        let mut rig = Rig::new(rt.alloc(), script.blocks, script.routed)?;
+        play(rt, &mut rig, script.name, script.acts);
+    }
     Ok(())
 }
