@@ -5,6 +5,3 @@ mod book;
 mod words;
 
 pub use book::GlobalBook;
-
-#[cfg(test)]
-mod tests;

@@ -6,9 +6,13 @@ mod bridges;
 #[cfg(test)]
 mod coming_back;
 #[cfg(test)]
+mod counters;
+#[cfg(test)]
 mod fates;
 #[cfg(test)]
 mod give_ups;
+#[cfg(test)]
+mod global_words;
 #[cfg(test)]
 mod inboxes;
 #[cfg(test)]

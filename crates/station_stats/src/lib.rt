@@ -8,6 +8,3 @@ mod laws;
 pub use counters::Stats;
 pub use event::StatEvent;
 pub use laws::counts_are_from_scratch;
-
-#[cfg(test)]
-mod tests;

@@ -1,4 +1,5 @@
-use crate::{StatEvent, Stats};
+//! The counters of a station.
+use station_stats::{StatEvent, Stats};
 
 const EVENTS: [StatEvent; 15] = [
     StatEvent::Pass,
@@ -18,13 +19,18 @@ const EVENTS: [StatEvent; 15] = [
     StatEvent::OtherLocal,
 ];
 
+/// Notes an event so often.
+fn note(stats: &mut Stats, event: StatEvent, times: usize) {
+    for _ in 0..times {
+        stats.note(event);
+    }
+}
+
 #[test]
 fn each_event_has_its_word(rt: HostRuntime) {
     let mut stats = Stats::new(5);
     for (k, event) in EVENTS.iter().enumerate() {
-        for _ in 0..k + 1 {
-            stats.note(*event);
-        }
+        note(&mut stats, *event, k + 1);
     }
     let words = stats.words(3, 2);
     assert!(rt;
@@ -40,9 +46,7 @@ fn each_event_has_its_word(rt: HostRuntime) {
 #[test]
 fn a_counter_goes_round(rt: HostRuntime) {
     let mut stats = Stats::new(64);
-    for _ in 0..65_535 {
-        stats.note(StatEvent::Pass);
-    }
+    note(&mut stats, StatEvent::Pass, 65_535);
     assert!(rt; stats.words(1, 0)[2] == 65_535);
     stats.note(StatEvent::Pass);
     assert!(rt; stats.words(1, 0)[2] == 0);

@@ -1,7 +1,8 @@
+//! The global words of the members of a ring.
 ghost use Rattle.std.specs.Prelude.{◌≡◌};
 ghost use Rattle.std.specs.FinMap.{contains_key};
 
-use crate::GlobalBook;
+use global_data::GlobalBook;
 use std::alloc::AllocError;
 
 /// Whether a node is a member.
