@@ -81,6 +81,39 @@ networks = ["1,1 NO 10001; 1,2 CO 00001", "1,1 NO 10017; 1,2 CO 00002"]
 networks = ["1,1 NO 10001; 1,2 CO 00003"]
 "#;
 
+/// Controller 2 gives four words: 10, 20, 30 and 40.
+const GIVING_WORDS: &str = r#"version = 1
+[[controller]]
+node = 2
+coils = 64
+panel = ["00001"]
+orders = ["1 - - 1"]
+[[controller.drop]]
+number = 1
+modules = ["out 00001", "out 00017", "out 00033", "out 00049"]
+[[controller.segment]]
+networks = [
+"1,1 H; 1,2 CO 00013; 2,1 H; 2,2 CO 00015; 3,1 H; 3,2 CO 00028; 4,1 H; 4,2 CO 00030",
+"1,1 H; 1,2 CO 00044; 2,1 H; 2,2 CO 00045; 3,1 H; 3,2 CO 00046; 4,1 H; 4,2 CO 00047",
+"1,1 H; 1,2 CO 00059; 2,1 H; 2,2 CO 00061",
+]
+"#;
+
+/// Controller 5 takes four words, and its own are 1, 2, 3 and 4.
+const TAKING_WORDS: &str = r#"[[controller]]
+node = 5
+coils = 16
+inputs = 64
+panel = ["00001"]
+orders = ["1 - 1 -"]
+[[controller.drop]]
+number = 1
+modules = ["in 10001", "in 10017", "in 10033", "in 10049"]
+script = ["0001 0002 0003 0004"]
+[[controller.segment]]
+networks = ["1,1 NO 10001; 1,2 CO 00001"]
+"#;
+
 /// Controller 2 loses its power in its second scan, which is dark, and so is the third.
 const AWAY: &str = r#"version = 1
 [[controller]]
@@ -107,7 +140,7 @@ struct Case {
 
 const WIRE: &str = "5 1 1 2 1 1 1\n";
 
-const CASES: [Case; 6] = [
+const CASES: [Case; 7] = [
     Case {
         giving: GIVING,
         taking: TAKING,
@@ -144,6 +177,14 @@ const CASES: [Case; 6] = [
         wires: WIRE,
         scans: 4,
         rows: "00000000|00008000|80008000|80008000|00008000|00008000|80008000|80008000|",
+    },
+    // A range reaches its own words.
+    Case {
+        giving: GIVING_WORDS,
+        taking: TAKING_WORDS,
+        wires: "5 1 2 2 1 3 2\n",
+        scans: 2,
+        rows: "0001000000000004|0001001e00280004|",
     },
     // A node that makes no Pass sends what it sent.
     Case {

@@ -25,6 +25,3 @@ pub use running::WireReader;
 pub use sending::Sending;
 pub use sources::Source;
 pub use wired::{Exchanged, cop_run};
-
-#[cfg(test)]
-mod tests;
