@@ -2,8 +2,6 @@
 //! them.
 #![tactic(auto)]
 
-#[cfg(test)]
-mod both_ends;
 mod cells;
 mod gated_bridge;
 mod gated_ram;

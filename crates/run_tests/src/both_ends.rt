@@ -4,9 +4,9 @@ ghost use Rattle.std.specs.Thread.{IsSync};
 ghost use Rattle.bridge_relay.specs.Legal.{IsOpenEnd};
 ghost use Rattle.turn_gate.specs.Known.{HasAllBack, IsOutside, first_pass};
 
-use crate::{BridgeCell, GatedBridge};
 use bridge_port::BridgeSide;
 use bridge_relay::Bridge;
+use gated_sides::{BridgeCell, GatedBridge};
 use mstr_block::CallId;
 use plant_types::{BridgePlan, Pdu, Route};
 use std::alloc::{AllocError, Global};
