@@ -80,8 +80,9 @@ fn push_entry(
     }
 }
 
-/// Adds the lines of a host.
-pub(crate) fn push_host(
+/// Adds the lines of a host: one of each request that came to something, in the order in which they
+/// were made. The only error is that memory ran out.
+pub fn push_host(
     alloc: Global,
     text: &mut String,
     node: u8,

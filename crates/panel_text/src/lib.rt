@@ -6,7 +6,7 @@ mod hosts;
 mod lines;
 mod panel;
 mod scans;
-#[cfg(test)]
-mod tests;
 
-pub use panel::{panel_from_notes, panel_text};
+pub use hosts::push_host;
+pub use panel::{panel_from_notes, panel_text, panels_of};
+pub use scans::push_scans;

@@ -16,11 +16,9 @@ use panel_line::{Reading, readings_of};
 use plant_types::{ControllerPlan, Plant};
 use std::alloc::{AllocError, Global};
 
-/// The references of each controller's panel.
-pub(crate) fn panels_of(
-    alloc: Global,
-    plans: &[ControllerPlan],
-) -> Result<Vec<Vec<Reading>>, AllocError>
+/// The references of each controller's panel, as they are written. The only error is that memory ran
+/// out.
+pub fn panels_of(alloc: Global, plans: &[ControllerPlan]) -> Result<Vec<Vec<Reading>>, AllocError>
     ensures { IfOk result (λ panels.
         map (λ panel. panel.items) panels.items ≡ map (λ plan. plan.panel) plans.now) }
 {

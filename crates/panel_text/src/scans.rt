@@ -36,8 +36,9 @@ fn push_scan(
     Ok(())
 }
 
-/// Adds the lines of all scans.
-pub(crate) fn push_scans(
+/// Adds the lines of all scans: of each scan that of each controller that came so far, by what it
+/// noted. The only error is that memory ran out.
+pub fn push_scans(
     text: &mut String,
     plans: &[ControllerPlan],
     panels: &[Vec<Reading>],

@@ -17,9 +17,6 @@ use std::alloc::{AllocError, Global};
 use std::fmt;
 use std::fmt::Write;
 
-#[cfg(test)]
-mod tests;
-
 /// A word of a script, as it is written.
 #[derive(Clone, Copy)]
 struct ScriptWord(u16);

@@ -4,8 +4,6 @@
 mod coils;
 mod counts;
 mod summary;
-#[cfg(test)]
-mod tests;
 
 pub use coils::coils_on;
 pub use summary::summary_text;

@@ -321,7 +321,11 @@ pub(crate) fn push_ring(
     joint.rings.push(RingLog { network, entries })
 }
 
-fn push_controller(joint: &mut Joint, node: u8, entries: List<Entry>) -> Result<(), AllocError> {
+pub(crate) fn push_controller(
+    joint: &mut Joint,
+    node: u8,
+    entries: List<Entry>,
+) -> Result<(), AllocError> {
     joint.controllers.push(ControllerLog { node, entries })
 }
 

@@ -1,8 +1,8 @@
-// Plants by their first and last lines.
-use crate::plant_from;
+//! Plants that are made from numbers, by their first and last lines.
+use plant_gen::plant_from;
 use std::test::Fail;
 
-// A plant: its number, how many bytes it has, and with which lines it begins and ends.
+/// A plant: its number, how many bytes it has, and with which lines it begins and ends.
 struct Case {
     number: u32,
     len: usize,
@@ -10,7 +10,7 @@ struct Case {
     ends: &'static str,
 }
 
-// 2 controllers with 16 networks of contacts each, and 16 controllers with 15.
+/// 2 controllers with 16 networks of contacts each, and 16 controllers with 15.
 const CASES: [Case; 2] = [
     Case {
         number: 15,

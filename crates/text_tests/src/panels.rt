@@ -1,28 +1,20 @@
 //! The lines of a host, and those of controllers scan by scan.
-use crate::hosts::push_host;
-use crate::panel::panels_of;
-use crate::scans::push_scans;
+use crate::written::{id, pdu};
 use controller_core::Notes;
 use host_port::{Host, HostResult};
-use mstr_block::CallId;
+use panel_text::{panels_of, push_host, push_scans};
 use plant_types::{
-    ControllerPlan, Fate, HostAsk, HostPlan, List, NetPlan, Pdu, Ref, RefKind, Route, is_host_plan,
+    ControllerPlan, Fate, HostAsk, HostPlan, List, NetPlan, Ref, RefKind, Route, is_host_plan,
 };
 use std::alloc::{AllocError, Global};
 use std::process::Abort;
-
-fn pdu_of(alloc: Global, bytes: &[u8]) -> Result<Pdu, AllocError> {
-    match Pdu::of(alloc, bytes)? {
-        Some(pdu) => Ok(pdu),
-        None => Err(AllocError),
-    }
-}
+use std::test::Fail;
 
 /// Host 9 asks node 2 for a register, twice.
-fn plan_of(alloc: Global) -> Result<HostPlan, AllocError> {
+fn plan_of(alloc: Global) -> Result<HostPlan, Fail> {
     let mut requests = List::new(alloc);
     for _ in 0..2 {
-        let pdu = pdu_of(alloc, &[3, 0, 0, 0, 1])?;
+        let pdu = pdu(alloc, &[3, 0, 0, 0, 1])?;
         requests.push(HostAsk {
             hold: 1,
             route: Route::of(&[2]),
@@ -50,36 +42,33 @@ fn net_of(alloc: Global) -> NetPlan {
     }
 }
 
-fn host_of(rt: &impl Abort, alloc: Global) -> Result<Host, AllocError> {
+fn host_of(rt: &impl Abort, alloc: Global) -> Result<Host, Fail> {
     let plan = plan_of(alloc)?;
     let can = is_host_plan(&plan);
     assert!(rt; can);
-    Host::new(alloc, &plan, &net_of(alloc))
+    Ok(Host::new(alloc, &plan, &net_of(alloc))?)
 }
 
 /// Ends the call on a path.
 fn end(rt: &impl Abort, host: &mut Host, path: u8, outcome: HostResult) -> Result<(), AllocError> {
-    let id = CallId {
-        node: 9,
-        path,
-        seq: 1,
-    };
+    let id = id(9, path, 1);
     let out = host.is_out(id);
     assert!(rt; out);
     host.answer(id, outcome)
 }
 
 /// Both are asked; the second comes to its word before the first has its reply.
-fn converse(rt: &impl Abort, alloc: Global, host: &mut Host) -> Result<(), AllocError> {
-    let reply = pdu_of(alloc, &[3, 2, 0, 0x2a])?;
+fn converse(rt: &impl Abort, alloc: Global, host: &mut Host) -> Result<(), Fail> {
+    let reply = pdu(alloc, &[3, 2, 0, 0x2a])?;
     host.ask(1)?;
     host.ask(1)?;
     end(rt, host, 2, HostResult::Bad(0x6103))?;
-    end(rt, host, 1, HostResult::Reply(reply))
+    end(rt, host, 1, HostResult::Reply(reply))?;
+    Ok(())
 }
 
 #[test]
-fn requests_stand_in_the_order_in_which_they_were_made(rt: HostRuntime) -> Result<(), AllocError> {
+fn requests_stand_in_the_order_in_which_they_were_made(rt: HostRuntime) -> Result<(), Fail> {
     let alloc = rt.alloc();
     let mut host = host_of(&rt, alloc)?;
     converse(&rt, alloc, &mut host)?;
