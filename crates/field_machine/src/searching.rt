@@ -20,8 +20,8 @@ use std::alloc::{AllocError, Global};
 /// What a search of all runs of a field found. This project's own.
 #[derive(Drop)]
 pub enum Found {
-    /// It is never so; no two of so many states are alike in what can matter, and runs come to each
-    /// of them.
+    /// It is never so. No two of so many states are alike in what can matter, and for each of them a
+    /// run comes to a state that is alike it in that.
     Holds { states: usize },
     /// It is so behind as many scans as there are here, in which the field brings rows in these ways,
     /// and behind no fewer.
